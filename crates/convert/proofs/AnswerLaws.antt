@@ -1,0 +1,74 @@
+-- One law for each answer of the converters, from what was read or loaded.
+use Prim.Native.Nat.{ℕ, _≤_, _<_}
+use mathlib.Core.List.{List, [], _++_}
+use mathlib.Core.Bool.{Bool, true, false}
+use mathlib.Core.Path.{_≡_, refl, sym, ap, _∙_}
+use native.Mathlib.Omega.{arith}
+use lib.ListN.{length, take, drop, length-take}
+use lib.Dec.{leb, ltb}
+use borrow.Author.Tests.{le-leb, lt-leb, le-ltb}
+use Rattle.basis.specs.Choice.{pick}
+use Rattle.forms.specs.declared.Reading.{Reading}
+use Rattle.forms.specs.declared.Reading.the-variants.{Form, Refusal}
+use Rattle.forms.specs.declared.Loading.{Loading}
+use Rattle.forms.specs.declared.Loading.the-variants.{Terms, NoForm}
+use Rattle.forms.specs.declared.Answer.{Answer}
+use Rattle.forms.specs.declared.Answer.the-variants.{Cells, Refused, Short}
+use Rattle.forms.specs.Terms.{areTerms}
+use Rattle.forms.specs.Numbering.{met}
+use Rattle.forms.specs.Compact.{compactForm, pairForm, legalForm}
+use Rattle.forms.specs.Converting.{reading, loading, fitting, fittingForm, fittingTerms, compacting, expanding, written}
+
+-- what stands at the start of a buffer is no longer than the buffer
+pub taken-room : (n : ℕ) (buffer form : List ℕ) → take n buffer ≡ form → n ≡ length form → n ≤ length buffer
+taken-room n buffer form e l = omega (arith, simp length-take at (ap length e))
+
+-- what fits or does not fit
+module _ (need : ℕ) (form out : List ℕ) where
+  pub fitting-short : length out < need → (Short need ≡ fitting need (length out)) × (out ≡ written (Short need) form out)
+  unfolding fitting written
+  fitting-short h = (rw (lt-leb need (length out) h), refl)
+
+  pub fitting-cells : (buffer out′ : List ℕ) → need ≤ length out → take need buffer ≡ form → out′ ≡ take need buffer ++ drop need out
+      → (Cells need ≡ fitting need (length out)) × (out′ ≡ written (Cells need) form out)
+  unfolding fitting written
+  fitting-cells buffer out′ h e w = (rw (le-leb need (length out) h), w ∙ rw e)
+
+module _ (arity : ℕ → ℕ) (m : ℕ) (s : List ℕ) where
+  -- ---- compacting
+
+  form-tests : (n v k w : ℕ) (a b c : Bool) → Form n v ≡ pick a (Refusal 4) (pick b (pick c (Refusal 5) (Form k w)) (Refusal 3)) → n ≡ k
+  form-tests n v k w true b c e = let z : _≡_ {A = ℕ} 0 1 = cc in absurd (omega arith)
+  form-tests n v k w false true true e = let z : _≡_ {A = ℕ} 0 1 = cc in absurd (omega arith)
+  form-tests n v k w false true false e = cc
+  form-tests n v k w false false c e = let z : _≡_ {A = ℕ} 0 1 = cc in absurd (omega arith)
+
+  pub reading-length : (n v : ℕ) → Form n v ≡ reading arity m s → n ≡ length (compactForm arity s)
+  unfolding reading
+  reading-length n v e = form-tests n v (length (compactForm arity s)) (length (met [] s)) (ltb 256 (length s)) (areTerms arity m s) (ltb 32 (length (met [] s))) e
+
+  pub compacting-refused : (out : List ℕ) (r : ℕ) → Refusal r ≡ reading arity m s → (Refused r ≡ compacting arity m s (length out)) × (out ≡ written (Refused r) (compactForm arity s) out)
+  unfolding compacting fittingForm written
+  compacting-refused out r e = (rw (← e), refl)
+
+  pub compacting-form : (n v room : ℕ) → Form n v ≡ reading arity m s → fitting n room ≡ compacting arity m s room
+  unfolding compacting fittingForm
+  compacting-form n v room e = rw (← e)
+
+  -- ---- expanding
+
+  terms-tests : (n k : ℕ) (b : Bool) → Terms n ≡ pick b (Terms k) NoForm → n ≡ k
+  terms-tests n k true e = cc
+  terms-tests n k false e = let z : _≡_ {A = ℕ} 0 1 = cc in absurd (omega arith)
+
+  pub loading-length : (n : ℕ) → Terms n ≡ loading arity m s → n ≡ length (pairForm arity s)
+  unfolding loading
+  loading-length n e = terms-tests n (length (pairForm arity s)) (legalForm arity m s) e
+
+  pub expanding-refused : (out : List ℕ) → NoForm ≡ loading arity m s → (Refused 13 ≡ expanding arity m s (length out)) × (out ≡ written (Refused 13) (pairForm arity s) out)
+  unfolding expanding fittingTerms written
+  expanding-refused out e = (rw (← e), refl)
+
+  pub expanding-terms : (n room : ℕ) → Terms n ≡ loading arity m s → fitting n room ≡ expanding arity m s room
+  unfolding expanding fittingTerms
+  expanding-terms n room e = rw (← e)

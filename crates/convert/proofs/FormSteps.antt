@@ -1,0 +1,478 @@
+-- One law for each branch of the readers of compact form.
+use Prim.Native.Nat.{ℕ, suc, zero, _+_, _*_, _-_, _≤_, _<_}
+use mathlib.Core.List.{List, [], _∷_, _++_, append-assoc, append-nil}
+use mathlib.Core.Bool.{Bool, true, false}
+use mathlib.Core.Logic.{_⊎_, inl, inr}
+use mathlib.Core.Path.{_≡_, refl, sym, ap, _∙_, subst}
+use native.Mathlib.Omega.{arith}
+use native.Mathlib.Nat.{not-suc-le-zero}
+use native.Mathlib.Numerals.{add-one}
+use lib.ListN.{length, drop, getD, set, length-append, length-drop, drop-of-length-le}
+use lib.Seq.{sets, drop-cons}
+use lib.Dec.{eqb, leb}
+use borrow.Author.Tests.{leb-true, leb-false, ne-eqb, lt-leb, le-leb}
+use Rattle.basis.specs.Choice.{pick}
+use Rattle.forms.specs.declared.Shape.{Shape}
+use Rattle.forms.specs.declared.Shape.the-variants.{Symbol, Pair, Illegal}
+use Rattle.forms.specs.declared.Token.{Token}
+use Rattle.forms.specs.declared.Token.the-variants.{Sym, Begin, Last, Tail, Other}
+use Rattle.convert.specs.declared.Step.{Step}
+use Rattle.convert.specs.declared.Step.the-variants.{Done, Malformed}
+use Rattle.forms.specs.Cells.{payload, variable, nil, PAIR, BLIST, ELIST, EPAIR, shapeOf, tokenOf}
+use Rattle.forms.specs.Terms.{Term, cell, arg, pair, pairs, every, applied}
+use Rattle.forms.specs.Compact.{compact, elements, Item, term, last, tail, filled, lastOf, tailOf, inside, into, collected, whole, entered, items, front}
+use Rattle.forms.proofs.ShapeLaws.{Marks, marks}
+use Rattle.forms.proofs.ReadLaws.{WellFormed, AllWellFormed, applied-short, applied-length, applied-well-formed, pairs-joins, compact-joins}
+use Rattle.forms.proofs.CompactLaws.{items-compact, Good, collected-good, forms}
+use Rattle.forms.proofs.FormLaws.{pairs-size}
+use Rattle.convert.specs.Loading.{inOrder, after, ordered, counted, itemsAt, Span, FormsRan, Rest, NoRest, RestRan}
+use Rattle.convert.proofs.Storing.{sets-append}
+
+-- ---- variables in order
+
+pub ordered-append : (xs ys : List ℕ) (k : ℕ) → ordered k xs ≡ true → ordered k (xs ++ ys) ≡ ordered (counted k xs) ys
+unfolding ordered counted
+ordered-append [] ys k h = refl
+ordered-append (x ∷ xs) ys k h = go (inOrder k x) h (λ q. ordered-append xs ys (after k x) q)
+  where
+    go : (b : Bool) → pick b (ordered (after k x) xs) false ≡ true → (ordered (after k x) xs ≡ true → ordered (after k x) (xs ++ ys) ≡ ordered (counted (after k x) xs) ys)
+        → pick b (ordered (after k x) (xs ++ ys)) false ≡ ordered (counted (after k x) xs) ys
+    go true q f = f q
+    go false q f = let z : _≡_ {A = ℕ} 0 1 = cc in absurd (omega arith)
+
+pub counted-append : (xs ys : List ℕ) (k : ℕ) → counted k (xs ++ ys) ≡ counted (counted k xs) ys
+unfolding counted
+counted-append [] ys k = refl
+counted-append (x ∷ xs) ys k = counted-append xs ys (after k x)
+
+-- a variable in order, and a cell that is no variable
+pub ordered-variable : (k c : ℕ) → variable c ≡ true → payload c ≤ k → ordered k (c ∷ []) ≡ true
+unfolding ordered inOrder
+ordered-variable k c e h = rw (e, le-leb (payload c) k h)
+
+pub ordered-cell : (k c : ℕ) → variable c ≡ false → (ordered k (c ∷ []) ≡ true) × (after k c ≡ k)
+unfolding ordered inOrder after
+ordered-cell k c e = (rw e, rw e)
+
+pub counted-most : (xs : List ℕ) (k : ℕ) → counted k xs ≤ k + length xs
+unfolding counted after
+counted-most [] k = omega arith
+counted-most (x ∷ xs) k = omega (arith, counted-most xs (after k x), one (variable x) (eqb (payload x) k))
+  where
+    one : (b d : Bool) → pick b (pick d (k + 1) k) k ≤ k + 1
+    one true true = omega arith
+    one true false = omega arith
+    one false d = omega arith
+
+-- ---- terms and items
+
+applied-whole : (form : Term → List ℕ) → ((f a : Term) → form (arg f a) ≡ form f ++ form a) → (k : ℕ) (f : Term) (ts : List Term) → k ≤ length ts
+    → every form (applied k f ts) ≡ form f ++ every form ts
+unfolding applied every
+applied-whole form joins zero f ts h = refl
+applied-whole form joins (suc k) f [] h = absurd (not-suc-le-zero h)
+applied-whole form joins (suc k) f (t ∷ ts) h = rw (applied-whole form joins k (arg f t) ts (omega arith), joins, append-assoc)
+
+front-filled : (k : ℕ) (f : Term) (is : List Item) → front (filled k f is) ≡ applied k f (front is)
+unfolding front filled applied
+front-filled zero f is = refl
+front-filled (suc k) f [] = refl
+front-filled (suc k) f (term t ∷ is) = front-filled k (arg f t) is
+front-filled (suc k) f (last t ∷ is) = refl
+front-filled (suc k) f (tail t ∷ is) = refl
+
+few : (k m : ℕ) (f : Term) (ts : List Term) (b : Bool) → leb k (length ts) ≡ b → length ts < k + (m - 1) → 0 < m → length (applied k f ts) < m
+few k m f ts true q g p = omega (arith, applied-length k f ts (leb-true _ _ q))
+few k m f ts false q g p = rw (applied-short k f ts (leb-false _ _ q)) (omega arith)
+
+-- a cell that begins no term
+no-front : (q : Token) (c : ℕ) (is : List Item) → ((k : ℕ) → q ≡ Sym k → ⊥) → (q ≡ Begin → ⊥) → front (entered q c is) ≡ []
+unfolding front entered lastOf tailOf
+no-front (Sym k) c is f g = absurd (f k refl)
+no-front Begin c is f g = absurd (g refl)
+no-front Last c [] f g = refl
+no-front Last c (term t ∷ is) f g = refl
+no-front Last c (last t ∷ is) f g = refl
+no-front Last c (tail t ∷ is) f g = refl
+no-front Tail c [] f g = refl
+no-front Tail c (term t ∷ is) f g = refl
+no-front Tail c (last t ∷ is) f g = refl
+no-front Tail c (tail t ∷ is) f g = refl
+no-front Other c is f g = refl
+
+front-one : (n : ℕ) (u : Term) (is : List Item) → length (front is) < n - 1 → 0 < n → length (front (filled 0 u is)) < n
+unfolding front filled
+front-one n u is g h = omega arith
+
+-- ---- the rest of a list
+
+elements-pair : (e : List ℕ) (t u : Term) (form : List ℕ) → elements (compact t) u ≡ form → elements e (pair t u) ≡ e ++ form
+unfolding elements
+elements-pair e t u form q = ap (λ (z : List ℕ). e ++ z) q
+
+compact-pair : (t u : Term) (form : List ℕ) → elements (compact t) u ≡ form → compact (pair t u) ≡ BLIST ∷ form
+unfolding elements
+compact-pair t u form q = ap (λ (z : List ℕ). BLIST ∷ z) q
+
+none-front : (is : List Item) → length (front is) < 1 → (lastOf is ≡ []) × (tailOf is ≡ [])
+unfolding front lastOf tailOf
+none-front [] h = (refl, refl)
+none-front (term t ∷ is) h = absurd (omega arith)
+none-front (last t ∷ is) h = (refl, refl)
+none-front (tail t ∷ is) h = (refl, refl)
+
+no-rest : (b : Bool) (is : List Item) → is ≡ [] → NoRest b is
+unfolding collected into whole
+no-rest true is e = λ x. rw e
+no-rest false is e = rw e
+
+only-tail : (is : List Item) → whole (collected (tailOf is)) ≡ []
+unfolding whole collected tailOf
+only-tail [] = refl
+only-tail (term t ∷ is) = refl
+only-tail (last t ∷ is) = refl
+only-tail (tail t ∷ is) = refl
+
+inside-tail : (is : List Item) (e : Term) → ((t : Term) (js : List Item) → is ≡ term t ∷ js → inside t ≡ true) → into e (collected (tailOf is)) ≡ []
+unfolding into collected tailOf
+inside-tail [] e f = refl
+inside-tail (term t ∷ is) e f = rw (f t is refl)
+inside-tail (last t ∷ is) e f = refl
+inside-tail (tail t ∷ is) e f = refl
+
+whole-inside : (js : List Item) (cells : List ℕ) → Good cells js → (t : Term) (is : List Item) → whole js ≡ term t ∷ is → inside t ≡ true
+unfolding whole inside
+whole-inside [] cells g t is e = let z : _≡_ {A = ℕ} 0 1 = cc in absurd (omega arith)
+whole-inside (term (cell c) ∷ js) cells g t is e = absurd g
+whole-inside (term (arg f a) ∷ js) cells g t is e = absurd g
+whole-inside (term (pair x y) ∷ js) cells g t is e = let z : pair x y ≡ t = cc in rw (← z)
+whole-inside (last x ∷ js) cells g t is e = absurd g
+whole-inside (tail x ∷ js) cells g t is e = let z : _≡_ {A = ℕ} 0 1 = cc in absurd (omega arith)
+
+-- symbols and lists begin a term or nothing
+filled-first : (k : ℕ) (f : Term) (is : List Item) → length (front (filled k f is)) < 1 → filled k f is ≡ []
+unfolding filled front
+filled-first zero f is h = absurd (omega arith)
+filled-first (suc k) f [] h = refl
+filled-first (suc k) f (term t ∷ is) h = filled-first k (arg f t) is h
+filled-first (suc k) f (last t ∷ is) h = refl
+filled-first (suc k) f (tail t ∷ is) h = refl
+
+whole-first : (is : List Item) → length (front (whole is)) < 1 → whole is ≡ []
+unfolding whole front
+whole-first [] h = refl
+whole-first (term t ∷ is) h = absurd (omega arith)
+whole-first (last t ∷ is) h = refl
+whole-first (tail t ∷ is) h = refl
+
+entered-first : (q : Token) (c : ℕ) (is : List Item) → (q ≡ Last → ⊥) → (q ≡ Tail → ⊥) → length (front (entered q c is)) < 1 → entered q c is ≡ []
+unfolding entered
+entered-first (Sym k) c is f g h = filled-first k (cell c) is h
+entered-first Begin c is f g h = whole-first (collected is) h
+entered-first Last c is f g h = absurd (f refl)
+entered-first Tail c is f g h = absurd (g refl)
+entered-first Other c is f g h = refl
+
+single : (ts : List Term) → length ts ≡ 1 → (t : Term) × (ts ≡ t ∷ [])
+single [] e = absurd (omega arith)
+single (t ∷ []) e = (t, refl)
+single (t ∷ u ∷ ts) e = absurd (omega arith)
+
+-- a term whose form begins with neither [] nor BLIST ends a list behind EPAIR
+ending-term : (t : Term) (d : ℕ) (x y : List ℕ) → compact t ++ x ≡ d ∷ y → (d ≡ nil → ⊥) → (d ≡ BLIST → ⊥) → (e : List ℕ) → elements e t ≡ e ++ (EPAIR ∷ compact t)
+unfolding elements
+ending-term (cell c) d x y p f g e = let z : c ≡ d = cc in rw (ne-eqb c nil (λ q. f (sym z ∙ q)))
+ending-term (arg a b) d x y p f g e = refl
+ending-term (pair a b) d x y p f g e = let z : BLIST ≡ d = cc in absurd (g (sym z))
+
+-- an element before no rest
+none-left : (b : Bool) (t : Term) (is js : List Item) → is ≡ filled 0 t js → NoRest true js → NoRest b is
+unfolding collected into whole filled
+none-left true t is js p f = λ x. rw (p, f t)
+none-left false t is js p f = rw (p, f t)
+
+rest-both : (b : Bool) (u : Term) (form : List ℕ) → ((e : List ℕ) → elements e u ≡ e ++ form) → compact u ≡ BLIST ∷ form → Rest b u form
+rest-both true u form p q = p
+rest-both false u form p q = (p, q)
+
+-- ---- spans
+
+module _ (s : List ℕ) where
+  cells-cons : (at : ℕ) → at < length s → drop at s ≡ getD s at 0 ∷ drop (at + 1) s
+  cells-cons at h = rw (drop-cons s at 0, add-one)
+
+  -- nothing is read, and one cell written
+  span-write : (at count : ℕ) (out : List ℕ) (to p : ℕ) → Span s at [] count out to (p ∷ []) (set out to p) at (to + 1) count
+  unfolding ordered counted
+  span-write at count out to p = record { cells = refl; next-at = omega arith; end-at = omega arith; wrote = refl; numbers = refl; known = refl }
+
+  -- a mark is read, and nothing written
+  span-mark : (at count : ℕ) (out : List ℕ) (to c : ℕ) → at < length s → getD s at 0 ≡ c → variable c ≡ false → Span s at (c ∷ []) count out to [] out (at + 1) to count
+  unfolding counted
+  span-mark at count out to c h e v =
+      record { cells = rw e at (cells-cons at h); next-at = omega arith; end-at = omega arith; wrote = refl; numbers = ordered-cell count c v .0; known = sym (ordered-cell count c v .1) }
+
+  -- a symbol is read and written
+  span-symbol : (at count : ℕ) (out : List ℕ) (to : ℕ) → at < length s → ordered count (getD s at 0 ∷ []) ≡ true → Span s at (getD s at 0 ∷ []) count out to (getD s at 0 ∷ []) (set out to (getD s at 0)) (at + 1) (to + 1) (after count (getD s at 0))
+  unfolding counted
+  span-symbol at count out to h o = record { cells = cells-cons at h; next-at = omega arith; end-at = omega arith; wrote = refl; numbers = o; known = refl }
+
+  -- one span behind another
+  pub span-append : (at : ℕ) (f : List ℕ) (count : ℕ) (out : List ℕ) (to : ℕ) (p out₁ : List ℕ) (next end count₁ : ℕ) (g q out₂ : List ℕ) (next₂ end₂ count₂ : ℕ)
+      → Span s at f count out to p out₁ next end count₁ → Span s next g count₁ out₁ end q out₂ next₂ end₂ count₂ → Span s at (f ++ g) count out to (p ++ q) out₂ next₂ end₂ count₂
+  span-append at f count out to p out₁ next end count₁ g q out₂ next₂ end₂ count₂ v w =
+      record {
+        cells = v .cells ∙ rw (w .cells) (sym (append-assoc f g (drop next₂ s)));
+        next-at = simp length-append (omega (arith, v .next-at, w .next-at));
+        end-at = simp length-append (omega (arith, v .end-at, w .end-at));
+        wrote = w .wrote ∙ rw (v .wrote, v .end-at, sets-append p q out to);
+        numbers = ordered-append f g count (v .numbers) ∙ rw (v .known) at (w .numbers);
+        known = w .known ∙ rw (v .known, counted-append f g count);
+      }
+
+  -- variables out of order behind a span
+  span-unordered : (at : ℕ) (f : List ℕ) (count : ℕ) (out : List ℕ) (to : ℕ) (p out₁ : List ℕ) (next end count₁ : ℕ)
+      → Span s at f count out to p out₁ next end count₁ → ordered count₁ (drop next s) ≡ false → ordered count (drop at s) ≡ false
+  span-unordered at f count out to p out₁ next end count₁ v w = rw (v .cells, ordered-append f (drop next s) count (v .numbers)) (rw (v .known) at w)
+
+  -- a span lies within the cells
+  span-within : (at : ℕ) (f : List ℕ) (count : ℕ) (out : List ℕ) (to : ℕ) (p out₁ : List ℕ) (next end count₁ : ℕ) → Span s at f count out to p out₁ next end count₁ → at ≤ length s → next ≤ length s
+  span-within at f count out to p out₁ next end count₁ v h = omega (arith, v .next-at, simp (length-append, length-drop) at (ap length (v .cells)))
+
+-- ---- the term reader
+
+module _ (arity : ℕ → ℕ) (s : List ℕ) where
+  items-cons : (at : ℕ) → at < length s → itemsAt arity s at ≡ entered (tokenOf arity (getD s at 0)) (getD s at 0) (itemsAt arity s (at + 1))
+  unfolding items
+  items-cons at h = rw (drop-cons s at 0, add-one)
+
+  pub items-end : (at : ℕ) → length s ≤ at → itemsAt arity s at ≡ []
+  unfolding items
+  items-end at h = rw (drop-of-length-le s {i = at} h)
+
+  pub forms-none : (at n count : ℕ) (out : List ℕ) (to : ℕ) → n ≡ 0 → FormsRan arity s at n count out to out (Done at to count)
+  unfolding every ordered counted
+  forms-none at n count out to e = ([], tt, sym e, record { cells = refl; next-at = omega arith; end-at = omega arith; wrote = refl; numbers = refl; known = refl })
+
+  pub forms-end : (at n count : ℕ) (out : List ℕ) (to : ℕ) (out′ : List ℕ) → 0 < n → length s ≤ at → FormsRan arity s at n count out to out′ Malformed
+  unfolding front
+  forms-end at n count out to out′ f h = inl (rw (items-end at h) (omega arith))
+
+  -- a span of one term's form before other items
+  span-items : (at : ℕ) (u : Term) (count : ℕ) (out : List ℕ) (to : ℕ) (p out₁ : List ℕ) (next end count₁ : ℕ) → Span s at (compact u) count out to p out₁ next end count₁ → WellFormed (shapeOf arity) u 0
+      → itemsAt arity s at ≡ filled 0 u (itemsAt arity s next)
+  span-items at u count out to p out₁ next end count₁ v h = ap (items (tokenOf arity)) (v .cells) ∙ items-compact (shapeOf arity) (tokenOf arity) (marks arity) u 0 (drop next s) h
+
+  module _ (at n count : ℕ) (out : List ℕ) (to : ℕ) (out′ : List ℕ) (some : 0 < n) (h : at < length s) where
+    pub forms-illegal : (getD s at 0 ≡ BLIST → ⊥) → ((k : ℕ) → shapeOf arity (getD s at 0) ≡ Symbol k → ⊥) → FormsRan arity s at n count out to out′ Malformed
+    forms-illegal f g =
+        let m : Marks (shapeOf arity) (tokenOf arity) = marks arity in
+        inl (rw (items-cons at h, no-front (tokenOf arity (getD s at 0)) (getD s at 0) (itemsAt arity s (at + 1)) (λ k e. g k (m .shapes (getD s at 0) k e)) (λ e. f (m .begin-cell (getD s at 0) e))) (omega arith))
+
+    pub forms-unordered : variable (getD s at 0) ≡ true → count < payload (getD s at 0) → FormsRan arity s at n count out to out′ Malformed
+    unfolding ordered inOrder
+    forms-unordered e g = inr (rw (cells-cons s at h, e, lt-leb (payload (getD s at 0)) count g))
+
+    to-filled : (k : ℕ) → shapeOf arity (getD s at 0) ≡ Symbol k → itemsAt arity s at ≡ filled k (cell (getD s at 0)) (itemsAt arity s (at + 1))
+    unfolding entered
+    to-filled k e = let m : Marks (shapeOf arity) (tokenOf arity) = marks arity in rw (items-cons at h, m .symbols (getD s at 0) k e)
+
+    to-begun : getD s at 0 ≡ BLIST → itemsAt arity s at ≡ whole (collected (itemsAt arity s (at + 1)))
+    unfolding entered
+    to-begun e = let m : Marks (shapeOf arity) (tokenOf arity) = marks arity in rw (items-cons at h, e, m .begins)
+
+    -- a symbol whose number is in order, and its arguments
+    pub forms-symbol : (k due count₁ : ℕ) (r : Step) → shapeOf arity (getD s at 0) ≡ Symbol k → due ≡ k + (n - 1) → ordered count (getD s at 0 ∷ []) ≡ true → count₁ ≡ after count (getD s at 0)
+        → FormsRan arity s (at + 1) due count₁ (set out to (getD s at 0)) (to + 1) out′ r → FormsRan arity s at n count out to out′ r
+    unfolding pairs compact
+    forms-symbol k due count₁ (Done next end count′) e d o q w =
+        let c : ℕ = getD s at 0 in
+        let ts : List Term = w .0 in
+        let l : k ≤ length ts = omega (arith, w .2) in
+        let v : Span s (at + 1) (every compact ts) (after count c) (set out to c) (to + 1) (every pairs ts) out′ next end count′ = rw q at (w .3) in (
+          applied k (cell c) ts,
+          applied-well-formed (shapeOf arity) k (cell c) ts e (w .1),
+          omega (arith, w .2, applied-length k (cell c) ts l),
+          rw (applied-whole compact compact-joins k (cell c) ts l, applied-whole pairs pairs-joins k (cell c) ts l)
+              (span-append s at (c ∷ []) count out to (c ∷ []) (set out to c) (at + 1) (to + 1) (after count c) (every compact ts) (every pairs ts) out′ next end count′ (span-symbol s at count out to h o) v),
+        )
+    forms-symbol k due count₁ Malformed e d o q (inl w) =
+        let c : ℕ = getD s at 0 in
+        let w₁ : length (front (itemsAt arity s (at + 1))) < k + (n - 1) = omega arith in
+        inl (rw (to-filled k e, front-filled k (cell c) (itemsAt arity s (at + 1))) (few k n (cell c) (front (itemsAt arity s (at + 1))) (leb k (length (front (itemsAt arity s (at + 1))))) refl w₁ some))
+    forms-symbol k due count₁ Malformed e d o q (inr w) =
+        inr (span-unordered s at (getD s at 0 ∷ []) count out to (getD s at 0 ∷ []) (set out to (getD s at 0)) (at + 1) (to + 1) (after count (getD s at 0)) (span-symbol s at count out to h o) (rw q at w))
+
+    pub forms-begin-short : (out₁ : List ℕ) → getD s at 0 ≡ BLIST → RestRan arity s (at + 1) false count out to out₁ Malformed → FormsRan arity s at n count out to out′ Malformed
+    unfolding front
+    forms-begin-short out₁ e (inl w) = inl (rw (to-begun e, w) (omega arith))
+    forms-begin-short out₁ e (inr w) = inr (span-unordered s at (BLIST ∷ []) count out to [] out (at + 1) to count (span-mark s at count out to BLIST h e refl) w)
+
+    -- BLIST and the rest of the list are the list's form
+    list-span : (out₁ : List ℕ) (next end count₁ : ℕ) (u : Term) (form : List ℕ) → getD s at 0 ≡ BLIST → compact u ≡ BLIST ∷ form → Span s (at + 1) form count out to (pairs u) out₁ next end count₁
+        → Span s at (compact u) count out to (pairs u) out₁ next end count₁
+    list-span out₁ next end count₁ u form e q v =
+        rw q (span-append s at (BLIST ∷ []) count out to [] out (at + 1) to count form (pairs u) out₁ next end count₁ (span-mark s at count out to BLIST h e refl) v)
+
+    -- a list
+    pub forms-begin : (out₁ : List ℕ) (next end count₁ : ℕ) (r : Step) → getD s at 0 ≡ BLIST
+        → RestRan arity s (at + 1) false count out to out₁ (Done next end count₁)
+        → FormsRan arity s next (n - 1) count₁ out₁ end out′ r → FormsRan arity s at n count out to out′ r
+    unfolding every
+    forms-begin out₁ next end count₁ (Done next′ end′ count′) e v w = (
+      v .0 ∷ w .0,
+      (v .1, w .1),
+      omega (arith, w .2),
+      span-append s at (compact (v .0)) count out to (pairs (v .0)) out₁ next end count₁ (every compact (w .0)) (every pairs (w .0)) out′ next′ end′ count′ (list-span out₁ next end count₁ (v .0) (v .2) e (v .3 .1) (v .4)) (w .3),
+    )
+    forms-begin out₁ next end count₁ Malformed e v (inl w) =
+        let q = span-items at (v .0) count out to (pairs (v .0)) out₁ next end count₁ (list-span out₁ next end count₁ (v .0) (v .2) e (v .3 .1) (v .4)) (v .1) in
+        inl (rw q (front-one n (v .0) (itemsAt arity s next) w some))
+    forms-begin out₁ next end count₁ Malformed e v (inr w) =
+        inr (span-unordered s at (compact (v .0)) count out to (pairs (v .0)) out₁ next end count₁ (list-span out₁ next end count₁ (v .0) (v .2) e (v .3 .1) (v .4)) w)
+
+  -- ---- one term
+
+  -- one term that was read
+  pub One : ℕ → ℕ → List ℕ → ℕ → List ℕ → ℕ → ℕ → ℕ → Type 0
+  One at count out to out′ next end count′ = (t : Term) × WellFormed (shapeOf arity) t 0 × Span s at (compact t) count out to (pairs t) out′ next end count′
+
+  pub one : (at count : ℕ) (out : List ℕ) (to : ℕ) (out′ : List ℕ) (next end count′ : ℕ) → FormsRan arity s at 1 count out to out′ (Done next end count′) → One at count out to out′ next end count′
+  unfolding One
+  one at count out to out′ next end count′ v = go (v .0) (v .1) (v .3) (single (v .0) (v .2))
+    where
+      go : (ts : List Term) → AllWellFormed (shapeOf arity) ts → Span s at (every compact ts) count out to (every pairs ts) out′ next end count′ → (t : Term) × (ts ≡ t ∷ [])
+          → (t : Term) × WellFormed (shapeOf arity) t 0 × Span s at (compact t) count out to (pairs t) out′ next end count′
+      go ts a p w =
+          let a′ : AllWellFormed (shapeOf arity) (w .0 ∷ []) = subst (AllWellFormed (shapeOf arity)) (w .1) a in
+          let p′ : Span s at (compact (w .0)) count out to (pairs (w .0)) out′ next end count′ =
+          subst (λ l. Span s at l count out to (pairs (w .0)) out′ next end count′) (append-nil (compact (w .0)))
+          (subst (λ l. Span s at (compact (w .0) ++ []) count out to l out′ next end count′) (append-nil (pairs (w .0)))
+          (unfold every in subst (λ l. Span s at (every compact l) count out to (every pairs l) out′ next end count′) (w .1) p)) in
+          (w .0, a′ .0, p′)
+
+  -- ---- the list reader
+
+  pub rest-end : (at : ℕ) (b : Bool) (count : ℕ) (out : List ℕ) (to : ℕ) (out′ : List ℕ) → length s ≤ at → RestRan arity s at b count out to out′ Malformed
+  rest-end at b count out to out′ h = inl (no-rest b (itemsAt arity s at) (items-end at h))
+
+  module _ (at count : ℕ) (out : List ℕ) (to : ℕ) (h : at < length s) where
+    at-last : getD s at 0 ≡ ELIST → itemsAt arity s at ≡ lastOf (itemsAt arity s (at + 1))
+    unfolding entered
+    at-last e = let m : Marks (shapeOf arity) (tokenOf arity) = marks arity in rw (items-cons at h, e, m .lasts)
+
+    at-tail : getD s at 0 ≡ EPAIR → itemsAt arity s at ≡ tailOf (itemsAt arity s (at + 1))
+    unfolding entered
+    at-tail e = let m : Marks (shapeOf arity) (tokenOf arity) = marks arity in rw (items-cons at h, e, m .tails)
+
+    -- ELIST and no term
+    pub rest-last-short : (b : Bool) (out₁ out′ : List ℕ) → getD s at 0 ≡ ELIST → FormsRan arity s (at + 1) 1 count (set out to PAIR) (to + 1) out₁ Malformed → RestRan arity s at b count out to out′ Malformed
+    rest-last-short b out₁ out′ e (inl w) = inl (no-rest b (itemsAt arity s at) (at-last e ∙ none-front (itemsAt arity s (at + 1)) w .0))
+    rest-last-short b out₁ out′ e (inr w) = inr (span-unordered s at (ELIST ∷ []) count out to [] out (at + 1) to count (span-mark s at count out to ELIST h e refl) w)
+
+    -- EPAIR behind no element; before nothing; before []; before a list
+    pub rest-tail-first : (out′ : List ℕ) → getD s at 0 ≡ EPAIR → RestRan arity s at false count out to out′ Malformed
+    rest-tail-first out′ e = inl (rw (at-tail e) (only-tail (itemsAt arity s (at + 1))))
+
+    pub rest-tail-end : (out′ : List ℕ) → getD s at 0 ≡ EPAIR → length s ≤ at + 1 → RestRan arity s at true count out to out′ Malformed
+    unfolding tailOf
+    rest-tail-end out′ e g = inl (no-rest true (itemsAt arity s at) (at-tail e ∙ rw (items-end (at + 1) g)))
+
+    pub rest-tail-nil : (out′ : List ℕ) → getD s at 0 ≡ EPAIR → at + 1 < length s → getD s (at + 1) 0 ≡ nil → RestRan arity s at true count out to out′ Malformed
+    unfolding filled inside
+    rest-tail-nil out′ e g d =
+        let m : Marks (shapeOf arity) (tokenOf arity) = marks arity in
+        let k : shapeOf arity (getD s (at + 1) 0) ≡ Symbol 0 = rw d (m .empty) in
+        let q : itemsAt arity s (at + 1) ≡ term (cell (getD s (at + 1) 0)) ∷ itemsAt arity s (at + 1 + 1) = to-filled (at + 1) 1 count out to out (omega arith) g 0 k in
+        inl (λ x. rw (at-tail e) (inside-tail (itemsAt arity s (at + 1)) x (λ t js p. let z : t ≡ cell nil = cc in rw z)))
+
+    pub rest-tail-list : (out′ : List ℕ) → getD s at 0 ≡ EPAIR → at + 1 < length s → getD s (at + 1) 0 ≡ BLIST → RestRan arity s at true count out to out′ Malformed
+    rest-tail-list out′ e g d =
+        let q : itemsAt arity s (at + 1) ≡ whole (collected (itemsAt arity s (at + 1 + 1))) = to-begun (at + 1) 1 count out to out (omega arith) g d in
+        inl (λ x. rw (at-tail e) (inside-tail (itemsAt arity s (at + 1)) x (λ t js p. whole-inside (collected (itemsAt arity s (at + 1 + 1))) (forms (itemsAt arity s (at + 1 + 1))) (collected-good (itemsAt arity s (at + 1 + 1))) t js (sym q ∙ p))))
+
+    -- no element
+    pub rest-element-short : (b : Bool) (out₁ out′ : List ℕ) → (getD s at 0 ≡ ELIST → ⊥) → (getD s at 0 ≡ EPAIR → ⊥) → FormsRan arity s at 1 count (set out to PAIR) (to + 1) out₁ Malformed → RestRan arity s at b count out to out′ Malformed
+    rest-element-short b out₁ out′ f g (inl w) =
+        let m : Marks (shapeOf arity) (tokenOf arity) = marks arity in
+        let c : ℕ = getD s at 0 in
+        let q : itemsAt arity s at ≡ entered (tokenOf arity c) c (itemsAt arity s (at + 1)) = items-cons at h in
+        let w′ : length (front (entered (tokenOf arity c) c (itemsAt arity s (at + 1)))) < 1 = rw q at w in
+        inl (no-rest b (itemsAt arity s at) (q ∙ entered-first (tokenOf arity c) c (itemsAt arity s (at + 1)) (λ z. f (m .last-cell c z)) (λ z. g (m .tail-cell c z)) w′))
+    rest-element-short b out₁ out′ f g (inr w) = inr w
+
+    -- ELIST and the last element
+    pub rest-last : (b : Bool) (out₁ : List ℕ) (next end count₁ : ℕ) → getD s at 0 ≡ ELIST
+        → FormsRan arity s (at + 1) 1 count (set out to PAIR) (to + 1) out₁ (Done next end count₁) → RestRan arity s at b count out to (set out₁ end nil) (Done next (end + 1) count₁)
+    unfolding pairs One
+    rest-last b out₁ next end count₁ e v =
+        let w = one (at + 1) count (set out to PAIR) (to + 1) out₁ next end count₁ v in
+        let t : Term = w .0 in
+        let m : Marks (shapeOf arity) (tokenOf arity) = marks arity in
+        let x = span-append s at (ELIST ∷ []) count out to [] out (at + 1) to count [] (PAIR ∷ []) (set out to PAIR) (at + 1) (to + 1) count (span-mark s at count out to ELIST h e refl) (span-write s (at + 1) count out to PAIR) in
+        let y = span-append s at (ELIST ∷ []) count out to (PAIR ∷ []) (set out to PAIR) (at + 1) (to + 1) count (compact t) (pairs t) out₁ next end count₁ x (w .2) in
+        let z = span-append s at (ELIST ∷ compact t) count out to (PAIR ∷ pairs t) out₁ next end count₁ [] (nil ∷ []) (set out₁ end nil) next (end + 1) count₁ y (span-write s next count₁ out₁ end nil) in (
+          pair t (cell nil),
+          (refl, w .1, m .empty),
+          ELIST ∷ compact t,
+          rest-both b (pair t (cell nil)) (ELIST ∷ compact t) (λ d. unfold elements in refl) (unfold elements in refl),
+          subst (λ l. Span s at l count out to (PAIR ∷ (pairs t ++ (nil ∷ []))) (set out₁ end nil) next (end + 1) count₁) (append-nil (ELIST ∷ compact t)) z,
+        )
+
+    -- EPAIR and the term that the list ends in
+    pub rest-tail : (out′ : List ℕ) (r : Step) → getD s at 0 ≡ EPAIR → at + 1 < length s → (getD s (at + 1) 0 ≡ nil → ⊥) → (getD s (at + 1) 0 ≡ BLIST → ⊥)
+        → FormsRan arity s (at + 1) 1 count out to out′ r → RestRan arity s at true count out to out′ r
+    unfolding One
+    rest-tail out′ (Done next end count₁) e g f₁ f₂ v =
+        let w = one (at + 1) count out to out′ next end count₁ v in
+        let t : Term = w .0 in
+        let p : compact t ++ drop next s ≡ getD s (at + 1) 0 ∷ drop (at + 1 + 1) s = sym (w .2 .cells) ∙ cells-cons s (at + 1) g in (
+          t,
+          w .1,
+          EPAIR ∷ compact t,
+          ending-term t (getD s (at + 1) 0) (drop next s) (drop (at + 1 + 1) s) p f₁ f₂,
+          span-append s at (EPAIR ∷ []) count out to [] out (at + 1) to count (compact t) (pairs t) out′ next end count₁ (span-mark s at count out to EPAIR h e refl) (w .2),
+        )
+    rest-tail out′ Malformed e g f₁ f₂ (inl v) = inl (no-rest true (itemsAt arity s at) (at-tail e ∙ none-front (itemsAt arity s (at + 1)) v .1))
+    rest-tail out′ Malformed e g f₁ f₂ (inr v) = inr (span-unordered s at (EPAIR ∷ []) count out to [] out (at + 1) to count (span-mark s at count out to EPAIR h e refl) v)
+
+    element-span : (t : Term) (out₁ : List ℕ) (next end count₁ : ℕ) → Span s at (compact t) count (set out to PAIR) (to + 1) (pairs t) out₁ next end count₁ → Span s at (compact t) count out to (PAIR ∷ pairs t) out₁ next end count₁
+    element-span t out₁ next end count₁ v = span-append s at [] count out to (PAIR ∷ []) (set out to PAIR) at (to + 1) count (compact t) (pairs t) out₁ next end count₁ (span-write s at count out to PAIR) v
+
+    -- an element and the rest behind it
+    pub rest-element : (b : Bool) (out₁ : List ℕ) (next end count₁ : ℕ) (out′ : List ℕ) (r : Step)
+        → FormsRan arity s at 1 count (set out to PAIR) (to + 1) out₁ (Done next end count₁) → RestRan arity s next true count₁ out₁ end out′ r → RestRan arity s at b count out to out′ r
+    unfolding pairs One
+    rest-element b out₁ next end count₁ out′ (Done next′ end′ count′) v w =
+        let x = one at count (set out to PAIR) (to + 1) out₁ next end count₁ v in
+        let t : Term = x .0 in
+        let u : Term = w .0 in
+        let q : elements (compact t) u ≡ compact t ++ w .2 = w .3 (compact t) in (
+          pair t u,
+          (refl, x .1, w .1),
+          compact t ++ w .2,
+          rest-both b (pair t u) (compact t ++ w .2) (λ e. elements-pair e t u (compact t ++ w .2) q) (compact-pair t u (compact t ++ w .2) q),
+          span-append s at (compact t) count out to (PAIR ∷ pairs t) out₁ next end count₁ (w .2) (pairs u) out′ next′ end′ count′ (element-span t out₁ next end count₁ (x .2)) (w .4),
+        )
+    rest-element b out₁ next end count₁ out′ Malformed v (inl w) =
+        let x = one at count (set out to PAIR) (to + 1) out₁ next end count₁ v in
+        inl (none-left b (x .0) (itemsAt arity s at) (itemsAt arity s next) (span-items at (x .0) count (set out to PAIR) (to + 1) (pairs (x .0)) out₁ next end count₁ (x .2) (x .1)) w)
+    rest-element b out₁ next end count₁ out′ Malformed v (inr w) =
+        let x = one at count (set out to PAIR) (to + 1) out₁ next end count₁ v in
+        inr (span-unordered s at (compact (x .0)) count (set out to PAIR) (to + 1) (pairs (x .0)) out₁ next end count₁ (x .2) w)
+
+  -- ---- room
+
+  -- what a term leaves
+  pub forms-room : (at count : ℕ) (out : List ℕ) (to : ℕ) (out₁ : List ℕ) (next end count₁ : ℕ) → FormsRan arity s at 1 count out to out₁ (Done next end count₁) → at ≤ length s
+      → (end + 1 + 2 * at ≤ to + 2 * next) × (at < next) × (next ≤ length s) × (count₁ + at ≤ count + next)
+  unfolding One
+  forms-room at count out to out₁ next end count₁ v h =
+      let w = one at count out to out₁ next end count₁ v in
+      omega (arith, pairs-size (w .0), w .2 .next-at, w .2 .end-at, w .2 .known, counted-most (compact (w .0)) count, span-within s at (compact (w .0)) count out to (pairs (w .0)) out₁ next end count₁ (w .2) h)
+
+  -- what a list leaves
+  pub rest-room : (at count : ℕ) (out : List ℕ) (to : ℕ) (out₁ : List ℕ) (next end count₁ : ℕ) → RestRan arity s at false count out to out₁ (Done next end count₁) → at ≤ length s
+      → (end + 2 * at ≤ to + 2 * next + 1) × (at ≤ next) × (next ≤ length s) × (count₁ + at ≤ count + next)
+  rest-room at count out to out₁ next end count₁ v h =
+      omega (arith, pairs-size (v .0), ap length (v .3 .1), v .4 .next-at, v .4 .end-at, v .4 .known, counted-most (v .2) count, span-within s at (v .2) count out to (pairs (v .0)) out₁ next end count₁ (v .4) h)

@@ -1,0 +1,599 @@
+-- The proof of the cycle of calls {element, ending, list, terms}. The measure is three times the cells left, and one or two more for all but terms.
+use Prim.Native.Nat.{_≤_, _-_, _*_, _+_}
+use mathlib.Core.Bool.{true, false}
+use mathlib.Core.Path.{_≡_, refl, sym, ap, _∙_, subst}
+use native.Mathlib.Omega.{arith}
+use borrow.Author.Needs.{needs}
+use lib.ListN.{length, length-set, set, getD}
+use Rattle.forms.specs.declared.Shape.the-variants.{Symbol, Pair, Illegal}
+use Rattle.convert.specs.declared.Step.the-variants.{Done, Malformed}
+use Rattle.forms.specs.Cells.{payload, variable, constant, shapeOf, arity16, BLIST, ELIST, EPAIR, PAIR, nil}
+use Rattle.forms.proofs.ShapeLaws.{symbol-small, variable-shape, constant-shape}
+use Rattle.convert.specs.Loading.{after, ordered, FormsRan, RestRan}
+use Rattle.convert.proofs.FormSteps.{ordered-variable, ordered-cell, forms-none, forms-end, forms-illegal, forms-unordered, forms-symbol, forms-begin-short, forms-begin, rest-end, rest-last-short, rest-tail-first, rest-tail-end, rest-tail-nil, rest-tail-list, rest-element-short, rest-last, rest-tail, rest-element, forms-room, rest-room}
+use Rattle.convert.proofs.FormTurns.{FormsTurn, RestTurn, after-most}
+use Rattle.convert.proofs.PairTurns.{arity16-small}
+use mathlib.Core.List.{[], _∷_}
+use mathlib.Core.Logic.{⊎-elim}
+use denote.Enum.Declared.{tagOf}
+use types.Run.{OneOf}
+use Rattle.forms.proofs.Shape.{the-type}
+use Prim.Native.Nat.{ℕ, _<_}
+use borrow.Fn.Kinds.{In}
+use borrow.Fn.PlainCycle.{Measures, is, falls, and}
+use Rattle.convert.proofs.form_reader.element.Reads as element
+use Rattle.convert.proofs.form_reader.element.Kinds as element-kinds
+use Rattle.convert.proofs.form_reader.+element+ending+list+terms.Lts-element as element-lts
+use Rattle.convert.proofs.form_reader.ending.Reads as ending
+use Rattle.convert.proofs.form_reader.ending.Kinds as ending-kinds
+use Rattle.convert.proofs.form_reader.+element+ending+list+terms.Lts-ending as ending-lts
+use Rattle.convert.proofs.form_reader.list.Reads as list
+use Rattle.convert.proofs.form_reader.list.Kinds as list-kinds
+use Rattle.convert.proofs.form_reader.+element+ending+list+terms.Lts-list as list-lts
+use Rattle.convert.proofs.form_reader.terms.Reads as terms
+use Rattle.convert.proofs.form_reader.terms.Kinds as terms-kinds
+use Rattle.convert.proofs.form_reader.+element+ending+list+terms.Lts-terms as terms-lts
+use Rattle.convert.proofs.form_reader.met_after.Reads as met-after-reads
+use Rattle.forms.proofs.is_constant.Reads as is-constant-reads
+use Rattle.forms.proofs.is_variable.Reads as is-variable-reads
+use Rattle.forms.proofs.payload_of.Reads as payload-of-reads
+use Rattle.forms.proofs.shape_of.Reads as shape-of-reads
+use Rattle.convert.proofs.form_reader.+element+ending+list+terms.{statement}
+use Rattle.convert.proofs.form_reader.+element+ending+list+terms.Tie.{close}
+
+abbrev μ-element : Measures 2 element-kinds.ps ℕ
+μ-element κs a = 3 * (length (a .0 .now) - a .1 .0) + 1
+
+abbrev μ-ending : Measures 2 ending-kinds.ps ℕ
+μ-ending κs a = 3 * (length (a .0 .now) - a .1 .0) + 1
+
+abbrev μ-list : Measures 2 list-kinds.ps ℕ
+μ-list κs a = 3 * (length (a .0 .now) - a .1 .0) + 2
+
+abbrev μ-terms : Measures 2 terms-kinds.ps ℕ
+μ-terms κs a = 3 * (length (a .0 .now) - a .1 .0)
+
+abbrev element-at : ℕ → In 2 element-kinds.ps
+element-at t = and 2 element-kinds.ps (is 2 element-kinds.ps μ-element t) element.Pre
+
+abbrev element-below : ℕ → In 2 element-kinds.ps
+element-below t = and 2 element-kinds.ps (falls 2 element-kinds.ps _<_ μ-element t) element.Pre
+
+abbrev ending-at : ℕ → In 2 ending-kinds.ps
+ending-at t = and 2 ending-kinds.ps (is 2 ending-kinds.ps μ-ending t) ending.Pre
+
+abbrev ending-below : ℕ → In 2 ending-kinds.ps
+ending-below t = and 2 ending-kinds.ps (falls 2 ending-kinds.ps _<_ μ-ending t) ending.Pre
+
+abbrev list-at : ℕ → In 2 list-kinds.ps
+list-at t = and 2 list-kinds.ps (is 2 list-kinds.ps μ-list t) list.Pre
+
+abbrev list-below : ℕ → In 2 list-kinds.ps
+list-below t = and 2 list-kinds.ps (falls 2 list-kinds.ps _<_ μ-list t) list.Pre
+
+abbrev terms-at : ℕ → In 2 terms-kinds.ps
+terms-at t = and 2 terms-kinds.ps (is 2 terms-kinds.ps μ-terms t) terms.Pre
+
+abbrev terms-below : ℕ → In 2 terms-kinds.ps
+terms-below t = and 2 terms-kinds.ps (falls 2 terms-kinds.ps _<_ μ-terms t) terms.Pre
+
+abbrev list-Inv-loop : list-lts.InvT-loop
+list-Inv-loop s from known out₀ start at₀ some₀ count₀ to₀ out at some count to = RestTurn s from known out₀ start out at some count to
+
+abbrev list-μ-loop : list-lts.MeasureT-loop
+list-μ-loop s from known out₀ start at₀ some₀ count₀ to₀ out at some count to = length s - at
+
+abbrev terms-Inv-loop : terms-lts.InvT-loop
+terms-Inv-loop s from n known out₀ start at₀ due₀ count₀ to₀ out at due count to = FormsTurn s from n known out₀ start out at due count to
+
+abbrev terms-μ-loop : terms-lts.MeasureT-loop
+terms-μ-loop s from n known out₀ start at₀ due₀ count₀ to₀ out at due count to = length s - at
+
+-- list: the last element is read
+list-last : (t : ℕ) (x : list-lts.After-next (ending-below t, ending.Post, terms-below t, terms.Post, element-below t, element.Post) (list-at t) list.Post list-Inv-loop list-μ-loop)
+    → FormsRan arity16 (x .before .before .before .before .before .before .before .before .before .before .before .before .before .args .s .now) (x .before .before .before .before .before .before .before .before .before .before .loop .at + 1) 1 (x .before .before .before .before .before .before .before .before .before .before .loop .count) (set (x .before .before .before .before .before .before .before .before .before .before .loop .out) (x .before .before .before .before .before .before .before .before .before .before .loop .to) PAIR) (x .before .before .before .before .before .before .before .before .before .before .loop .to + 1) (x .before .before .before .before .terms .last .1 .1 .1 .1 .0) (Done (x .next .given .0 .0) (x .next .given .0 .1 .0) (x .next .given .0 .1 .1 .0))
+list-last t x = rw (x .next .given .1) at (x .before .before .before .before .terms .ensures)
+
+list-last-room : (t : ℕ) (x : list-lts.After-next (ending-below t, ending.Post, terms-below t, terms.Post, element-below t, element.Post) (list-at t) list.Post list-Inv-loop list-μ-loop)
+    → (x .next .given .0 .1 .0 + 1 + 2 * (x .before .before .before .before .before .before .before .before .before .before .loop .at + 1) ≤ x .before .before .before .before .before .before .before .before .before .before .loop .to + 1 + 2 * x .next .given .0 .0) × (x .before .before .before .before .before .before .before .before .before .before .loop .at + 1 < x .next .given .0 .0) × (x .next .given .0 .0 ≤ length (x .before .before .before .before .before .before .before .before .before .before .before .before .before .args .s .now)) × (x .next .given .0 .1 .1 .0 + (x .before .before .before .before .before .before .before .before .before .before .loop .at + 1) ≤ x .before .before .before .before .before .before .before .before .before .before .loop .count + x .next .given .0 .0)
+list-last-room t x = forms-room _ _ _ _ _ _ _ _ _ _ (list-last t x) (omega arith)
+
+-- list: an element is read
+list-got : (t : ℕ) (x : list-lts.After-next2 (ending-below t, ending.Post, terms-below t, terms.Post, element-below t, element.Post) (list-at t) list.Post list-Inv-loop list-μ-loop)
+    → FormsRan arity16 (x .before .before .before .before .before .before .before .before .before .before .before .before .before .args .s .now) (x .before .before .before .before .before .before .before .before .before .before .loop .at) 1 (x .before .before .before .before .before .before .before .before .before .before .loop .count) (set (x .before .before .before .before .before .before .before .before .before .before .loop .out) (x .before .before .before .before .before .before .before .before .before .before .loop .to) PAIR) (x .before .before .before .before .before .before .before .before .before .before .loop .to + 1) (x .before .before .before .before .element .last .1 .1 .1 .0) (Done (x .next2 .given .0 .0) (x .next2 .given .0 .1 .0) (x .next2 .given .0 .1 .1 .0))
+list-got t x = rw (x .next2 .given .1) at (x .before .before .before .before .element .ensures)
+
+list-room : (t : ℕ) (x : list-lts.After-next2 (ending-below t, ending.Post, terms-below t, terms.Post, element-below t, element.Post) (list-at t) list.Post list-Inv-loop list-μ-loop)
+    → (x .next2 .given .0 .1 .0 + 1 + 2 * x .before .before .before .before .before .before .before .before .before .before .loop .at ≤ x .before .before .before .before .before .before .before .before .before .before .loop .to + 1 + 2 * x .next2 .given .0 .0) × (x .before .before .before .before .before .before .before .before .before .before .loop .at < x .next2 .given .0 .0) × (x .next2 .given .0 .0 ≤ length (x .before .before .before .before .before .before .before .before .before .before .before .before .before .args .s .now)) × (x .next2 .given .0 .1 .1 .0 + x .before .before .before .before .before .before .before .before .before .before .loop .at ≤ x .before .before .before .before .before .before .before .before .before .before .loop .count + x .next2 .given .0 .0)
+list-room t x = forms-room _ _ _ _ _ _ _ _ _ _ (list-got t x) (omega arith)
+
+-- terms: a list is read
+terms-got : (t : ℕ) (x : terms-lts.After-next (list-below t, list.Post, is-variable-reads.Asked, is-variable-reads.Learnt, payload-of-reads.Asked, payload-of-reads.Learnt, met-after-reads.Asked, met-after-reads.Learnt, shape-of-reads.Asked, shape-of-reads.Learnt) (terms-at t) terms.Post terms-Inv-loop terms-μ-loop)
+    → RestRan arity16 (x .before .before .before .before .before .before .before .before .before .before .before .before .before .args .s .now) (x .before .before .before .before .before .before .before .before .before .before .loop .at + 1) false (x .before .before .before .before .before .before .before .before .before .before .loop .count) (x .before .before .before .before .before .before .before .before .before .before .loop .out) (x .before .before .before .before .before .before .before .before .before .before .loop .to) (x .before .before .before .before .list .last .1 .1 .1 .0) (Done (x .next .given .0 .0) (x .next .given .0 .1 .0) (x .next .given .0 .1 .1 .0))
+terms-got t x = rw (x .next .given .1) at (x .before .before .before .before .list .ensures)
+
+terms-room : (t : ℕ) (x : terms-lts.After-next (list-below t, list.Post, is-variable-reads.Asked, is-variable-reads.Learnt, payload-of-reads.Asked, payload-of-reads.Learnt, met-after-reads.Asked, met-after-reads.Learnt, shape-of-reads.Asked, shape-of-reads.Learnt) (terms-at t) terms.Post terms-Inv-loop terms-μ-loop)
+    → (x .next .given .0 .1 .0 + 2 * (x .before .before .before .before .before .before .before .before .before .before .loop .at + 1) ≤ x .before .before .before .before .before .before .before .before .before .before .loop .to + 2 * x .next .given .0 .0 + 1) × (x .before .before .before .before .before .before .before .before .before .before .loop .at + 1 ≤ x .next .given .0 .0) × (x .next .given .0 .0 ≤ length (x .before .before .before .before .before .before .before .before .before .before .before .before .before .args .s .now)) × (x .next .given .0 .1 .1 .0 + (x .before .before .before .before .before .before .before .before .before .before .loop .at + 1) ≤ x .before .before .before .before .before .before .before .before .before .before .loop .count + x .next .given .0 .0)
+terms-room t x = rest-room _ _ _ _ _ _ _ _ _ _ (terms-got t x) (omega arith)
+
+-- terms: a symbol
+terms-shape : (t : ℕ) (x : terms-lts.After-k (list-below t, list.Post, is-variable-reads.Asked, is-variable-reads.Learnt, payload-of-reads.Asked, payload-of-reads.Learnt, met-after-reads.Asked, met-after-reads.Learnt, shape-of-reads.Asked, shape-of-reads.Learnt) (terms-at t) terms.Post terms-Inv-loop terms-μ-loop)
+    → shapeOf arity16 (getD (x .before .before .before .before .before .before .before .before .before .before .before .before .args .s .now) (x .before .before .before .before .before .before .before .before .before .loop .at) 0) ≡ Symbol (x .k .given .0 .0)
+terms-shape t x = sym (x .before .before .shape-of .ensures) ∙ x .k .given .1
+
+-- a symbol is no other shape
+no-symbol : (k : ℕ) → OneOf (1 ∷ 2 ∷ []) (tagOf the-type (Symbol k)) → ⊥
+no-symbol k o = ⊎-elim (λ (e : _≡_ {A = ℕ} 0 1). omega arith) (λ (e : _≡_ {A = ℕ} 0 2). omega arith) o
+
+element-mul-c : (t : ℕ) → element-lts.Need-mul-c (is-constant-reads.Asked, is-constant-reads.Learnt, terms-below t, terms.Post) (element-at t) element.Post
+element-mul-c t c = search needs
+
+element-shared-slice-read-c : (t : ℕ) → element-lts.Need-shared-slice-read-c (is-constant-reads.Asked, is-constant-reads.Learnt, terms-below t, terms.Post) (element-at t) element.Post
+element-shared-slice-read-c t c = search needs
+
+element-is-constant-requires : (t : ℕ) → element-lts.Need-is-constant-requires (is-constant-reads.Asked, is-constant-reads.Learnt, terms-below t, terms.Post) (element-at t) element.Post
+element-is-constant-requires t c κs = search needs
+
+element-mul-out : (t : ℕ) → element-lts.Need-mul-out (is-constant-reads.Asked, is-constant-reads.Learnt, terms-below t, terms.Post) (element-at t) element.Post
+element-mul-out t c = search needs
+
+element-slice-write-out : (t : ℕ) → element-lts.Need-slice-write-out (is-constant-reads.Asked, is-constant-reads.Learnt, terms-below t, terms.Post) (element-at t) element.Post
+element-slice-write-out t c = search needs
+
+element-add-t11 : (t : ℕ) → element-lts.Need-add-t11 (is-constant-reads.Asked, is-constant-reads.Learnt, terms-below t, terms.Post) (element-at t) element.Post
+element-add-t11 t c = search needs
+
+element-add-t13 : (t : ℕ) → element-lts.Need-add-t13 (is-constant-reads.Asked, is-constant-reads.Learnt, terms-below t, terms.Post) (element-at t) element.Post
+element-add-t13 t c = search needs
+
+element-same-length : (t : ℕ) → element-lts.Need-same-length (is-constant-reads.Asked, is-constant-reads.Learnt, terms-below t, terms.Post) (element-at t) element.Post
+element-same-length t c = search needs
+
+element-returns : (t : ℕ) → element-lts.Need-returns (is-constant-reads.Asked, is-constant-reads.Learnt, terms-below t, terms.Post) (element-at t) element.Post
+element-returns t c = let q = constant-shape arity16 (getD (c .before .before .before .before .before .args .s .now) (c .before .before .before .before .before .args .at) 0) (sym (c .before .is-constant .ensures) ∙ c .if1 .taken) in
+    let o = ordered-cell (c .before .before .before .before .before .args .count) (getD (c .before .before .before .before .before .args .s .now) (c .before .before .before .before .before .args .at) 0) (q .1) in
+    forms-symbol arity16 (c .before .before .before .before .before .args .s .now) (c .before .before .before .before .before .args .at) 1 (c .before .before .before .before .before .args .count) (c .before .before .before .before .before .args .out .now) (c .before .before .before .before .before .args .to) (set (c .before .before .before .before .before .args .out .now) (c .before .before .before .before .before .args .to) (getD (c .before .before .before .before .before .args .s .now) (c .before .before .before .before .before .args .at) 0)) (omega arith) (omega arith) 0 0 (c .before .before .before .before .before .args .count) (Done (c .before .before .before .before .before .args .at + 1) (c .before .before .before .before .before .args .to + 1) (c .before .before .before .before .before .args .count))
+    (q .0) refl (o .0) (sym (o .1)) (forms-none arity16 (c .before .before .before .before .before .args .s .now) (c .before .before .before .before .before .args .at + 1) 0 (c .before .before .before .before .before .args .count) (set (c .before .before .before .before .before .args .out .now) (c .before .before .before .before .before .args .to) (getD (c .before .before .before .before .before .args .s .now) (c .before .before .before .before .before .args .at) 0)) (c .before .before .before .before .before .args .to + 1) refl)
+
+element-terms-requires : (t : ℕ) → element-lts.Need-terms-requires (is-constant-reads.Asked, is-constant-reads.Learnt, terms-below t, terms.Post) (element-at t) element.Post
+element-terms-requires t c κs = omega arith
+
+element-same-length-2 : (t : ℕ) → element-lts.Need-same-length-2 (is-constant-reads.Asked, is-constant-reads.Learnt, terms-below t, terms.Post) (element-at t) element.Post
+element-same-length-2 t c = search needs
+
+element-returns-2 : (t : ℕ) → element-lts.Need-returns-2 (is-constant-reads.Asked, is-constant-reads.Learnt, terms-below t, terms.Post) (element-at t) element.Post
+element-returns-2 t c = c .before .before .terms .ensures
+
+ending-add-if1 :
+    (t : ℕ) → ending-lts.Need-add-if1 (terms-below t, terms.Post) (ending-at t) ending.Post
+ending-add-if1 t c = search needs
+
+ending-returns :
+    (t : ℕ) → ending-lts.Need-returns (terms-below t, terms.Post) (ending-at t) ending.Post
+ending-returns t c = rest-tail-end arity16 (c .before .before .before .args .s .now) (c .before .before .before .args .at) (c .before .before .before .args .count) (c .before .before .before .args .out .now) (c .before .before .before .args .to) (omega arith) (c .before .before .before .args .out .now) (c .before .before .before .pre .1 .3) (c .if1 .taken)
+
+ending-add-c :
+    (t : ℕ) → ending-lts.Need-add-c (terms-below t, terms.Post) (ending-at t) ending.Post
+ending-add-c t c = search needs
+
+ending-mul-c :
+    (t : ℕ) → ending-lts.Need-mul-c (terms-below t, terms.Post) (ending-at t) ending.Post
+ending-mul-c t c = search needs
+
+ending-shared-slice-read-c : (t : ℕ) → ending-lts.Need-shared-slice-read-c (terms-below t, terms.Post) (ending-at t) ending.Post
+ending-shared-slice-read-c t c = search needs
+
+ending-returns-2 :
+    (t : ℕ) → ending-lts.Need-returns-2 (terms-below t, terms.Post) (ending-at t) ending.Post
+ending-returns-2 t c = rest-tail-nil arity16 (c .before .before .before .before .before .args .s .now) (c .before .before .before .before .before .args .at) (c .before .before .before .before .before .args .count) (c .before .before .before .before .before .args .out .now) (c .before .before .before .before .before .args .to) (omega arith) (c .before .before .before .before .before .args .out .now) (c .before .before .before .before .before .pre .1 .3) (c .before .before .if1 .left) (c .if2 .taken)
+
+ending-returns-3 :
+    (t : ℕ) → ending-lts.Need-returns-3 (terms-below t, terms.Post) (ending-at t) ending.Post
+ending-returns-3 t c = rest-tail-list arity16 (c .before .before .before .before .before .before .args .s .now) (c .before .before .before .before .before .before .args .at) (c .before .before .before .before .before .before .args .count) (c .before .before .before .before .before .before .args .out .now) (c .before .before .before .before .before .before .args .to) (omega arith) (c .before .before .before .before .before .before .args .out .now) (c .before .before .before .before .before .before .pre .1 .3) (c .before .before .before .if1 .left) (c .if3 .taken)
+
+ending-add-terms :
+    (t : ℕ) → ending-lts.Need-add-terms (terms-below t, terms.Post) (ending-at t) ending.Post
+ending-add-terms t c = search needs
+
+ending-terms-requires :
+    (t : ℕ) → ending-lts.Need-terms-requires (terms-below t, terms.Post) (ending-at t) ending.Post
+ending-terms-requires t c κs = omega arith
+
+ending-same-length :
+    (t : ℕ) → ending-lts.Need-same-length (terms-below t, terms.Post) (ending-at t) ending.Post
+ending-same-length t c = search needs
+
+ending-returns-4 :
+    (t : ℕ) → ending-lts.Need-returns-4 (terms-below t, terms.Post) (ending-at t) ending.Post
+ending-returns-4 t c = rest-tail arity16 (c .before .before .before .before .before .before .before .before .before .before .args .s .now) (c .before .before .before .before .before .before .before .before .before .before .args .at) (c .before .before .before .before .before .before .before .before .before .before .args .count) (c .before .before .before .before .before .before .before .before .before .before .args .out .now) (c .before .before .before .before .before .before .before .before .before .before .args .to) (omega arith) (c .before .before .terms .last .1 .1 .1 .1 .0) (c .before .before .terms .result) (c .before .before .before .before .before .before .before .before .before .before .pre .1 .3) (c .before .before .before .before .before .before .before .if1 .left) (c .before .before .before .before .before .if2 .left) (c .before .before .before .before .if3 .left) (c .before .before .terms .ensures)
+
+list-loop-holds : (t : ℕ) → list-lts.Need-loop-holds (ending-below t, ending.Post, terms-below t, terms.Post, element-below t, element.Post) (list-at t) list.Post list-Inv-loop list-μ-loop
+list-loop-holds t c = record {
+  from-at = omega arith;
+  at-in = omega arith;
+  count-in = omega arith;
+  room = omega arith;
+  out-kept = refl;
+  goes-on = λ o r w. w;
+}
+
+list-same-length : (t : ℕ) → list-lts.Need-same-length (ending-below t, ending.Post, terms-below t, terms.Post, element-below t, element.Post) (list-at t) list.Post list-Inv-loop list-μ-loop
+list-same-length t c = search needs
+
+list-returns : (t : ℕ) → list-lts.Need-returns (ending-below t, ending.Post, terms-below t, terms.Post, element-below t, element.Post) (list-at t) list.Post list-Inv-loop list-μ-loop
+list-returns t c = c .before .loop .inv .goes-on (c .before .loop .out) Malformed (rest-end arity16 (c .before .before .before .before .args .s .now) (c .before .loop .at) (c .before .loop .some) (c .before .loop .count) (c .before .loop .out) (c .before .loop .to) (c .before .loop .out) (c .if1 .taken))
+
+list-mul-c : (t : ℕ) → list-lts.Need-mul-c (ending-below t, ending.Post, terms-below t, terms.Post, element-below t, element.Post) (list-at t) list.Post list-Inv-loop list-μ-loop
+list-mul-c t c = search needs
+
+list-shared-slice-read-c : (t : ℕ) → list-lts.Need-shared-slice-read-c (ending-below t, ending.Post, terms-below t, terms.Post, element-below t, element.Post) (list-at t) list.Post list-Inv-loop list-μ-loop
+list-shared-slice-read-c t c = search needs
+
+list-ending-requires : (t : ℕ) → list-lts.Need-ending-requires (ending-below t, ending.Post, terms-below t, terms.Post, element-below t, element.Post) (list-at t) list.Post list-Inv-loop list-μ-loop
+list-ending-requires t c κs = (omega arith, (omega arith, omega arith, omega arith, c .before .before .if2 .taken, omega arith, omega arith))
+
+list-same-length-2 : (t : ℕ) → list-lts.Need-same-length-2 (ending-below t, ending.Post, terms-below t, terms.Post, element-below t, element.Post) (list-at t) list.Post list-Inv-loop list-μ-loop
+list-same-length-2 t c = search needs
+
+list-returns-2 : (t : ℕ) → list-lts.Need-returns-2 (ending-below t, ending.Post, terms-below t, terms.Post, element-below t, element.Post) (list-at t) list.Post list-Inv-loop list-μ-loop
+list-returns-2 t c = c .before .before .before .before .before .before .before .before .loop .inv .goes-on (c .before .before .ending .last .1 .1 .1 .0) (c .before .before .ending .result) (subst (λ b. RestRan arity16 (c .before .before .before .before .before .before .before .before .before .before .before .args .s .now) (c .before .before .before .before .before .before .before .before .loop .at) b (c .before .before .before .before .before .before .before .before .loop .count) (c .before .before .before .before .before .before .before .before .loop .out) (c .before .before .before .before .before .before .before .before .loop .to) (c .before .before .ending .last .1 .1 .1 .0) (c .before .before .ending .result)) (sym (c .before .before .before .before .if3 .taken)) (c .before .before .ending .ensures))
+
+list-same-length-3 : (t : ℕ) → list-lts.Need-same-length-3 (ending-below t, ending.Post, terms-below t, terms.Post, element-below t, element.Post) (list-at t) list.Post list-Inv-loop list-μ-loop
+list-same-length-3 t c = search needs
+
+list-returns-3 : (t : ℕ) → list-lts.Need-returns-3 (ending-below t, ending.Post, terms-below t, terms.Post, element-below t, element.Post) (list-at t) list.Post list-Inv-loop list-μ-loop
+list-returns-3 t c = c .before .before .before .before .loop .inv .goes-on (c .before .before .before .before .loop .out) Malformed (subst (λ b. RestRan arity16 (c .before .before .before .before .before .before .before .args .s .now) (c .before .before .before .before .loop .at) b (c .before .before .before .before .loop .count) (c .before .before .before .before .loop .out) (c .before .before .before .before .loop .to) (c .before .before .before .before .loop .out) Malformed) (sym (c .if3 .left)) (rest-tail-first arity16 (c .before .before .before .before .before .before .before .args .s .now) (c .before .before .before .before .loop .at) (c .before .before .before .before .loop .count) (c .before .before .before .before .loop .out) (c .before .before .before .before .loop .to) (c .before .before .before .if1 .left) (c .before .before .before .before .loop .out) (c .before .if2 .taken)))
+
+list-mul-out : (t : ℕ) → list-lts.Need-mul-out (ending-below t, ending.Post, terms-below t, terms.Post, element-below t, element.Post) (list-at t) list.Post list-Inv-loop list-μ-loop
+list-mul-out t c = search needs
+
+list-slice-write-out : (t : ℕ) → list-lts.Need-slice-write-out (ending-below t, ending.Post, terms-below t, terms.Post, element-below t, element.Post) (list-at t) list.Post list-Inv-loop list-μ-loop
+list-slice-write-out t c = search needs
+
+list-add-terms : (t : ℕ) → list-lts.Need-add-terms (ending-below t, ending.Post, terms-below t, terms.Post, element-below t, element.Post) (list-at t) list.Post list-Inv-loop list-μ-loop
+list-add-terms t c = search needs
+
+list-add-terms-2 : (t : ℕ) → list-lts.Need-add-terms-2 (ending-below t, ending.Post, terms-below t, terms.Post, element-below t, element.Post) (list-at t) list.Post list-Inv-loop list-μ-loop
+list-add-terms-2 t c = search needs
+
+list-terms-requires : (t : ℕ) → list-lts.Need-terms-requires (ending-below t, ending.Post, terms-below t, terms.Post, element-below t, element.Post) (list-at t) list.Post list-Inv-loop list-μ-loop
+list-terms-requires t c κs = simp length-set (omega arith)
+
+list-enum-known-next : (t : ℕ) → list-lts.Need-enum-known-next (ending-below t, ending.Post, terms-below t, terms.Post, element-below t, element.Post) (list-at t) list.Post list-Inv-loop list-μ-loop
+list-enum-known-next t c = search needs
+
+list-enum-told : (t : ℕ) → list-lts.Need-enum-told (ending-below t, ending.Post, terms-below t, terms.Post, element-below t, element.Post) (list-at t) list.Post list-Inv-loop list-μ-loop
+list-enum-told t c = search needs
+
+list-same-length-4 : (t : ℕ) → list-lts.Need-same-length-4 (ending-below t, ending.Post, terms-below t, terms.Post, element-below t, element.Post) (list-at t) list.Post list-Inv-loop list-μ-loop
+list-same-length-4 t c = c .before .before .before .before .terms .kept .1 .1 .1 .1 .0 ∙ simp length-set (c .before .before .before .before .before .before .before .before .before .before .loop .inv .out-kept)
+
+list-returns-4 : (t : ℕ) → list-lts.Need-returns-4 (ending-below t, ending.Post, terms-below t, terms.Post, element-below t, element.Post) (list-at t) list.Post list-Inv-loop list-μ-loop
+list-returns-4 t c = c .before .before .before .before .before .before .before .before .before .before .loop .inv .goes-on (c .before .before .before .before .before .before .before .before .before .before .loop .out) Malformed (rest-last-short arity16 (c .before .before .before .before .before .before .before .before .before .before .before .before .before .args .s .now) (c .before .before .before .before .before .before .before .before .before .before .loop .at) (c .before .before .before .before .before .before .before .before .before .before .loop .count) (c .before .before .before .before .before .before .before .before .before .before .loop .out) (c .before .before .before .before .before .before .before .before .before .before .loop .to) (c .before .before .before .before .before .before .before .before .before .if1 .left) (c .before .before .before .before .before .before .before .before .before .before .loop .some) (c .before .before .before .before .terms .last .1 .1 .1 .1 .0) (c .before .before .before .before .before .before .before .before .before .before .loop .out) (c .before .before .before .before .before .before .if4 .taken) (rw (c .enum-told .given .1) at (c .before .before .before .before .terms .ensures)))
+
+list-mul-out-2 : (t : ℕ) → list-lts.Need-mul-out-2 (ending-below t, ending.Post, terms-below t, terms.Post, element-below t, element.Post) (list-at t) list.Post list-Inv-loop list-μ-loop
+list-mul-out-2 t c = omega (arith, list-last-room t (c .before))
+
+list-slice-write-out-2 : (t : ℕ) → list-lts.Need-slice-write-out-2 (ending-below t, ending.Post, terms-below t, terms.Post, element-below t, element.Post) (list-at t) list.Post list-Inv-loop list-μ-loop
+list-slice-write-out-2 t c = omega (arith, list-last-room t (c .before), c .before .before .before .before .before .terms .kept .1 .1 .1 .1 .0, length-set (c .before .before .before .before .before .before .before .before .before .before .before .loop .out) (c .before .before .before .before .before .before .before .before .before .before .before .loop .to) PAIR)
+
+list-add-t29 : (t : ℕ) → list-lts.Need-add-t29 (ending-below t, ending.Post, terms-below t, terms.Post, element-below t, element.Post) (list-at t) list.Post list-Inv-loop list-μ-loop
+list-add-t29 t c = omega (arith, list-last-room t (c .before))
+
+list-same-length-5 : (t : ℕ) → list-lts.Need-same-length-5 (ending-below t, ending.Post, terms-below t, terms.Post, element-below t, element.Post) (list-at t) list.Post list-Inv-loop list-μ-loop
+list-same-length-5 t c = simp length-set (c .before .before .before .before .before .terms .kept .1 .1 .1 .1 .0 ∙ simp length-set (c .before .before .before .before .before .before .before .before .before .before .before .loop .inv .out-kept))
+
+list-returns-5 : (t : ℕ) → list-lts.Need-returns-5 (ending-below t, ending.Post, terms-below t, terms.Post, element-below t, element.Post) (list-at t) list.Post list-Inv-loop list-μ-loop
+list-returns-5 t c = c .before .before .before .before .before .before .before .before .before .before .before .loop .inv .goes-on (set (c .before .before .before .before .before .terms .last .1 .1 .1 .1 .0) (c .before .next .given .0 .1 .0) nil) (Done (c .before .next .given .0 .0) (c .before .next .given .0 .1 .0 + 1) (c .before .next .given .0 .1 .1 .0)) (rest-last arity16 (c .before .before .before .before .before .before .before .before .before .before .before .before .before .before .args .s .now) (c .before .before .before .before .before .before .before .before .before .before .before .loop .at) (c .before .before .before .before .before .before .before .before .before .before .before .loop .count) (c .before .before .before .before .before .before .before .before .before .before .before .loop .out) (c .before .before .before .before .before .before .before .before .before .before .before .loop .to) (c .before .before .before .before .before .before .before .before .before .before .if1 .left) (c .before .before .before .before .before .before .before .before .before .before .before .loop .some) (c .before .before .before .before .before .terms .last .1 .1 .1 .1 .0) (c .before .next .given .0 .0) (c .before .next .given .0 .1 .0) (c .before .next .given .0 .1 .1 .0) (c .before .before .before .before .before .before .before .if4 .taken) (list-last t (c .before)))
+
+list-add-element : (t : ℕ) → list-lts.Need-add-element (ending-below t, ending.Post, terms-below t, terms.Post, element-below t, element.Post) (list-at t) list.Post list-Inv-loop list-μ-loop
+list-add-element t c = search needs
+
+list-element-requires : (t : ℕ) → list-lts.Need-element-requires (ending-below t, ending.Post, terms-below t, terms.Post, element-below t, element.Post) (list-at t) list.Post list-Inv-loop list-μ-loop
+list-element-requires t c κs = simp length-set (omega arith)
+
+list-enum-known-next-2 : (t : ℕ) → list-lts.Need-enum-known-next-2 (ending-below t, ending.Post, terms-below t, terms.Post, element-below t, element.Post) (list-at t) list.Post list-Inv-loop list-μ-loop
+list-enum-known-next-2 t c = search needs
+
+list-enum-told-2 : (t : ℕ) → list-lts.Need-enum-told-2 (ending-below t, ending.Post, terms-below t, terms.Post, element-below t, element.Post) (list-at t) list.Post list-Inv-loop list-μ-loop
+list-enum-told-2 t c = search needs
+
+list-same-length-6 : (t : ℕ) → list-lts.Need-same-length-6 (ending-below t, ending.Post, terms-below t, terms.Post, element-below t, element.Post) (list-at t) list.Post list-Inv-loop list-μ-loop
+list-same-length-6 t c = c .before .before .before .before .element .kept .1 .1 .1 .0 ∙ simp length-set (c .before .before .before .before .before .before .before .before .before .before .loop .inv .out-kept)
+
+list-returns-6 : (t : ℕ) → list-lts.Need-returns-6 (ending-below t, ending.Post, terms-below t, terms.Post, element-below t, element.Post) (list-at t) list.Post list-Inv-loop list-μ-loop
+list-returns-6 t c = c .before .before .before .before .before .before .before .before .before .before .loop .inv .goes-on (c .before .before .before .before .before .before .before .before .before .before .loop .out) Malformed (rest-element-short arity16 (c .before .before .before .before .before .before .before .before .before .before .before .before .before .args .s .now) (c .before .before .before .before .before .before .before .before .before .before .loop .at) (c .before .before .before .before .before .before .before .before .before .before .loop .count) (c .before .before .before .before .before .before .before .before .before .before .loop .out) (c .before .before .before .before .before .before .before .before .before .before .loop .to) (c .before .before .before .before .before .before .before .before .before .if1 .left) (c .before .before .before .before .before .before .before .before .before .before .loop .some) (c .before .before .before .before .element .last .1 .1 .1 .0) (c .before .before .before .before .before .before .before .before .before .before .loop .out) (c .before .before .before .before .before .before .if4 .left) (c .before .before .before .before .before .before .before .if2 .left) (rw (c .enum-told2 .given .1) at (c .before .before .before .before .element .ensures)))
+
+list-loop-less : (t : ℕ) → list-lts.Need-loop-less (ending-below t, ending.Post, terms-below t, terms.Post, element-below t, element.Post) (list-at t) list.Post list-Inv-loop list-μ-loop
+list-loop-less t c = omega (arith, list-room t (c .before))
+
+list-loop-again : (t : ℕ) → list-lts.Need-loop-again (ending-below t, ending.Post, terms-below t, terms.Post, element-below t, element.Post) (list-at t) list.Post list-Inv-loop list-μ-loop
+list-loop-again t c = let f = list-room t (c .before) in
+    record {
+      from-at = omega (arith, f);
+      at-in = f .2;
+      count-in = omega (arith, f);
+      room = omega (arith, f);
+      out-kept = c .before .before .before .before .before .element .kept .1 .1 .1 .0 ∙ simp length-set (c .before .before .before .before .before .before .before .before .before .before .before .loop .inv .out-kept);
+      goes-on = λ o r w.
+          c .before .before .before .before .before .before .before .before .before .before .before .loop .inv .goes-on o r
+          (rest-element arity16 (c .before .before .before .before .before .before .before .before .before .before .before .before .before .before .args .s .now) (c .before .before .before .before .before .before .before .before .before .before .before .loop .at) (c .before .before .before .before .before .before .before .before .before .before .before .loop .count) (c .before .before .before .before .before .before .before .before .before .before .before .loop .out) (c .before .before .before .before .before .before .before .before .before .before .before .loop .to) (c .before .before .before .before .before .before .before .before .before .before .if1 .left) (c .before .before .before .before .before .before .before .before .before .before .before .loop .some) (c .before .before .before .before .before .element .last .1 .1 .1 .0) (c .before .next2 .given .0 .0) (c .before .next2 .given .0 .1 .0) (c .before .next2 .given .0 .1 .1 .0) o r (list-got t (c .before)) w);
+    }
+
+terms-loop-holds : (t : ℕ) → terms-lts.Need-loop-holds (list-below t, list.Post, is-variable-reads.Asked, is-variable-reads.Learnt, payload-of-reads.Asked, payload-of-reads.Learnt, met-after-reads.Asked, met-after-reads.Learnt, shape-of-reads.Asked, shape-of-reads.Learnt) (terms-at t) terms.Post terms-Inv-loop terms-μ-loop
+terms-loop-holds t c = record {
+  from-at = omega arith;
+  at-in = omega arith;
+  due-small = omega arith;
+  count-in = omega arith;
+  room = omega arith;
+  out-kept = refl;
+  goes-on = λ o r w. w;
+}
+
+terms-same-length : (t : ℕ) → terms-lts.Need-same-length (list-below t, list.Post, is-variable-reads.Asked, is-variable-reads.Learnt, payload-of-reads.Asked, payload-of-reads.Learnt, met-after-reads.Asked, met-after-reads.Learnt, shape-of-reads.Asked, shape-of-reads.Learnt) (terms-at t) terms.Post terms-Inv-loop terms-μ-loop
+terms-same-length t c = search needs
+
+terms-returns : (t : ℕ) → terms-lts.Need-returns (list-below t, list.Post, is-variable-reads.Asked, is-variable-reads.Learnt, payload-of-reads.Asked, payload-of-reads.Learnt, met-after-reads.Asked, met-after-reads.Learnt, shape-of-reads.Asked, shape-of-reads.Learnt) (terms-at t) terms.Post terms-Inv-loop terms-μ-loop
+terms-returns t c = c .before .before .loop .inv .goes-on (c .before .before .loop .out) Malformed (forms-end arity16 (c .before .before .before .before .before .args .s .now) (c .before .before .loop .at) (c .before .before .loop .due) (c .before .before .loop .count) (c .before .before .loop .out) (c .before .before .loop .to) (c .before .before .loop .out) (omega arith) (c .if1 .taken))
+
+terms-mul-c : (t : ℕ) → terms-lts.Need-mul-c (list-below t, list.Post, is-variable-reads.Asked, is-variable-reads.Learnt, payload-of-reads.Asked, payload-of-reads.Learnt, met-after-reads.Asked, met-after-reads.Learnt, shape-of-reads.Asked, shape-of-reads.Learnt) (terms-at t) terms.Post terms-Inv-loop terms-μ-loop
+terms-mul-c t c = search needs
+
+terms-shared-slice-read-c : (t : ℕ) → terms-lts.Need-shared-slice-read-c (list-below t, list.Post, is-variable-reads.Asked, is-variable-reads.Learnt, payload-of-reads.Asked, payload-of-reads.Learnt, met-after-reads.Asked, met-after-reads.Learnt, shape-of-reads.Asked, shape-of-reads.Learnt) (terms-at t) terms.Post terms-Inv-loop terms-μ-loop
+terms-shared-slice-read-c t c = search needs
+
+terms-add-list : (t : ℕ) → terms-lts.Need-add-list (list-below t, list.Post, is-variable-reads.Asked, is-variable-reads.Learnt, payload-of-reads.Asked, payload-of-reads.Learnt, met-after-reads.Asked, met-after-reads.Learnt, shape-of-reads.Asked, shape-of-reads.Learnt) (terms-at t) terms.Post terms-Inv-loop terms-μ-loop
+terms-add-list t c = search needs
+
+terms-list-requires : (t : ℕ) → terms-lts.Need-list-requires (list-below t, list.Post, is-variable-reads.Asked, is-variable-reads.Learnt, payload-of-reads.Asked, payload-of-reads.Learnt, met-after-reads.Asked, met-after-reads.Learnt, shape-of-reads.Asked, shape-of-reads.Learnt) (terms-at t) terms.Post terms-Inv-loop terms-μ-loop
+terms-list-requires t c κs = omega arith
+
+terms-enum-known-next : (t : ℕ) → terms-lts.Need-enum-known-next (list-below t, list.Post, is-variable-reads.Asked, is-variable-reads.Learnt, payload-of-reads.Asked, payload-of-reads.Learnt, met-after-reads.Asked, met-after-reads.Learnt, shape-of-reads.Asked, shape-of-reads.Learnt) (terms-at t) terms.Post terms-Inv-loop terms-μ-loop
+terms-enum-known-next t c = search needs
+
+terms-enum-told : (t : ℕ) → terms-lts.Need-enum-told (list-below t, list.Post, is-variable-reads.Asked, is-variable-reads.Learnt, payload-of-reads.Asked, payload-of-reads.Learnt, met-after-reads.Asked, met-after-reads.Learnt, shape-of-reads.Asked, shape-of-reads.Learnt) (terms-at t) terms.Post terms-Inv-loop terms-μ-loop
+terms-enum-told t c = search needs
+
+terms-same-length-2 : (t : ℕ) → terms-lts.Need-same-length-2 (list-below t, list.Post, is-variable-reads.Asked, is-variable-reads.Learnt, payload-of-reads.Asked, payload-of-reads.Learnt, met-after-reads.Asked, met-after-reads.Learnt, shape-of-reads.Asked, shape-of-reads.Learnt) (terms-at t) terms.Post terms-Inv-loop terms-μ-loop
+terms-same-length-2 t c = search needs
+
+terms-returns-2 : (t : ℕ) → terms-lts.Need-returns-2 (list-below t, list.Post, is-variable-reads.Asked, is-variable-reads.Learnt, payload-of-reads.Asked, payload-of-reads.Learnt, met-after-reads.Asked, met-after-reads.Learnt, shape-of-reads.Asked, shape-of-reads.Learnt) (terms-at t) terms.Post terms-Inv-loop terms-μ-loop
+terms-returns-2 t c = c .before .before .before .before .before .before .before .before .before .before .loop .inv .goes-on (c .before .before .before .before .before .before .before .before .before .before .loop .out) Malformed (forms-begin-short arity16 (c .before .before .before .before .before .before .before .before .before .before .before .before .before .args .s .now) (c .before .before .before .before .before .before .before .before .before .before .loop .at) (c .before .before .before .before .before .before .before .before .before .before .loop .due) (c .before .before .before .before .before .before .before .before .before .before .loop .count) (c .before .before .before .before .before .before .before .before .before .before .loop .out) (c .before .before .before .before .before .before .before .before .before .before .loop .to) (c .before .before .before .before .before .before .before .before .before .before .loop .out) (omega arith) (c .before .before .before .before .before .before .before .before .if1 .left) (c .before .before .before .before .list .last .1 .1 .1 .0) (c .before .before .before .before .before .before .if2 .taken) (rw (c .enum-told .given .1) at (c .before .before .before .before .list .ensures)))
+
+terms-sub-due : (t : ℕ) → terms-lts.Need-sub-due (list-below t, list.Post, is-variable-reads.Asked, is-variable-reads.Learnt, payload-of-reads.Asked, payload-of-reads.Learnt, met-after-reads.Asked, met-after-reads.Learnt, shape-of-reads.Asked, shape-of-reads.Learnt) (terms-at t) terms.Post terms-Inv-loop terms-μ-loop
+terms-sub-due t c = search needs
+
+terms-loop-less : (t : ℕ) → terms-lts.Need-loop-less (list-below t, list.Post, is-variable-reads.Asked, is-variable-reads.Learnt, payload-of-reads.Asked, payload-of-reads.Learnt, met-after-reads.Asked, met-after-reads.Learnt, shape-of-reads.Asked, shape-of-reads.Learnt) (terms-at t) terms.Post terms-Inv-loop terms-μ-loop
+terms-loop-less t c = omega (arith, terms-room t (c .before))
+
+terms-loop-again : (t : ℕ) → terms-lts.Need-loop-again (list-below t, list.Post, is-variable-reads.Asked, is-variable-reads.Learnt, payload-of-reads.Asked, payload-of-reads.Learnt, met-after-reads.Asked, met-after-reads.Learnt, shape-of-reads.Asked, shape-of-reads.Learnt) (terms-at t) terms.Post terms-Inv-loop terms-μ-loop
+terms-loop-again t c = let f = terms-room t (c .before) in
+    record {
+      from-at = omega (arith, f);
+      at-in = f .2;
+      due-small = omega (arith, f);
+      count-in = omega (arith, f);
+      room = omega (arith, f);
+      out-kept = c .before .before .before .before .before .list .kept .1 .1 .1 .0 ∙ c .before .before .before .before .before .before .before .before .before .before .before .loop .inv .out-kept;
+      goes-on = λ o r w.
+          c .before .before .before .before .before .before .before .before .before .before .before .loop .inv .goes-on o r
+          (forms-begin arity16 (c .before .before .before .before .before .before .before .before .before .before .before .before .before .before .args .s .now) (c .before .before .before .before .before .before .before .before .before .before .before .loop .at) (c .before .before .before .before .before .before .before .before .before .before .before .loop .due) (c .before .before .before .before .before .before .before .before .before .before .before .loop .count) (c .before .before .before .before .before .before .before .before .before .before .before .loop .out) (c .before .before .before .before .before .before .before .before .before .before .before .loop .to) o (omega arith) (c .before .before .before .before .before .before .before .before .before .if1 .left) (c .before .before .before .before .before .list .last .1 .1 .1 .0) (c .before .next .given .0 .0) (c .before .next .given .0 .1 .0) (c .before .next .given .0 .1 .1 .0) r (c .before .before .before .before .before .before .before .if2 .taken) (terms-got t (c .before)) w);
+    }
+
+terms-is-variable-requires : (t : ℕ) → terms-lts.Need-is-variable-requires (list-below t, list.Post, is-variable-reads.Asked, is-variable-reads.Learnt, payload-of-reads.Asked, payload-of-reads.Learnt, met-after-reads.Asked, met-after-reads.Learnt, shape-of-reads.Asked, shape-of-reads.Learnt) (terms-at t) terms.Post terms-Inv-loop terms-μ-loop
+terms-is-variable-requires t c κs = search needs
+
+terms-payload-of-requires : (t : ℕ) → terms-lts.Need-payload-of-requires (list-below t, list.Post, is-variable-reads.Asked, is-variable-reads.Learnt, payload-of-reads.Asked, payload-of-reads.Learnt, met-after-reads.Asked, met-after-reads.Learnt, shape-of-reads.Asked, shape-of-reads.Learnt) (terms-at t) terms.Post terms-Inv-loop terms-μ-loop
+terms-payload-of-requires t c κs = search needs
+
+terms-same-length-3 : (t : ℕ) → terms-lts.Need-same-length-3 (list-below t, list.Post, is-variable-reads.Asked, is-variable-reads.Learnt, payload-of-reads.Asked, payload-of-reads.Learnt, met-after-reads.Asked, met-after-reads.Learnt, shape-of-reads.Asked, shape-of-reads.Learnt) (terms-at t) terms.Post terms-Inv-loop terms-μ-loop
+terms-same-length-3 t c = search needs
+
+terms-returns-3 : (t : ℕ) → terms-lts.Need-returns-3 (list-below t, list.Post, is-variable-reads.Asked, is-variable-reads.Learnt, payload-of-reads.Asked, payload-of-reads.Learnt, met-after-reads.Asked, met-after-reads.Learnt, shape-of-reads.Asked, shape-of-reads.Learnt) (terms-at t) terms.Post terms-Inv-loop terms-μ-loop
+terms-returns-3 t c = c .before .before .before .before .before .before .before .before .loop .inv .goes-on (c .before .before .before .before .before .before .before .before .loop .out) Malformed (forms-unordered arity16 (c .before .before .before .before .before .before .before .before .before .before .before .args .s .now) (c .before .before .before .before .before .before .before .before .loop .at) (c .before .before .before .before .before .before .before .before .loop .due) (c .before .before .before .before .before .before .before .before .loop .count) (c .before .before .before .before .before .before .before .before .loop .out) (c .before .before .before .before .before .before .before .before .loop .to) (c .before .before .before .before .before .before .before .before .loop .out) (omega arith) (c .before .before .before .before .before .before .if1 .left) (sym (c .before .before .before .is-variable .ensures) ∙ c .before .before .if3 .taken) (omega (arith, c .before .payload-of .ensures)))
+
+terms-mul-out : (t : ℕ) → terms-lts.Need-mul-out (list-below t, list.Post, is-variable-reads.Asked, is-variable-reads.Learnt, payload-of-reads.Asked, payload-of-reads.Learnt, met-after-reads.Asked, met-after-reads.Learnt, shape-of-reads.Asked, shape-of-reads.Learnt) (terms-at t) terms.Post terms-Inv-loop terms-μ-loop
+terms-mul-out t c = search needs
+
+terms-slice-write-out : (t : ℕ) → terms-lts.Need-slice-write-out (list-below t, list.Post, is-variable-reads.Asked, is-variable-reads.Learnt, payload-of-reads.Asked, payload-of-reads.Learnt, met-after-reads.Asked, met-after-reads.Learnt, shape-of-reads.Asked, shape-of-reads.Learnt) (terms-at t) terms.Post terms-Inv-loop terms-μ-loop
+terms-slice-write-out t c = search needs
+
+terms-met-after-requires : (t : ℕ) → terms-lts.Need-met-after-requires (list-below t, list.Post, is-variable-reads.Asked, is-variable-reads.Learnt, payload-of-reads.Asked, payload-of-reads.Learnt, met-after-reads.Asked, met-after-reads.Learnt, shape-of-reads.Asked, shape-of-reads.Learnt) (terms-at t) terms.Post terms-Inv-loop terms-μ-loop
+terms-met-after-requires t c κs = (omega arith, sym (c .before .before .before .is-variable .ensures) ∙ c .before .before .if3 .taken)
+
+terms-add-at : (t : ℕ) → terms-lts.Need-add-at (list-below t, list.Post, is-variable-reads.Asked, is-variable-reads.Learnt, payload-of-reads.Asked, payload-of-reads.Learnt, met-after-reads.Asked, met-after-reads.Learnt, shape-of-reads.Asked, shape-of-reads.Learnt) (terms-at t) terms.Post terms-Inv-loop terms-μ-loop
+terms-add-at t c = search needs
+
+terms-add-to : (t : ℕ) → terms-lts.Need-add-to (list-below t, list.Post, is-variable-reads.Asked, is-variable-reads.Learnt, payload-of-reads.Asked, payload-of-reads.Learnt, met-after-reads.Asked, met-after-reads.Learnt, shape-of-reads.Asked, shape-of-reads.Learnt) (terms-at t) terms.Post terms-Inv-loop terms-μ-loop
+terms-add-to t c = search needs
+
+terms-sub-due-2 : (t : ℕ) → terms-lts.Need-sub-due-2 (list-below t, list.Post, is-variable-reads.Asked, is-variable-reads.Learnt, payload-of-reads.Asked, payload-of-reads.Learnt, met-after-reads.Asked, met-after-reads.Learnt, shape-of-reads.Asked, shape-of-reads.Learnt) (terms-at t) terms.Post terms-Inv-loop terms-μ-loop
+terms-sub-due-2 t c = search needs
+
+terms-loop-less-2 : (t : ℕ) → terms-lts.Need-loop-less-2 (list-below t, list.Post, is-variable-reads.Asked, is-variable-reads.Learnt, payload-of-reads.Asked, payload-of-reads.Learnt, met-after-reads.Asked, met-after-reads.Learnt, shape-of-reads.Asked, shape-of-reads.Learnt) (terms-at t) terms.Post terms-Inv-loop terms-μ-loop
+terms-loop-less-2 t c = omega arith
+
+terms-loop-again-2 : (t : ℕ) → terms-lts.Need-loop-again-2 (list-below t, list.Post, is-variable-reads.Asked, is-variable-reads.Learnt, payload-of-reads.Asked, payload-of-reads.Learnt, met-after-reads.Asked, met-after-reads.Learnt, shape-of-reads.Asked, shape-of-reads.Learnt) (terms-at t) terms.Post terms-Inv-loop terms-μ-loop
+terms-loop-again-2 t c = let q : variable (getD (c .before .before .before .before .before .before .before .before .before .before .before .before .args .s .now) (c .before .before .before .before .before .before .before .before .before .loop .at) 0) ≡ true = sym (c .before .before .before .before .is-variable .ensures) ∙ c .before .before .before .if3 .taken in
+    record {
+      from-at = omega arith;
+      at-in = omega arith;
+      due-small = omega arith;
+      count-in = omega (arith, c .met-after .ensures, after-most (c .before .before .before .before .before .before .before .before .before .loop .count) (getD (c .before .before .before .before .before .before .before .before .before .before .before .before .args .s .now) (c .before .before .before .before .before .before .before .before .before .loop .at) 0));
+      room = omega arith;
+      out-kept = simp length-set (c .before .before .before .before .before .before .before .before .before .loop .inv .out-kept);
+      goes-on = λ o r w.
+          c .before .before .before .before .before .before .before .before .before .loop .inv .goes-on o r
+          (forms-symbol arity16 (c .before .before .before .before .before .before .before .before .before .before .before .before .args .s .now) (c .before .before .before .before .before .before .before .before .before .loop .at) (c .before .before .before .before .before .before .before .before .before .loop .due) (c .before .before .before .before .before .before .before .before .before .loop .count) (c .before .before .before .before .before .before .before .before .before .loop .out) (c .before .before .before .before .before .before .before .before .before .loop .to) o (omega arith) (c .before .before .before .before .before .before .before .if1 .left) 0 (c .before .before .before .before .before .before .before .before .before .loop .due - 1) (c .met-after .result) r
+          (variable-shape arity16 (getD (c .before .before .before .before .before .before .before .before .before .before .before .before .args .s .now) (c .before .before .before .before .before .before .before .before .before .loop .at) 0) q) (omega arith) (ordered-variable (c .before .before .before .before .before .before .before .before .before .loop .count) (getD (c .before .before .before .before .before .before .before .before .before .before .before .before .args .s .now) (c .before .before .before .before .before .before .before .before .before .loop .at) 0) q (omega (arith, c .before .before .payload-of .ensures))) (c .met-after .ensures) w);
+    }
+
+terms-shape-of-requires : (t : ℕ) → terms-lts.Need-shape-of-requires (list-below t, list.Post, is-variable-reads.Asked, is-variable-reads.Learnt, payload-of-reads.Asked, payload-of-reads.Learnt, met-after-reads.Asked, met-after-reads.Learnt, shape-of-reads.Asked, shape-of-reads.Learnt) (terms-at t) terms.Post terms-Inv-loop terms-μ-loop
+terms-shape-of-requires t c κs = search needs
+
+terms-enum-known-k : (t : ℕ) → terms-lts.Need-enum-known-k (list-below t, list.Post, is-variable-reads.Asked, is-variable-reads.Learnt, payload-of-reads.Asked, payload-of-reads.Learnt, met-after-reads.Asked, met-after-reads.Learnt, shape-of-reads.Asked, shape-of-reads.Learnt) (terms-at t) terms.Post terms-Inv-loop terms-μ-loop
+terms-enum-known-k t c = search needs
+
+terms-same-length-4 : (t : ℕ) → terms-lts.Need-same-length-4 (list-below t, list.Post, is-variable-reads.Asked, is-variable-reads.Learnt, payload-of-reads.Asked, payload-of-reads.Learnt, met-after-reads.Asked, met-after-reads.Learnt, shape-of-reads.Asked, shape-of-reads.Learnt) (terms-at t) terms.Post terms-Inv-loop terms-μ-loop
+terms-same-length-4 t c = search needs
+
+terms-returns-4 : (t : ℕ) → terms-lts.Need-returns-4 (list-below t, list.Post, is-variable-reads.Asked, is-variable-reads.Learnt, payload-of-reads.Asked, payload-of-reads.Learnt, met-after-reads.Asked, met-after-reads.Learnt, shape-of-reads.Asked, shape-of-reads.Learnt) (terms-at t) terms.Post terms-Inv-loop terms-μ-loop
+terms-returns-4 t c = c .before .before .before .before .before .before .before .before .loop .inv .goes-on (c .before .before .before .before .before .before .before .before .loop .out) Malformed (forms-illegal arity16 (c .before .before .before .before .before .before .before .before .before .before .before .args .s .now) (c .before .before .before .before .before .before .before .before .loop .at) (c .before .before .before .before .before .before .before .before .loop .due) (c .before .before .before .before .before .before .before .before .loop .count) (c .before .before .before .before .before .before .before .before .loop .out) (c .before .before .before .before .before .before .before .before .loop .to) (c .before .before .before .before .before .before .before .before .loop .out) (omega arith) (c .before .before .before .before .before .before .if1 .left) (c .before .before .before .before .if2 .left) (λ k e. no-symbol k (subst (λ x. OneOf (1 ∷ 2 ∷ []) (tagOf the-type x)) (c .before .shape-of .ensures ∙ e) (c .match2 .keys2))))
+
+terms-mul-out-2 : (t : ℕ) → terms-lts.Need-mul-out-2 (list-below t, list.Post, is-variable-reads.Asked, is-variable-reads.Learnt, payload-of-reads.Asked, payload-of-reads.Learnt, met-after-reads.Asked, met-after-reads.Learnt, shape-of-reads.Asked, shape-of-reads.Learnt) (terms-at t) terms.Post terms-Inv-loop terms-μ-loop
+terms-mul-out-2 t c = search needs
+
+terms-slice-write-out-2 : (t : ℕ) → terms-lts.Need-slice-write-out-2 (list-below t, list.Post, is-variable-reads.Asked, is-variable-reads.Learnt, payload-of-reads.Asked, payload-of-reads.Learnt, met-after-reads.Asked, met-after-reads.Learnt, shape-of-reads.Asked, shape-of-reads.Learnt) (terms-at t) terms.Post terms-Inv-loop terms-μ-loop
+terms-slice-write-out-2 t c = search needs
+
+terms-add-at-2 : (t : ℕ) → terms-lts.Need-add-at-2 (list-below t, list.Post, is-variable-reads.Asked, is-variable-reads.Learnt, payload-of-reads.Asked, payload-of-reads.Learnt, met-after-reads.Asked, met-after-reads.Learnt, shape-of-reads.Asked, shape-of-reads.Learnt) (terms-at t) terms.Post terms-Inv-loop terms-μ-loop
+terms-add-at-2 t c = search needs
+
+terms-add-to-2 : (t : ℕ) → terms-lts.Need-add-to-2 (list-below t, list.Post, is-variable-reads.Asked, is-variable-reads.Learnt, payload-of-reads.Asked, payload-of-reads.Learnt, met-after-reads.Asked, met-after-reads.Learnt, shape-of-reads.Asked, shape-of-reads.Learnt) (terms-at t) terms.Post terms-Inv-loop terms-μ-loop
+terms-add-to-2 t c = search needs
+
+terms-sub-due-3 : (t : ℕ) → terms-lts.Need-sub-due-3 (list-below t, list.Post, is-variable-reads.Asked, is-variable-reads.Learnt, payload-of-reads.Asked, payload-of-reads.Learnt, met-after-reads.Asked, met-after-reads.Learnt, shape-of-reads.Asked, shape-of-reads.Learnt) (terms-at t) terms.Post terms-Inv-loop terms-μ-loop
+terms-sub-due-3 t c = search needs
+
+terms-add-due : (t : ℕ) → terms-lts.Need-add-due (list-below t, list.Post, is-variable-reads.Asked, is-variable-reads.Learnt, payload-of-reads.Asked, payload-of-reads.Learnt, met-after-reads.Asked, met-after-reads.Learnt, shape-of-reads.Asked, shape-of-reads.Learnt) (terms-at t) terms.Post terms-Inv-loop terms-μ-loop
+terms-add-due t c = omega (arith, symbol-small arity16 arity16-small _ _ (terms-shape t (c .before)))
+
+terms-loop-less-3 : (t : ℕ) → terms-lts.Need-loop-less-3 (list-below t, list.Post, is-variable-reads.Asked, is-variable-reads.Learnt, payload-of-reads.Asked, payload-of-reads.Learnt, met-after-reads.Asked, met-after-reads.Learnt, shape-of-reads.Asked, shape-of-reads.Learnt) (terms-at t) terms.Post terms-Inv-loop terms-μ-loop
+terms-loop-less-3 t c = omega arith
+
+terms-loop-again-3 : (t : ℕ) → terms-lts.Need-loop-again-3 (list-below t, list.Post, is-variable-reads.Asked, is-variable-reads.Learnt, payload-of-reads.Asked, payload-of-reads.Learnt, met-after-reads.Asked, met-after-reads.Learnt, shape-of-reads.Asked, shape-of-reads.Learnt) (terms-at t) terms.Post terms-Inv-loop terms-μ-loop
+terms-loop-again-3 t c = let q : variable (getD (c .before .before .before .before .before .before .before .before .before .before .before .before .before .args .s .now) (c .before .before .before .before .before .before .before .before .before .before .loop .at) 0) ≡ false = sym (c .before .before .before .before .before .is-variable .ensures) ∙ c .before .before .before .before .if3 .left in
+    let d = ordered-cell (c .before .before .before .before .before .before .before .before .before .before .loop .count) (getD (c .before .before .before .before .before .before .before .before .before .before .before .before .before .args .s .now) (c .before .before .before .before .before .before .before .before .before .before .loop .at) 0) q in
+    record {
+      from-at = omega arith;
+      at-in = omega arith;
+      due-small = omega (arith, symbol-small arity16 arity16-small _ _ (terms-shape t (c .before)));
+      count-in = omega arith;
+      room = omega arith;
+      out-kept = simp length-set (c .before .before .before .before .before .before .before .before .before .before .loop .inv .out-kept);
+      goes-on = λ o r w.
+          c .before .before .before .before .before .before .before .before .before .before .loop .inv .goes-on o r
+          (forms-symbol arity16 (c .before .before .before .before .before .before .before .before .before .before .before .before .before .args .s .now) (c .before .before .before .before .before .before .before .before .before .before .loop .at) (c .before .before .before .before .before .before .before .before .before .before .loop .due) (c .before .before .before .before .before .before .before .before .before .before .loop .count) (c .before .before .before .before .before .before .before .before .before .before .loop .out) (c .before .before .before .before .before .before .before .before .before .before .loop .to) o (omega arith) (c .before .before .before .before .before .before .before .before .if1 .left) (c .before .k .given .0 .0) (c .before .k .given .0 .0 + (c .before .before .before .before .before .before .before .before .before .before .loop .due - 1)) (c .before .before .before .before .before .before .before .before .before .before .loop .count) r
+          (terms-shape t (c .before)) refl (d .0) (sym (d .1)) w);
+    }
+
+terms-same-length-5 : (t : ℕ) → terms-lts.Need-same-length-5 (list-below t, list.Post, is-variable-reads.Asked, is-variable-reads.Learnt, payload-of-reads.Asked, payload-of-reads.Learnt, met-after-reads.Asked, met-after-reads.Learnt, shape-of-reads.Asked, shape-of-reads.Learnt) (terms-at t) terms.Post terms-Inv-loop terms-μ-loop
+terms-same-length-5 t c = search needs
+
+terms-returns-5 : (t : ℕ) → terms-lts.Need-returns-5 (list-below t, list.Post, is-variable-reads.Asked, is-variable-reads.Learnt, payload-of-reads.Asked, payload-of-reads.Learnt, met-after-reads.Asked, met-after-reads.Learnt, shape-of-reads.Asked, shape-of-reads.Learnt) (terms-at t) terms.Post terms-Inv-loop terms-μ-loop
+terms-returns-5 t c = c .before .loop .inv .goes-on (c .before .loop .out) (Done (c .before .loop .at) (c .before .loop .to) (c .before .loop .count)) (forms-none arity16 (c .before .before .before .before .args .s .now) (c .before .loop .at) (c .before .loop .due) (c .before .loop .count) (c .before .loop .out) (c .before .loop .to) (omega arith))
+
+pub +element+ending+list+terms-spec : {M : Type 1} → statement M
++element+ending+list+terms-spec = close μ-element μ-ending μ-list μ-terms (λ t. element-lts.spec (is-constant-reads.Asked, is-constant-reads.Learnt, terms-below t, terms.Post)
+    (element-at t)
+    element.Post
+    (element-mul-c t)
+    (element-shared-slice-read-c t)
+    (element-is-constant-requires t)
+    (element-mul-out t)
+    (element-slice-write-out t)
+    (element-add-t11 t)
+    (element-add-t13 t)
+    (element-same-length t)
+    (element-returns t)
+    (element-terms-requires t)
+    (element-same-length-2 t)
+    (element-returns-2 t))
+    (λ t. ending-lts.spec
+    (terms-below t, terms.Post)
+    (ending-at t)
+    ending.Post
+    (ending-add-if1 t)
+    (ending-returns t)
+    (ending-add-c t)
+    (ending-mul-c t)
+    (ending-shared-slice-read-c t)
+    (ending-returns-2 t)
+    (ending-returns-3 t)
+    (ending-add-terms t)
+    (ending-terms-requires t)
+    (ending-same-length t)
+    (ending-returns-4 t))
+    (λ t. list-lts.spec (ending-below t, ending.Post, terms-below t, terms.Post, element-below t, element.Post)
+    (list-at t)
+    list.Post
+    list-Inv-loop
+    list-μ-loop
+    (list-loop-holds t)
+    (list-same-length t)
+    (list-returns t)
+    (list-mul-c t)
+    (list-shared-slice-read-c t)
+    (list-ending-requires t)
+    (list-same-length-2 t)
+    (list-returns-2 t)
+    (list-same-length-3 t)
+    (list-returns-3 t)
+    (list-mul-out t)
+    (list-slice-write-out t)
+    (list-add-terms t)
+    (list-add-terms-2 t)
+    (list-terms-requires t)
+    (list-enum-known-next t)
+    (list-enum-told t)
+    (list-same-length-4 t)
+    (list-returns-4 t)
+    (list-mul-out-2 t)
+    (list-slice-write-out-2 t)
+    (list-add-t29 t)
+    (list-same-length-5 t)
+    (list-returns-5 t)
+    (list-add-element t)
+    (list-element-requires t)
+    (list-enum-known-next-2 t)
+    (list-enum-told-2 t)
+    (list-same-length-6 t)
+    (list-returns-6 t)
+    (list-loop-less t)
+    (list-loop-again t))
+    λ t. terms-lts.spec (list-below t, list.Post, is-variable-reads.Asked, is-variable-reads.Learnt, payload-of-reads.Asked, payload-of-reads.Learnt, met-after-reads.Asked, met-after-reads.Learnt, shape-of-reads.Asked, shape-of-reads.Learnt)
+    (terms-at t)
+    terms.Post
+    terms-Inv-loop
+    terms-μ-loop
+    (terms-loop-holds t)
+    (terms-same-length t)
+    (terms-returns t)
+    (terms-mul-c t)
+    (terms-shared-slice-read-c t)
+    (terms-add-list t)
+    (terms-list-requires t)
+    (terms-enum-known-next t)
+    (terms-enum-told t)
+    (terms-same-length-2 t)
+    (terms-returns-2 t)
+    (terms-sub-due t)
+    (terms-loop-less t)
+    (terms-loop-again t)
+    (terms-is-variable-requires t)
+    (terms-payload-of-requires t)
+    (terms-same-length-3 t)
+    (terms-returns-3 t)
+    (terms-mul-out t)
+    (terms-slice-write-out t)
+    (terms-met-after-requires t)
+    (terms-add-at t)
+    (terms-add-to t)
+    (terms-sub-due-2 t)
+    (terms-loop-less-2 t)
+    (terms-loop-again-2 t)
+    (terms-shape-of-requires t)
+    (terms-enum-known-k t)
+    (terms-same-length-4 t)
+    (terms-returns-4 t)
+    (terms-mul-out-2 t)
+    (terms-slice-write-out-2 t)
+    (terms-add-at-2 t)
+    (terms-add-to-2 t)
+    (terms-sub-due-3 t)
+    (terms-add-due t)
+    (terms-loop-less-3 t)
+    (terms-loop-again-3 t)
+    (terms-same-length-5 t)
+    (terms-returns-5 t)

@@ -1,0 +1,70 @@
+-- What the readers of compact form answer and write: the families that their contracts cite.
+use Prim.Native.Nat.{ℕ, _+_, _<_}
+use mathlib.Core.List.{List, [], _∷_, _++_}
+use mathlib.Core.Bool.{Bool, true, false}
+use mathlib.Core.Logic.{_⊎_}
+use mathlib.Core.Path.{_≡_}
+use lib.ListN.{length, drop}
+use lib.Seq.{sets}
+use lib.Dec.{eqb, leb}
+use Rattle.basis.specs.Choice.{pick}
+use Rattle.convert.specs.declared.Step.{Step}
+use Rattle.convert.specs.declared.Step.the-variants.{Done, Malformed}
+use Rattle.forms.specs.Cells.{payload, variable, BLIST, shapeOf, tokenOf}
+use Rattle.forms.specs.Terms.{Term, pairs, every}
+use Rattle.forms.specs.Compact.{compact, elements, Item, into, collected, whole, items, front}
+use Rattle.forms.proofs.ReadLaws.{WellFormed, AllWellFormed}
+
+-- ---- variables in the order of first meeting
+
+-- a variable is one of the k met before, or the next
+unfoldable pub inOrder : ℕ → ℕ → Bool
+inOrder k c = pick (variable c) (leb (payload c) k) true
+
+-- how many are met then
+unfoldable pub after : ℕ → ℕ → ℕ
+after k c = pick (variable c) (pick (eqb (payload c) k) (k + 1) k) k
+
+unfoldable pub ordered : ℕ → List ℕ → Bool
+ordered k [] = true
+ordered k (c ∷ cs) = pick (inOrder k c) (ordered (after k c) cs) false
+
+unfoldable pub counted : ℕ → List ℕ → ℕ
+counted k [] = k
+counted k (c ∷ cs) = counted (after k c) cs
+
+-- ---- what was read
+
+-- what stands in s from place at on
+abbrev pub itemsAt : (ℕ → ℕ) → List ℕ → ℕ → List Item
+itemsAt arity s at = items (tokenOf arity) (drop at s)
+
+-- from at to next stand the cells of form, with variables in order, and pair cells were written for them
+pub record Span (s : List ℕ) (at : ℕ) (form : List ℕ) (count : ℕ) (out : List ℕ) (to : ℕ) (pair-cells : List ℕ) (out′ : List ℕ) (next end count′ : ℕ) : Type 0 where
+  pub cells : drop at s ≡ form ++ drop next s
+  pub next-at : next ≡ at + length form
+  pub end-at : end ≡ to + length pair-cells
+  pub wrote : out′ ≡ sets out to pair-cells
+  pub numbers : ordered count form ≡ true
+  pub known : count′ ≡ counted count form
+
+-- n terms were read, and their pair forms are written; or there are fewer, or variables out of order
+abbrev pub FormsRan : (ℕ → ℕ) → List ℕ → ℕ → ℕ → ℕ → List ℕ → ℕ → List ℕ → Step → Type 0
+FormsRan arity s at n count out to out′ (Done next end count′) =
+    (ts : List Term) × AllWellFormed (shapeOf arity) ts × (length ts ≡ n) × Span s at (every compact ts) count out to (every pairs ts) out′ next end count′
+FormsRan arity s at n count out to out′ Malformed = (length (front (itemsAt arity s at)) < n) ⊎ (ordered count (drop at s) ≡ false)
+
+-- the rest of a list, behind an element (some) or behind BLIST
+abbrev pub Rest : Bool → Term → List ℕ → Type 0
+Rest true u form = (e : List ℕ) → elements e u ≡ e ++ form
+Rest false u form = ((e : List ℕ) → elements e u ≡ e ++ form) × (compact u ≡ BLIST ∷ form)
+
+abbrev pub NoRest : Bool → List Item → Type 0
+NoRest true is = (e : Term) → into e (collected is) ≡ []
+NoRest false is = whole (collected is) ≡ []
+
+-- the rest of a list was read, and written; or there is none, or variables are out of order
+abbrev pub RestRan : (ℕ → ℕ) → List ℕ → ℕ → Bool → ℕ → List ℕ → ℕ → List ℕ → Step → Type 0
+RestRan arity s at some count out to out′ (Done next end count′) =
+    (u : Term) × WellFormed (shapeOf arity) u 0 × (form : List ℕ) × Rest some u form × Span s at form count out to (pairs u) out′ next end count′
+RestRan arity s at some count out to out′ Malformed = NoRest some (itemsAt arity s at) ⊎ (ordered count (drop at s) ≡ false)

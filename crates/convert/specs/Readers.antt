@@ -1,0 +1,51 @@
+-- What the readers of pair form answer and write: the families that their contracts cite.
+use Prim.Native.Nat.{ℕ, _+_, _≤_, _<_}
+use mathlib.Core.List.{List, [], _∷_}
+use mathlib.Core.Path.{_≡_}
+use lib.ListN.{length, take, drop}
+use lib.Seq.{sets}
+use Rattle.convert.specs.declared.Step.{Step}
+use Rattle.convert.specs.declared.Step.the-variants.{Done, Malformed}
+use Rattle.forms.specs.Cells.{shapeOf}
+use Rattle.forms.specs.Terms.{Term, pairs, every, reads}
+use Rattle.forms.specs.Numbering.{seen, met, renamed}
+use Rattle.forms.specs.Compact.{compact, elements}
+
+-- the cells numbered, where the variables vs were met before them
+unfoldable pub numberedFrom : List ℕ → List ℕ → List ℕ
+numberedFrom vs [] = []
+numberedFrom vs (c ∷ cs) = renamed (seen vs c) c ∷ numberedFrom (seen vs c) cs
+
+-- the cells of `form` are numbered and written from `to` on, and their variables are known
+pub record Stored (form vars : List ℕ) (count : ℕ) (out : List ℕ) (to : ℕ) (vars′ : List ℕ) (count′ : ℕ) (out′ : List ℕ) (end : ℕ) : Type 0 where
+  pub end-at : end ≡ to + length form
+  pub cells : out′ ≡ sets out to (numberedFrom (take count vars) form)
+  pub known : take count′ vars′ ≡ met (take count vars) form
+  pub count-at : count′ ≡ length (met (take count vars) form)
+  pub kept : length vars′ ≡ length vars
+
+-- the terms that stand in s from place at on
+abbrev pub termsAt : (ℕ → ℕ) → List ℕ → ℕ → List Term
+termsAt arity s at = reads (shapeOf arity) (drop at s)
+
+-- n terms were read, and their compact forms are stored; or there are fewer than n
+abbrev pub TermsRan : (ℕ → ℕ) → List ℕ → ℕ → ℕ → List ℕ → ℕ → List ℕ → ℕ → List ℕ → List ℕ → Step → Type 0
+TermsRan arity s at n vars count out to vars′ out′ (Done next end count′) =
+    (n ≤ length (termsAt arity s at))
+    × (next ≡ at + length (every pairs (take n (termsAt arity s at))))
+    × Stored (every compact (take n (termsAt arity s at))) vars count out to vars′ count′ out′ end
+TermsRan arity s at n vars count out to vars′ out′ Malformed = length (termsAt arity s at) < n
+
+-- the elements of the list that two terms, an element and a tail, go on
+unfoldable pub elementsOf : List Term → List ℕ
+elementsOf [] = []
+elementsOf (h ∷ []) = []
+elementsOf (h ∷ t ∷ ts) = elements (compact h) t
+
+-- an element and a tail were read, and the list's elements are stored; or there are fewer than two terms
+abbrev pub ListRan : (ℕ → ℕ) → List ℕ → ℕ → List ℕ → ℕ → List ℕ → ℕ → List ℕ → List ℕ → Step → Type 0
+ListRan arity s at vars count out to vars′ out′ (Done next end count′) =
+    (2 ≤ length (termsAt arity s at))
+    × (next ≡ at + length (every pairs (take 2 (termsAt arity s at))))
+    × Stored (elementsOf (termsAt arity s at)) vars count out to vars′ count′ out′ end
+ListRan arity s at vars count out to vars′ out′ Malformed = length (termsAt arity s at) < 2

@@ -1,0 +1,160 @@
+// The readers of pair form, which write compact form and number variables as they read.
+use crate::Step;
+ghost use mathlib.Core.Path.{_≡_};
+ghost use mathlib.Core.Bool.{true};
+ghost use mathlib.Core.List.{_∷_};
+ghost use Prim.Native.Nat.{ℕ, _+_, _*_, _-_, _^_, _≤_, _<_};
+ghost use lib.ListN.{length, take, drop, set};
+ghost use lib.Seq.{sets};
+ghost use lib.Dec.{ltb};
+ghost use Rattle.basis.specs.Choice.{pick};
+ghost use Rattle.forms.specs.Cells.{arity16};
+ghost use Rattle.forms.specs.Numbering.{rank};
+ghost use Rattle.convert.specs.Readers.{TermsRan, ListRan};
+
+// The rank of the variable c among the first `count` cells of vars, or count. Puts c behind them,
+// so that the search always ends at it.
+fn number(vars: &mut [u32], count: usize, c: u32) -> usize
+    requires { ⌜ count < length (now vars) ⌝ }
+    ensures { λ r. ⌜ (r ≡ rank (take count (now (vars .entry))) c) × (now (vars .exit) ≡ set (now (vars .entry)) count c) ⌝ }
+{
+    vars[count] = c;
+    let mut i = 0;
+    while vars[i] != c {
+        i += 1;
+    }
+    i
+}
+
+// How many variables are known after one of rank r, where `count` were before.
+fn known_after(r: usize, count: usize) -> usize
+    requires { ⌜ count < 2 ^ 32 ⌝ }
+    ensures { λ n. ⌜ n ≡ pick (ltb r count) count (count + 1) ⌝ }
+{
+    if r < count {
+        return count;
+    }
+    count + 1
+}
+
+// Moves the cells from `to` up to `end` one place up and puts x before them.
+fn insert(out: &mut [u32], to: usize, end: usize, x: u32)
+    requires { ⌜ (to ≤ end) × (end < length (now out)) ⌝ }
+    ensures { λ _. ⌜ now (out .exit) ≡ sets (now (out .entry)) to (x ∷ take (end - to) (drop to (now (out .entry)))) ⌝ }
+{
+    let mut i = to;
+    let mut moved = x;
+    while i < end {
+        let y = out[i];
+        out[i] = moved;
+        moved = y;
+        i += 1;
+    }
+    out[i] = moved;
+}
+
+// Reads n terms from `from` on and writes their compact forms from `start` on.
+pub fn terms(
+    s: &[u32],
+    from: usize,
+    n: usize,
+    vars: &mut [u32],
+    known: usize,
+    out: &mut [u32],
+    start: usize,
+) -> Step
+    requires { ⌜ (length (now s) ≤ 256) × (length (now s) ≤ length (now vars)) × (3 * length (now s) ≤ 2 * length (now out)) × (from ≤ length (now s)) × (n ≤ 256 + 256 * from) × (known ≤ from) × (2 * start ≤ 3 * from) ⌝ }
+    ensures { λ r. ⌜ TermsRan arity16 (now (s .entry)) from n (now (vars .entry)) known (now (out .entry)) start (now (vars .exit)) (now (out .exit)) r ⌝ }
+{
+    let mut at = from;
+    let mut due = n;
+    let mut count = known;
+    let mut to = start;
+    while 0 < due {
+        if s.len() <= at {
+            return Step::Malformed;
+        }
+        let c = s[at];
+        if forms::is_variable(c) {
+            let r = number(vars, count, c);
+            out[to] = forms::VARIABLE + r as u32;
+            count = known_after(r, count);
+            at += 1;
+            to += 1;
+            due -= 1;
+            continue;
+        }
+        match forms::shape_of(c) {
+            forms::Shape::Symbol(k) => {
+                out[to] = c;
+                at += 1;
+                to += 1;
+                due = k + (due - 1);
+            }
+            forms::Shape::Pair => {
+                out[to] = forms::BLIST;
+                let Step::Done(next, end, met) = list(s, at + 1, vars, count, out, to + 1) else {
+                    return Step::Malformed;
+                };
+                at = next;
+                to = end;
+                count = met;
+                due -= 1;
+            }
+            forms::Shape::Illegal => return Step::Malformed,
+        }
+    }
+    Step::Done(at, to, count)
+}
+
+// Reads a list's element and its tail from `from` on, and writes the list's elements from `start` on.
+fn list(
+    s: &[u32],
+    from: usize,
+    vars: &mut [u32],
+    known: usize,
+    out: &mut [u32],
+    start: usize,
+) -> Step
+    requires { ⌜ (length (now s) ≤ 256) × (length (now s) ≤ length (now vars)) × (3 * length (now s) ≤ 2 * length (now out)) × (from ≤ length (now s)) × (known ≤ from) × (2 * start + 1 ≤ 3 * from) ⌝ }
+    ensures { λ r. ⌜ ListRan arity16 (now (s .entry)) from (now (vars .entry)) known (now (out .entry)) start (now (vars .exit)) (now (out .exit)) r ⌝ }
+{
+    let mut at = from;
+    let mut count = known;
+    let mut to = start;
+    loop {
+        let Step::Done(next, end, met) = element(s, at, vars, count, out, to) else {
+            return Step::Malformed;
+        };
+        if s.len() <= next {
+            return Step::Malformed;
+        }
+        let c = s[next];
+        if c == forms::NIL {
+            insert(out, to, end, forms::ELIST);
+            return Step::Done(next + 1, end + 1, met);
+        }
+        if c != forms::PAIR {
+            out[end] = forms::EPAIR;
+            return terms(s, next, 1, vars, met, out, end + 1);
+        }
+        at = next + 1;
+        to = end;
+        count = met;
+    }
+}
+
+// Reads one element of a list. Most are constants, and take no call of the term reader.
+fn element(s: &[u32], at: usize, vars: &mut [u32], count: usize, out: &mut [u32], to: usize) -> Step
+    requires { ⌜ (length (now s) ≤ 256) × (length (now s) ≤ length (now vars)) × (3 * length (now s) ≤ 2 * length (now out)) × (at ≤ length (now s)) × (count ≤ at) × (2 * to ≤ 3 * at) ⌝ }
+    ensures { λ r. ⌜ TermsRan arity16 (now (s .entry)) at 1 (now (vars .entry)) count (now (out .entry)) to (now (vars .exit)) (now (out .exit)) r ⌝ }
+{
+    if at < s.len() {
+        let c = s[at];
+        if forms::is_constant(c) {
+            out[to] = c;
+            return Step::Done(at + 1, to + 1, count);
+        }
+    }
+    terms(s, at, 1, vars, count, out, to)
+}

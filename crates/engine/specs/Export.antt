@@ -1,0 +1,45 @@
+-- What the exports return, and every byte of out afterwards, for every input and every out.
+use Prim.Native.Nat.{ℕ, _+_, _*_, _^_, _/_, _%_}
+use mathlib.Core.List.{List, _++_}
+use lib.ListN.{length, drop}
+use lib.Dec.{eqb}
+use Rattle.basis.specs.Choice.{pick}
+use Rattle.forms.specs.declared.Answer.{Answer}
+use Rattle.forms.specs.declared.Answer.the-variants.{Cells, Refused, Short}
+use Rattle.forms.specs.Cells.{arity16}
+use Rattle.forms.specs.Compact.{compactForm, pairForm}
+use Rattle.forms.specs.Converting.{compacting, expanding}
+use Rattle.engine.specs.Bytes.{cellsOf, bytesOf}
+
+-- what a call returns, and the bytes of out after it
+pub data Outcome : Type 0 where
+  outcome : ℕ → List ℕ → Outcome
+
+-- an answer as a number: the cells written, or 2^31 + the refusal; the need of 12 is not given
+unfoldable pub word : Answer → ℕ
+word (Cells n) = n
+word (Refused r) = 2 ^ 31 + r
+word (Short n) = 2 ^ 31 + 12
+
+-- the bytes of out: those of the cells written before what was there; refused, what was there
+unfoldable pub writtenBytes : Answer → List ℕ → List ℕ → List ℕ
+writtenBytes (Cells n) cells out = bytesOf cells ++ drop (4 * n) out
+writtenBytes (Refused r) cells out = out
+writtenBytes (Short n) cells out = out
+
+-- the outcome of an answer, where `cells` are those to be written
+unfoldable pub handed : Answer → List ℕ → List ℕ → Outcome
+handed a cells out = outcome (word a) (writtenBytes a cells out)
+
+-- a converter's answer over bytes: a byte count of input not divisible by 4 is 3, before all else;
+-- only whole cells of out are room
+unfoldable pub exported : (List ℕ → ℕ → Answer) → List ℕ → List ℕ → Answer
+exported converter input out = pick (eqb (length input % 4) 0) (converter (cellsOf input) (length out / 4)) (Refused 3)
+
+-- `tables_compact` of one term
+unfoldable pub compactBytes : List ℕ → List ℕ → Outcome
+compactBytes input out = handed (exported (compacting arity16 1) input out) (compactForm arity16 (cellsOf input)) out
+
+-- `tables_expand` of the form of one term
+unfoldable pub expandBytes : List ℕ → List ℕ → Outcome
+expandBytes input out = handed (exported (expanding arity16 1) input out) (pairForm arity16 (cellsOf input)) out

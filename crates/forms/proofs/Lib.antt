@@ -1,0 +1,9 @@
+pub mod ShapeLaws
+pub mod ReadLaws
+pub mod CompactLaws
+pub mod NumberingLaws
+pub mod FormLaws
+pub mod ExactLaws
+pub mod RoundTrip
+pub mod LongestForms
+pub mod Theorems

@@ -1,0 +1,55 @@
+-- What compacting and expanding answer, and what is in out afterwards, for every list of cells and every length of out.
+use Prim.Native.Nat.{ℕ}
+use mathlib.Core.List.{List, [], _++_}
+use lib.ListN.{length, drop}
+use lib.Dec.{leb, ltb}
+use Rattle.basis.specs.Choice.{pick}
+use Rattle.forms.specs.declared.Reading.{Reading}
+use Rattle.forms.specs.declared.Reading.the-variants.{Form, Refusal}
+use Rattle.forms.specs.declared.Loading.{Loading}
+use Rattle.forms.specs.declared.Loading.the-variants.{Terms, NoForm}
+use Rattle.forms.specs.declared.Answer.{Answer}
+use Rattle.forms.specs.declared.Answer.the-variants.{Cells, Refused, Short}
+use Rattle.forms.specs.Terms.{areTerms}
+use Rattle.forms.specs.Numbering.{met}
+use Rattle.forms.specs.Compact.{compactForm, pairForm, legalForm}
+
+-- reading m terms: refusals 4, 3 and 5, in this order; else the tokens of their form and their variables
+unfoldable pub reading : (ℕ → ℕ) → ℕ → List ℕ → Reading
+reading arity m cs =
+    pick (ltb 256 (length cs)) (Refusal 4)
+    (pick (areTerms arity m cs)
+    (pick (ltb 32 (length (met [] cs))) (Refusal 5) (Form (length (compactForm arity cs)) (length (met [] cs))))
+    (Refusal 3))
+
+-- loading the form of m terms: the cells of their pair form, where it is legal
+unfoldable pub loading : (ℕ → ℕ) → ℕ → List ℕ → Loading
+loading arity m cs = pick (legalForm arity m cs) (Terms (length (pairForm arity cs))) NoForm
+
+-- what does not fit is refused (12) with the need
+unfoldable pub fitting : ℕ → ℕ → Answer
+fitting need room = pick (leb need room) (Cells need) (Short need)
+
+-- a form that was read goes into an out of `room` cells; a refusal by the reader is handed on
+unfoldable pub fittingForm : Reading → ℕ → Answer
+fittingForm (Form n v) room = fitting n room
+fittingForm (Refusal r) room = Refused r
+
+-- terms that were loaded go into an out of `room` cells; what is no form is 13
+unfoldable pub fittingTerms : Loading → ℕ → Answer
+fittingTerms (Terms n) room = fitting n room
+fittingTerms NoForm room = Refused 13
+
+-- compacting m terms into an out of `room` cells: refusals 4, 3, 5 and 12, in this order
+unfoldable pub compacting : (ℕ → ℕ) → ℕ → List ℕ → ℕ → Answer
+compacting arity m cs room = fittingForm (reading arity m cs) room
+
+-- expanding m terms into an out of `room` cells: refusals 13 and 12, in this order
+unfoldable pub expanding : (ℕ → ℕ) → ℕ → List ℕ → ℕ → Answer
+expanding arity m cs room = fittingTerms (loading arity m cs) room
+
+-- what is in out afterwards: the cells written before what was there; refused, what was there
+unfoldable pub written : Answer → List ℕ → List ℕ → List ℕ
+written (Cells n) form out = form ++ drop n out
+written (Refused r) form out = out
+written (Short n) form out = out

@@ -1,0 +1,119 @@
+// What a cell stands for, in pair form and in compact form, and what readers and converters answer.
+ghost use mathlib.Core.Path.{_≡_};
+ghost use Rattle.forms.specs.Cells.{shapeOf, arity16, payload, variable, constant, callable};
+
+// What a cell of pair form stands for: a symbol that takes some arguments (a variable, an atom and
+// an integer take none), a pair, or nothing legal.
+pub enum Shape {
+    Symbol(usize),
+    Pair,
+    Illegal,
+}
+
+// What a cell of compact form stands for: a symbol, the beginning of a list (BLIST), what stands
+// before its last element (ELIST) or before the term that it ends in (EPAIR), or nothing legal.
+pub enum Token {
+    Sym(usize),
+    Begin,
+    Last,
+    Tail,
+    Other,
+}
+
+// What reading terms gives: the tokens of their form and the distinct variables in it, or the number
+// of a refusal.
+pub enum Reading {
+    Form(usize, usize),
+    Refusal(u32),
+}
+
+// What loading a form gives: the cells of its terms in pair form, or that it is no legal form.
+pub enum Loading {
+    Terms(usize),
+    NoForm,
+}
+
+// What a converter answers: the cells written, the number of a refusal, or, for refusal 12, the
+// cells that out would need.
+pub enum Answer {
+    Cells(usize),
+    Refused(u32),
+    Short(usize),
+}
+
+// The empty list [], which is atom 0.
+pub const NIL: u32 = 536870912;
+// The pair of pair form.
+pub const PAIR: u32 = 1342177280;
+// The marks of compact form.
+pub const BLIST: u32 = 1610612736;
+
+pub const ELIST: u32 = 1879048192;
+
+pub const EPAIR: u32 = 2147483648;
+// Variable 0: the variable of rank r is r more.
+pub const VARIABLE: u32 = 268435456;
+
+// Whether a cell is a variable.
+pub fn is_variable(c: u32) -> bool
+    ensures { λ r. ⌜ r ≡ variable c ⌝ }
+{
+    c / 268435456 == 1
+}
+
+// The payload of a cell, as an index.
+pub fn payload_of(c: u32) -> usize
+    ensures { λ r. ⌜ r ≡ payload c ⌝ }
+{
+    basis::wide(c % 268435456)
+}
+
+// Whether a cell is an atom or an integer.
+pub fn is_constant(c: u32) -> bool
+    ensures { λ r. ⌜ r ≡ constant c ⌝ }
+{
+    let kind = c / 268435456;
+    if kind == 2 {
+        return true;
+    }
+    kind == 3
+}
+
+// Whether a cell is an atom or a functor, with which a called term begins.
+pub fn is_callable(c: u32) -> bool
+    ensures { λ r. ⌜ r ≡ callable c ⌝ }
+{
+    let kind = c / 268435456;
+    if kind == 2 {
+        return true;
+    }
+    kind == 4
+}
+
+// The shape of a cell of edition 1.
+pub fn shape_of(c: u32) -> Shape
+    ensures { λ r. ⌜ r ≡ shapeOf arity16 c ⌝ }
+{
+    let kind = c / 268435456;
+    let payload = c % 268435456;
+    if kind == 4 {
+        let k = (payload % 16) as usize;
+        if k == 0 {
+            return Shape::Illegal;
+        }
+        return Shape::Symbol(k);
+    }
+    if kind == 5 {
+        if payload == 0 {
+            return Shape::Pair;
+        }
+        return Shape::Illegal;
+    }
+    if kind == 0 {
+        return Shape::Illegal;
+    }
+    if kind < 4 {
+        return Shape::Symbol(0);
+    }
+    Shape::Illegal
+}
