@@ -19,7 +19,8 @@ int = tag 3
 abbrev fun : ℕ → ℕ → ℕ
 fun name arity = tag 4 (name * 16 + arity)
 
-pub marked :
+abbrev pub MarkedTerms : Type 0
+MarkedTerms =
     -- M1 f(X,g(Y,X),Z)
     (compactForm arity16 (fun 1 3 ∷ var 7 ∷ fun 2 2 ∷ var 9 ∷ var 7 ∷ var 8 ∷ []) ≡ fun 1 3 ∷ var 0 ∷ fun 2 2 ∷ var 1 ∷ var 0 ∷ var 2 ∷ [])
     -- M2 f(g(Y,Z),X,Z)
@@ -39,5 +40,7 @@ pub marked :
     -- M7 and M8 are 13
     × (expanding arity16 1 (BLIST ∷ EPAIR ∷ int 1 ∷ []) 256 ≡ Refused 13)
     × (expanding arity16 1 (BLIST ∷ int 1 ∷ EPAIR ∷ nil ∷ []) 256 ≡ Refused 13)
+
+pub marked : MarkedTerms
 unfolding compactForm reading loading fittingForm fittingTerms compacting expanding legalForm areTerms areForms fitting pairForm formTerms front symbolic tokenOf items entered filled lastOf tailOf into inside collected whole reads begun applied paired shapeOf every compact elements pairs numbered renamed met seen rank same
 marked = (refl, refl, refl, refl, refl, refl, refl, refl, refl, refl, refl)

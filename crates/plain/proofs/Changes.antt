@@ -1,0 +1,195 @@
+-- What a call may leave, case by case; what it changes, and that a refused one changes nothing.
+use mathlib.Core.Path.{_≡_, refl, subst}
+use mathlib.Core.Bool.{Bool, true, false}
+use mathlib.Core.List.{List, [], _++_}
+use mathlib.Core.Logic.{_⊎_, inl, inr}
+use Prim.Native.Nat.{ℕ, suc, _≤_, _<_}
+use native.Mathlib.Omega.{arith}
+use lib.Dec.{eqb, leb, ltb}
+use lib.ListN.{length, drop}
+use borrow.Author.Tests.{ne-eqb, ltb-true, leb-true, leb-false}
+use Rattle.basis.specs.Choice.{pick}
+use Rattle.basis.proofs.Cases.{by-cases}
+use Rattle.plain.specs.Words.{Word, has}
+use Rattle.plain.specs.Coding.{Coding, Reading, refused, accepted}
+use Rattle.plain.specs.CodingLaws.{CodingLaws}
+use Rattle.plain.specs.Requests.{State, Open, Finished, Request, call, answer, finish, next, load, instance, counts, new, oldSubgoal, oldAnswer, cells, refused, short, Result, lent}
+use Rattle.plain.specs.Table.{Table, subgoalAt, answerAt, subgoalOfAnswer, calledForms, answersTo, nodes, subgoalOf, answerOf, following, withSubgoal, withAnswer, withFinished, stays, becomes, known, fits, appended, called, answered, whileOpen, starting, onward, writes, step}
+use Rattle.plain.specs.Consequences.{RefusedBy, Refusing, RefusingBy}
+use Rattle.plain.proofs.NumberLaws.{Called, subgoalOf-none, subgoalOf-some, Given, answerOf-none, answerOf-some}
+
+-- ---- room
+
+pub fits-room : (t : Table) (n : ℕ) → fits t n ≡ true → nodes t ≤ n
+unfolding fits
+fits-room t n e = omega (arith, leb-true)
+
+pub fits-full : (t : Table) (n : ℕ) → fits t n ≡ false → n < nodes t
+unfolding fits
+fits-full t n e = omega (arith, leb-false)
+
+-- ---- the cases of each definition, for what is to be shown of a result
+
+module _ (P : Result Table → Type 0) (t : Table) where
+  pub known-cases : (out : List ℕ) (n s : ℕ) (r : Result Table) → P (stays t out (refused 7)) → (0 < s → s ≤ n → P r) → P (known t out n s r)
+  known-cases out n s r refuses accepts = by-cases (ltb 0 s)
+      (λ e. by-cases (leb s n) (λ f. rw (e, f) (accepts (ltb-true _ _ e) (leb-true _ _ f))) (λ f. rw (e, f) refuses))
+      (λ e. rw e refuses)
+
+  -- 10 comes exactly where the nodes used would be above N, and 11 only where they would not
+  pub appended-cases : (more : Table) (room : Bool) (n : ℕ) → (t .N < nodes more → P (becomes t (refused 10))) → (nodes more ≤ t .N → room ≡ false → P (becomes t (refused 11)))
+      → (nodes more ≤ t .N → room ≡ true → P (becomes more (new n))) → P (appended t more room n)
+  unfolding appended
+  appended-cases more room n ten eleven accepts = by-cases (fits more (t .N))
+      (λ e. let k = fits-room more (t .N) e in by-cases room (λ f. rw (e, f) (accepts k f)) (λ f. rw (e, f) (eleven k f)))
+      (λ e. rw e (ten (fits-full more (t .N) e)))
+
+  pub called-cases : (w : Word) (m : ℕ) → ((s : ℕ) → Called t w s → P (becomes t (oldSubgoal s (subgoalAt t s .state))))
+      → (has (calledForms (t .subgoals)) w ≡ false → P (appended t (withSubgoal t w m) (ltb (length (t .subgoals)) (t .F)) (suc (length (t .subgoals)))))
+      → P (called t (accepted w m))
+  unfolding called
+  called-cases w m old fresh = by-cases (has (calledForms (t .subgoals)) w)
+      (λ e. let r = subgoalOf-some t w e in rw (ne-eqb (subgoalOf t w) 0 (λ z. omega (arith, r .low))) (old (subgoalOf t w) r))
+      (λ e. rw (subgoalOf-none t w e) (fresh e))
+
+  pub answered-cases : (s : ℕ) (w : Word) (m : ℕ) → ((a : ℕ) → Given t s w a → P (becomes t (oldAnswer a)))
+      → (has (answersTo (t .answers) s) w ≡ false → P (appended t (withAnswer t s w) (ltb (length (t .answers)) (t .A)) (suc (length (t .answers)))))
+      → P (answered t s (accepted w m))
+  unfolding answered
+  answered-cases s w m old fresh = by-cases (has (answersTo (t .answers) s) w)
+      (λ e. let r = answerOf-some t s w e in rw (ne-eqb (answerOf t s w) 0 (λ z. omega (arith, r .low))) (old (answerOf t s w) r))
+      (λ e. rw (answerOf-none t s w e) (fresh e))
+
+  pub open-cases : (s : State) (r : Result Table) → (s ≡ Finished → P (becomes t (refused 8))) → (s ≡ Open → P r) → P (whileOpen t s r)
+  open-cases Open r refuses accepts = accepts refl
+  open-cases Finished r refuses accepts = refuses refl
+
+  pub writes-cases : (cs out : List ℕ) → P (stays t out (short (length cs)))
+      → (length cs ≤ length out → P (record { reply = cells (length cs); out = cs ++ drop (length cs) out; state = t })) → P (writes t cs out)
+  unfolding writes
+  writes-cases cs out refuses accepts = by-cases (leb (length cs) (length out)) (λ e. rw e (accepts (leb-true _ _ e))) (λ e. rw e refuses)
+
+-- ---- what a call changes
+
+module _ (c : Coding) (t : Table) where
+  -- a form that the table lacks enters as a subgoal
+  pub record SubgoalEnters (w : Word) (m : ℕ) : Type 0 where
+    pub cs : List ℕ
+    pub reading : c .called cs ≡ accepted w m
+    pub absent : has (calledForms (t .subgoals)) w ≡ false
+    pub room : nodes (withSubgoal t w m) ≤ t .N
+    pub free : length (t .subgoals) < t .F
+
+  -- a form that an open subgoal lacks enters as its answer
+  pub record AnswerEnters (s : ℕ) (w : Word) : Type 0 where
+    pub low : 0 < s
+    pub high : s ≤ length (t .subgoals)
+    pub is-open : subgoalAt t s .state ≡ Open
+    pub cs : List ℕ
+    pub n : ℕ
+    pub reading : c .answered (subgoalAt t s .m) cs ≡ accepted w n
+    pub absent : has (answersTo (t .answers) s) w ≡ false
+    pub room : nodes (withAnswer t s w) ≤ t .N
+    pub free : length (t .answers) < t .A
+
+  pub data Changed : Table → Type 0 where
+    stayed : Changed t
+    subgoal-enters : (w : Word) (m : ℕ) → SubgoalEnters w m → Changed (withSubgoal t w m)
+    answer-enters : (s : ℕ) (w : Word) → AnswerEnters s w → Changed (withAnswer t s w)
+    finishes : (s : ℕ) → 0 < s → s ≤ length (t .subgoals) → Changed (withFinished t s)
+
+  abbrev Leaves : Result Table → Type 0
+  Leaves r = Changed (r .state)
+
+  called-changed : (cs : List ℕ) (r : Reading) → c .called cs ≡ r → Leaves (called t r)
+  called-changed cs (refused n) e = unfold called in stayed
+  called-changed cs (accepted w m) e =
+      called-cases Leaves t w m (λ s k. stayed)
+      (λ absent. appended-cases Leaves t (withSubgoal t w m) (ltb (length (t .subgoals)) (t .F)) (suc (length (t .subgoals))) (λ full. stayed) (λ room full. stayed)
+      (λ room free. subgoal-enters w m (record { cs = cs; reading = e; absent = absent; room = room; free = ltb-true _ _ free })))
+
+  answered-changed : (s : ℕ) → 0 < s → s ≤ length (t .subgoals) → subgoalAt t s .state ≡ Open
+      → (cs : List ℕ) (r : Reading) → c .answered (subgoalAt t s .m) cs ≡ r → Leaves (answered t s r)
+  answered-changed s low high is-open cs (refused n) e = unfold answered in stayed
+  answered-changed s low high is-open cs (accepted w n) e =
+      answered-cases Leaves t s w n (λ s k. stayed)
+      (λ absent. appended-cases Leaves t (withAnswer t s w) (ltb (length (t .answers)) (t .A)) (suc (length (t .answers))) (λ full. stayed) (λ room full. stayed)
+      (λ room free. answer-enters s w (record { low = low; high = high; is-open = is-open; cs = cs; n = n; reading = e; absent = absent; room = room; free = ltb-true _ _ free })))
+
+  pub step-changed : (q : Request) → Changed (step c t q .state)
+  unfolding step
+  step-changed (call cs) = called-changed cs (c .called cs) refl
+  step-changed (answer s cs) =
+      known-cases Leaves t [] (length (t .subgoals)) s _ stayed
+      (λ low high. open-cases Leaves t (subgoalAt t s .state) _ (λ e. stayed) (λ is-open. answered-changed s low high is-open cs (c .answered (subgoalAt t s .m) cs) refl))
+  step-changed (finish s) = known-cases Leaves t [] (length (t .subgoals)) s _ stayed (λ low high. finishes s low high)
+  step-changed (next s a) = known-cases Leaves t [] (length (t .subgoals)) s _ stayed (λ low high. stayed)
+  step-changed (load a out) =
+      known-cases Leaves t out (length (t .answers)) a _ stayed (λ low high. writes-cases Leaves t (c .expand (answerAt t a .form)) out stayed (λ fits. stayed))
+  step-changed (instance a out) =
+      known-cases Leaves t out (length (t .answers)) a _ stayed
+      (λ low high. writes-cases Leaves t (c .instanceOf (subgoalAt t (subgoalOfAnswer t a) .form) (answerAt t a .form)) out stayed (λ fits. stayed))
+  step-changed counts = stayed
+
+-- ---- refusals
+
+-- where the reply is a refusal, the table stays, and out as lent, and the number is one of those in Q
+module _ (c : Coding) (t : Table) (Q : ℕ → Type 0)
+    (called-by : (cs : List ℕ) (r : ℕ) → c .called cs ≡ refused r → Q r)
+    (answered-by : (m : ℕ) (cs : List ℕ) (r : ℕ) → c .answered m cs ≡ refused r → Q r)
+    (seven : Q 7) (eight : Q 8) (ten : Q 10) (eleven : Q 11) (twelve : Q 12) where
+  abbrev Keeps : List ℕ → Result Table → Type 0
+  Keeps out x = (r : ℕ) → RefusedBy r (x .reply) → (x .state ≡ t) × (x .out ≡ out) × Q r
+
+  keeps : (out : List ℕ) (n : ℕ) → Q n → Keeps out (stays t out (refused n))
+  keeps out n q r h = (refl, refl, subst Q h q)
+
+  appended-keeps : (more : Table) (room : Bool) (n : ℕ) → Keeps [] (appended t more room n)
+  appended-keeps more room n = appended-cases (Keeps []) t more room n (λ full. keeps [] 10 ten) (λ room full. keeps [] 11 eleven) (λ e f r h. absurd h)
+
+  writes-keeps : (cs out : List ℕ) → Keeps out (writes t cs out)
+  writes-keeps cs out = writes-cases (Keeps out) t cs out (λ r h. (refl, refl, subst Q h twelve)) (λ fits r h. absurd h)
+
+  called-keeps : (x : Reading) → ((r : ℕ) → x ≡ refused r → Q r) → Keeps [] (called t x)
+  called-keeps (refused n) f = unfold called in keeps [] n (f n refl)
+  called-keeps (accepted w m) f =
+      called-cases (Keeps []) t w m (λ s k r h. absurd h) (λ absent. appended-keeps (withSubgoal t w m) (ltb (length (t .subgoals)) (t .F)) (suc (length (t .subgoals))))
+
+  answered-keeps : (s : ℕ) (x : Reading) → ((r : ℕ) → x ≡ refused r → Q r) → Keeps [] (answered t s x)
+  answered-keeps s (refused n) f = unfold answered in keeps [] n (f n refl)
+  answered-keeps s (accepted w m) f =
+      answered-cases (Keeps []) t s w m (λ s k r h. absurd h) (λ absent. appended-keeps (withAnswer t s w) (ltb (length (t .answers)) (t .A)) (suc (length (t .answers))))
+
+  onward-keeps : (s a : ℕ) → Keeps [] (becomes t (pick (starting t s a) (onward t s a) (refused 7)))
+  unfolding onward
+  onward-keeps s a = by-cases (starting t s a)
+      (λ e. by-cases (eqb (following t s a) 0) (λ f. rw (e, f) (λ r h. absurd h)) (λ f. rw (e, f) (λ r h. absurd h)))
+      (λ e. rw e (keeps [] 7 seven))
+
+  pub step-keeps : (q : Request) → Keeps (lent q) (step c t q)
+  unfolding step lent
+  step-keeps (call cs) = called-keeps (c .called cs) (called-by cs)
+  step-keeps (answer s cs) =
+      known-cases (Keeps []) t [] (length (t .subgoals)) s _ (keeps [] 7 seven)
+      (λ low high. open-cases (Keeps []) t (subgoalAt t s .state) _ (λ e. keeps [] 8 eight)
+      (λ is-open. answered-keeps s (c .answered (subgoalAt t s .m) cs) (answered-by (subgoalAt t s .m) cs)))
+  step-keeps (finish s) = known-cases (Keeps []) t [] (length (t .subgoals)) s _ (keeps [] 7 seven) (λ low high r h. absurd h)
+  step-keeps (next s a) = known-cases (Keeps []) t [] (length (t .subgoals)) s _ (keeps [] 7 seven) (λ low high. onward-keeps s a)
+  step-keeps (load a out) = known-cases (Keeps out) t out (length (t .answers)) a _ (keeps out 7 seven) (λ low high. writes-keeps (c .expand (answerAt t a .form)) out)
+  step-keeps (instance a out) =
+      known-cases (Keeps out) t out (length (t .answers)) a _ (keeps out 7 seven)
+      (λ low high. writes-keeps (c .instanceOf (subgoalAt t (subgoalOfAnswer t a) .form) (answerAt t a .form)) out)
+  step-keeps counts = λ r h. absurd h
+
+pub refusing : (c : Coding) → Refusing c
+refusing c t q r h = let k = step-keeps c t (λ n. Unit {0}) (λ cs n e. tt) (λ m cs n e. tt) tt tt tt tt tt q r h in (k .0, k .1)
+
+-- the numbers of the refusals that the table knows
+abbrev Number : ℕ → Type 0
+Number r = ((3 ≤ r) × (r ≤ 8)) ⊎ ((10 ≤ r) × (r ≤ 12))
+
+pub refusing-by : (c : Coding) → CodingLaws c → RefusingBy c
+refusing-by c laws t q r h =
+    let low : (b : ℕ) → b ≤ 8 → (n : ℕ) → (3 ≤ n) × (n ≤ b) → Number n = λ b k n e. inl (e .0, omega (arith, e .1)) in
+    step-keeps c t Number (λ cs n e. low 6 (omega arith) n (laws .called-refused cs n e)) (λ m cs n e. low 5 (omega arith) n (laws .answered-refused m cs n e))
+    (inl (omega arith, omega arith)) (inl (omega arith, omega arith)) (inr (omega arith, omega arith)) (inr (omega arith, omega arith)) (inr (omega arith, omega arith)) q r h .2

@@ -1,0 +1,76 @@
+-- What lasts while calls go on: capacities, records under their numbers, and that a subgoal is finished.
+use mathlib.Core.Path.{_≡_, refl, _∙_}
+use mathlib.Core.List.{List, [], _∷_}
+use Prim.Native.Nat.{ℕ, _≤_}
+use native.Mathlib.Omega.{arith}
+use lib.ListN.{length}
+use Rattle.plain.specs.Coding.{Coding}
+use Rattle.plain.specs.Requests.{Request, left}
+use Rattle.plain.specs.Table.{Table, subgoalAt, answerAt, step}
+use Rattle.plain.proofs.RecordLaws.{Lasts, equal-lasts, subgoalAt-before, subgoals-count, answerAt-before, answers-count, subgoalAt-lasts, finished-count}
+use Rattle.plain.proofs.Changes.{Changed, stayed, subgoal-enters, answer-enters, finishes, step-changed}
+
+pub record Grows (t u : Table) : Type 0 where
+  pub N : u .N ≡ t .N
+  pub F : u .F ≡ t .F
+  pub A : u .A ≡ t .A
+  pub more-subgoals : length (t .subgoals) ≤ length (u .subgoals)
+  pub subgoals : (s : ℕ) → s ≤ length (t .subgoals) → Lasts (subgoalAt t s) (subgoalAt u s)
+  pub more-answers : length (t .answers) ≤ length (u .answers)
+  pub answers : (a : ℕ) → a ≤ length (t .answers) → answerAt u a ≡ answerAt t a
+
+pub grows-refl : (t : Table) → Grows t t
+grows-refl t = record { N = refl; F = refl; A = refl; more-subgoals = omega arith; subgoals = λ s h. equal-lasts _ _ refl; more-answers = omega arith; answers = λ a h. refl }
+
+pub grows-trans : (t u v : Table) → Grows t u → Grows u v → Grows t v
+grows-trans t u v g h = record {
+  N = h .N ∙ g .N;
+  F = h .F ∙ g .F;
+  A = h .A ∙ g .A;
+  more-subgoals = omega (arith, g .more-subgoals, h .more-subgoals);
+  subgoals = λ s k.
+      let x = g .subgoals s k in
+      let y = h .subgoals s (omega (arith, g .more-subgoals)) in
+      record { form = y .form ∙ x .form; m = y .m ∙ x .m; finished = λ z. y .finished (x .finished z) };
+  more-answers = omega (arith, g .more-answers, h .more-answers);
+  answers = λ a k. h .answers a (omega (arith, g .more-answers)) ∙ g .answers a k;
+}
+
+pub changed-grows : (c : Coding) (t u : Table) → Changed c t u → Grows t u
+unfolding answerAt
+changed-grows c t u stayed = grows-refl t
+changed-grows c t u (subgoal-enters w m e) = record {
+  N = refl;
+  F = refl;
+  A = refl;
+  more-subgoals = omega (arith, subgoals-count t w m);
+  subgoals = λ s h. equal-lasts _ _ (subgoalAt-before t w m s h);
+  more-answers = omega arith;
+  answers = λ a h. refl;
+}
+changed-grows c t u (answer-enters s w e) = record {
+  N = refl;
+  F = refl;
+  A = refl;
+  more-subgoals = omega arith;
+  subgoals = λ x h. equal-lasts _ _ (unfold subgoalAt in refl);
+  more-answers = omega (arith, answers-count t s w);
+  answers = λ a h. answerAt-before t s w a h;
+}
+changed-grows c t u (finishes s low high) = record {
+  N = refl;
+  F = refl;
+  A = refl;
+  more-subgoals = omega (arith, finished-count t s);
+  subgoals = λ x h. subgoalAt-lasts t s x low high;
+  more-answers = omega arith;
+  answers = λ a h. refl;
+}
+
+pub step-grows : (c : Coding) (t : Table) (q : Request) → Grows t (step c t q .state)
+step-grows c t q = changed-grows c t (step c t q .state) (step-changed c t q)
+
+pub left-grows : (c : Coding) (t : Table) (qs : List Request) → Grows t (left (step c) t qs)
+unfolding left
+left-grows c t [] = grows-refl t
+left-grows c t (q ∷ qs) = grows-trans t (step c t q .state) (left (step c) (step c t q .state) qs) (step-grows c t q) (left-grows c (step c t q .state) qs)

@@ -1,0 +1,220 @@
+-- Every table that calls make of a fresh one is sound: room is kept, no form is held twice, and each was read from lent cells.
+use mathlib.Core.Path.{_≡_, sym, ap, _∙_}
+use mathlib.Core.Bool.{true≢false}
+use mathlib.Core.List.{List, [], _∷_}
+use Prim.Native.Nat.{ℕ, suc, _≤_, _<_}
+use native.Mathlib.Omega.{arith}
+use lib.Dec.{eqb}
+use lib.ListN.{length}
+use borrow.Author.Tests.{eqb-true, eqb-false}
+use Rattle.basis.proofs.Cases.{by-cases}
+use Rattle.plain.specs.Words.{Word, has, union, allInits, prefixes, distinct}
+use Rattle.plain.specs.Coding.{Coding, accepted}
+use Rattle.plain.specs.Requests.{Request, left}
+use Rattle.plain.specs.Table.{Table, Subgoal, Answer, fresh, subgoalAt, answerAt, subgoalOfAnswer, calledForms, answersTo, answerNodes, nodes, withSubgoal, withAnswer, withFinished, step}
+use Rattle.plain.specs.Consequences.{Kept, reached, Keeping}
+use Rattle.plain.proofs.RecordLaws.{subgoalAt-before, subgoalAt-new, subgoals-count, answerAt-before, answerAt-new, answers-count, subgoalAt-lasts, called-held, answer-held, finished-forms, finished-count}
+use Rattle.plain.proofs.Changes.{SubgoalEnters, AnswerEnters, Changed, stayed, subgoal-enters, answer-enters, finishes, step-changed}
+use Rattle.plain.proofs.Growth.{left-grows}
+
+-- what is kept, and the cells that each stored form was read from
+pub record Sound (c : Coding) (t : Table) : Type 0 where
+  pub kept : Kept t
+  pub called : (s : ℕ) → 0 < s → s ≤ length (t .subgoals) → (cs : List ℕ) × (c .called cs ≡ accepted (subgoalAt t s .form) (subgoalAt t s .m))
+  pub answered : (a : ℕ) → 0 < a → a ≤ length (t .answers)
+      → (cs : List ℕ) × (n : ℕ) × (c .answered (subgoalAt t (subgoalOfAnswer t a) .m) cs ≡ accepted (answerAt t a .form) n)
+
+pub sound-fresh : (c : Coding) (n f a : ℕ) → 0 < n → Sound c (fresh n f a)
+sound-fresh c n f a h = record {
+  kept = record {
+    room = unfold nodes answerNodes distinct prefixes allInits union in h;
+    subgoal-room = omega arith;
+    answer-room = omega arith;
+    answered = λ x p q. absurd (omega arith);
+    subgoals-differ = λ i j p q. absurd (omega arith);
+    answers-differ = λ i j p q. absurd (omega arith);
+  };
+  called = λ s p q. absurd (omega arith);
+  answered = λ s p q. absurd (omega arith);
+}
+
+-- a number of one of n + 1 records is that of one of n, or the last
+last-or : {A : Type 0} (i n : ℕ) → i ≤ suc n → (i ≡ suc n → A) → (i ≤ n → A) → A
+last-or i n h f g = by-cases (eqb i (suc n)) (λ e. f (eqb-true _ _ e)) (λ e. let z : i ≡ suc n → ⊥ = eqb-false _ _ e in g (below i n h z))
+  where
+    below : (i n : ℕ) → i ≤ suc n → (i ≡ suc n → ⊥) → i ≤ n
+    below i n h z = omega arith
+
+module _ (c : Coding) (t : Table) (sound : Sound c t) where
+  abbrev kept : Kept t
+  kept = sound .kept
+
+  module _ (w : Word) (m : ℕ) (e : SubgoalEnters c t w m) where
+    -- the table with the subgoal, and its number
+    abbrev grown : Table
+    grown = withSubgoal t w m
+
+    abbrev last : ℕ
+    last = suc (length (t .subgoals))
+
+    grown-count : length (grown .subgoals) ≡ last
+    grown-count = subgoals-count t w m
+
+    -- no subgoal has the new one's form
+    old-form : (s : ℕ) → 0 < s → s ≤ length (t .subgoals) → subgoalAt grown s .form ≡ w → ⊥
+    old-form s p q z =
+        let f : subgoalAt t s .form ≡ w = ap (λ (g : Subgoal). g .form) (sym (subgoalAt-before t w m s q)) ∙ z in
+        true≢false (sym (called-held t s p q) ∙ ap (has (calledForms (t .subgoals))) f ∙ e .absent)
+
+    new-form : subgoalAt grown last .form ≡ w
+    new-form = ap (λ (g : Subgoal). g .form) (subgoalAt-new t w m)
+
+    grown-differ : (i j : ℕ) → 0 < i → i ≤ length (grown .subgoals) → 0 < j → j ≤ length (grown .subgoals) → subgoalAt grown i .form ≡ subgoalAt grown j .form → i ≡ j
+    grown-differ i j p q r s z =
+        last-or i (length (t .subgoals)) (omega (arith, grown-count))
+        (λ x. last-or j (length (t .subgoals)) (omega (arith, grown-count)) (λ y. x ∙ sym y)
+        (λ y. absurd (old-form j r y (sym z ∙ ap (λ (k : ℕ). subgoalAt grown k .form) x ∙ new-form))))
+        (λ x. last-or j (length (t .subgoals)) (omega (arith, grown-count))
+        (λ y. absurd (old-form i p x (z ∙ ap (λ (k : ℕ). subgoalAt grown k .form) y ∙ new-form)))
+        (λ y. kept .subgoals-differ i j p x r y
+        (ap (λ (g : Subgoal). g .form) (sym (subgoalAt-before t w m i x)) ∙ z ∙ ap (λ (g : Subgoal). g .form) (subgoalAt-before t w m j y))))
+
+    grown-called : (s : ℕ) → 0 < s → s ≤ length (grown .subgoals) → (cs : List ℕ) × (c .called cs ≡ accepted (subgoalAt grown s .form) (subgoalAt grown s .m))
+    grown-called s p q =
+        last-or s (length (t .subgoals)) (omega (arith, grown-count))
+        (λ x. (e .cs, rw (x, subgoalAt-new t w m) (e .reading)))
+        (λ x. rw (subgoalAt-before t w m s x) (sound .called s p x))
+
+    grown-answered : (a : ℕ) → 0 < a → a ≤ length (t .answers) → (0 < subgoalOfAnswer t a) × (subgoalOfAnswer t a ≤ length (grown .subgoals))
+    grown-answered a p q = let k = kept .answered a p q in (k .0, omega (arith, k .1, grown-count))
+
+    pub sound-subgoal : Sound c grown
+    sound-subgoal = record {
+      kept = record {
+        room = e .room;
+        subgoal-room = omega (arith, e .free, grown-count);
+        answer-room = kept .answer-room;
+        answered = unfold answerAt in grown-answered;
+        subgoals-differ = grown-differ;
+        answers-differ = unfold answerAt in kept .answers-differ;
+      };
+      called = grown-called;
+      answered = λ a p q. unfold answerAt in
+          rw (subgoalAt-before t w m (subgoalOfAnswer t a) (kept .answered a p q .1)) (sound .answered a p q);
+    }
+
+  module _ (s : ℕ) (w : Word) (e : AnswerEnters c t s w) where
+    -- the table with the answer, and its number
+    abbrev fuller : Table
+    fuller = withAnswer t s w
+
+    abbrev latest : ℕ
+    latest = suc (length (t .answers))
+
+    fuller-count : length (fuller .answers) ≡ latest
+    fuller-count = answers-count t s w
+
+    before : (a : ℕ) → a ≤ length (t .answers) → answerAt fuller a ≡ answerAt t a
+    before a h = answerAt-before t s w a h
+
+    newest : answerAt fuller latest ≡ record { subgoal = s; form = w }
+    newest = answerAt-new t s w
+
+    before-subgoal : (a : ℕ) → a ≤ length (t .answers) → subgoalOfAnswer fuller a ≡ subgoalOfAnswer t a
+    before-subgoal a h = ap (λ (x : Answer). x .subgoal) (before a h)
+
+    newest-subgoal : subgoalOfAnswer fuller latest ≡ s
+    newest-subgoal = ap (λ (x : Answer). x .subgoal) newest
+
+    -- no answer to the subgoal has the new one's form
+    old-answer : (a : ℕ) → 0 < a → a ≤ length (t .answers) → subgoalOfAnswer t a ≡ s → answerAt t a .form ≡ w → ⊥
+    old-answer a p q x y =
+        true≢false (sym (answer-held t a p q) ∙ ap (λ (k : ℕ). has (answersTo (t .answers) k) (answerAt t a .form)) x ∙ ap (has (answersTo (t .answers) s)) y ∙ e .absent)
+
+    fuller-differ : (a b : ℕ) → 0 < a → a ≤ length (fuller .answers) → 0 < b → b ≤ length (fuller .answers)
+        → subgoalOfAnswer fuller a ≡ subgoalOfAnswer fuller b → answerAt fuller a .form ≡ answerAt fuller b .form → a ≡ b
+    fuller-differ a b p q r z f g =
+        last-or a (length (t .answers)) (omega (arith, fuller-count))
+        (λ x. last-or b (length (t .answers)) (omega (arith, fuller-count)) (λ y. x ∙ sym y)
+        (λ y. absurd (old-answer b r y (sym (rw (x, newest-subgoal, before-subgoal b y) at f)) (sym (rw (x, newest, before b y) at g)))))
+        (λ x. last-or b (length (t .answers)) (omega (arith, fuller-count))
+        (λ y. absurd (old-answer a p x (rw (y, newest-subgoal, before-subgoal a x) at f) (rw (y, newest, before a x) at g)))
+        (λ y. kept .answers-differ a b p x r y (rw (before-subgoal a x, before-subgoal b y) at f) (rw (before a x, before b y) at g)))
+
+    fuller-answered : (a : ℕ) → 0 < a → a ≤ length (fuller .answers) → (cs : List ℕ) × (n : ℕ) × (c .answered (subgoalAt t (subgoalOfAnswer fuller a) .m) cs ≡ accepted (answerAt fuller a .form) n)
+    fuller-answered a p q =
+        last-or a (length (t .answers)) (omega (arith, fuller-count))
+        (λ x. (e .cs, e .n, rw (x, newest-subgoal, newest) (e .reading)))
+        (λ x. rw (before-subgoal a x, before a x) (sound .answered a p x))
+
+    pub sound-answer : Sound c fuller
+    sound-answer = record {
+      kept = record {
+        room = e .room;
+        subgoal-room = kept .subgoal-room;
+        answer-room = omega (arith, e .free, fuller-count);
+        answered = λ a p q.
+            last-or a (length (t .answers)) (omega (arith, fuller-count))
+            (λ x. rw (x, newest-subgoal) (e .low, e .high))
+            (λ x. rw (before-subgoal a x) (kept .answered a p x));
+        subgoals-differ = unfold subgoalAt in kept .subgoals-differ;
+        answers-differ = fuller-differ;
+      };
+      called = unfold subgoalAt in sound .called;
+      answered = unfold subgoalAt in fuller-answered;
+    }
+
+  module _ (s : ℕ) (low : 0 < s) (high : s ≤ length (t .subgoals)) where
+    -- the table with the subgoal finished
+    abbrev ended : Table
+    ended = withFinished t s
+
+    ended-count : length (ended .subgoals) ≡ length (t .subgoals)
+    ended-count = finished-count t s
+
+    ended-nodes : nodes ended ≡ nodes t
+    unfolding nodes
+    ended-nodes = rw (finished-forms t s low, finished-count t s)
+
+    ended-form : (x : ℕ) → subgoalAt ended x .form ≡ subgoalAt t x .form
+    ended-form x = subgoalAt-lasts t s x low high .form
+
+    ended-m : (x : ℕ) → subgoalAt ended x .m ≡ subgoalAt t x .m
+    ended-m x = subgoalAt-lasts t s x low high .m
+
+    ended-answered : (a : ℕ) → 0 < a → a ≤ length (t .answers) → (cs : List ℕ) × (n : ℕ) × (c .answered (subgoalAt ended (subgoalOfAnswer t a) .m) cs ≡ accepted (answerAt t a .form) n)
+    ended-answered a p q = rw (ended-m (subgoalOfAnswer t a)) (sound .answered a p q)
+
+    pub sound-finished : Sound c ended
+    sound-finished = record {
+      kept = record {
+        room = omega (arith, ended-nodes, kept .room);
+        subgoal-room = omega (arith, ended-count, kept .subgoal-room);
+        answer-room = kept .answer-room;
+        answered = unfold answerAt in λ a p q. let k = kept .answered a p q in (k .0, omega (arith, k .1, ended-count));
+        subgoals-differ = λ i j p q r z f. kept .subgoals-differ i j p (omega (arith, ended-count)) r (omega (arith, ended-count)) (sym (ended-form i) ∙ f ∙ ended-form j);
+        answers-differ = unfold answerAt in kept .answers-differ;
+      };
+      called = λ x p q. rw (ended-form x, ended-m x) (sound .called x p (omega (arith, ended-count)));
+      answered = unfold answerAt in ended-answered;
+    }
+
+pub sound-changed : (c : Coding) (t u : Table) → Sound c t → Changed c t u → Sound c u
+sound-changed c t u sound stayed = sound
+sound-changed c t u sound (subgoal-enters w m e) = sound-subgoal c t sound w m e
+sound-changed c t u sound (answer-enters s w e) = sound-answer c t sound s w e
+sound-changed c t u sound (finishes s low high) = sound-finished c t sound s low high
+
+pub sound-step : (c : Coding) (t : Table) (q : Request) → Sound c t → Sound c (step c t q .state)
+sound-step c t q sound = sound-changed c t (step c t q .state) sound (step-changed c t q)
+
+pub sound-left : (c : Coding) (t : Table) → Sound c t → (qs : List Request) → Sound c (left (step c) t qs)
+unfolding left
+sound-left c t sound [] = sound
+sound-left c t sound (q ∷ qs) = sound-left c (step c t q .state) (sound-step c t q sound) qs
+
+pub sound-reached : (c : Coding) (n f a : ℕ) → 0 < n → (qs : List Request) → Sound c (reached c n f a qs)
+sound-reached c n f a h qs = sound-left c (fresh n f a) (sound-fresh c n f a h) qs
+
+pub keeping : (c : Coding) → Keeping c
+keeping c n f a h qs = let g = left-grows c (fresh n f a) qs in (sound-reached c n f a h qs .kept, g .N, g .F, g .A)

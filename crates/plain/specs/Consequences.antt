@@ -1,0 +1,147 @@
+-- What follows for every list of calls: statements that a reader asks for, proved of every coding that meets the laws.
+use mathlib.Core.List.{List, [], _∷_, _++_}
+use mathlib.Core.Logic.{_⊎_}
+use mathlib.Core.Path.{_≡_}
+use Prim.Native.Nat.{ℕ, suc, _+_, _-_, _<_, _≤_, max}
+use lib.Dec.{eqb}
+use lib.ListN.{length, take}
+use Rattle.basis.specs.Choice.{pick}
+use Rattle.forms.specs.Numbering.{numbered}
+use Rattle.plain.specs.Words.{Word, distinct}
+use Rattle.plain.specs.Coding.{Coding}
+use Rattle.plain.specs.Requests.{Request, call, answer, finish, next, load, instance, Reply, new, oldSubgoal, oldAnswer, done, at, none, cells, used, refused, short, lent, left}
+use Rattle.plain.specs.Table.{Table, Answer, fresh, subgoalAt, answerAt, subgoalOfAnswer, nodes, writes, step}
+
+-- ---- distinct prefixes
+
+-- how many leading tokens two words share
+unfoldable pub common : Word → Word → ℕ
+common [] w = 0
+common (x ∷ v) [] = 0
+common (x ∷ v) (y ∷ w) = pick (eqb x y) (suc (common v w)) 0
+
+-- the most that a word of the list shares with w
+unfoldable pub most : List Word → Word → ℕ
+most [] w = 0
+most (v ∷ vs) w = max (common v w) (most vs w)
+
+-- one word more brings as many distinct prefixes as it has tokens past the longest that it shares
+abbrev pub Brought : Type 0
+Brought = (ws : List Word) (w : Word) → distinct (ws ++ (w ∷ [])) ≡ distinct ws + (length w - most ws w)
+
+-- ---- replies
+
+-- the reply is new or old with this number
+abbrev pub Gives : ℕ → Reply → Type 0
+Gives i (new n) = n ≡ i
+Gives i (oldSubgoal n s) = n ≡ i
+Gives i (oldAnswer n) = n ≡ i
+Gives i done = ⊥
+Gives i (at n) = ⊥
+Gives i none = ⊥
+Gives i (cells n) = ⊥
+Gives i (used n) = ⊥
+Gives i (refused n) = ⊥
+Gives i (short n) = ⊥
+
+-- the reply is the refusal of this number; too short an out is 12
+abbrev pub RefusedBy : ℕ → Reply → Type 0
+RefusedBy r (new n) = ⊥
+RefusedBy r (oldSubgoal n s) = ⊥
+RefusedBy r (oldAnswer n) = ⊥
+RefusedBy r done = ⊥
+RefusedBy r (at n) = ⊥
+RefusedBy r none = ⊥
+RefusedBy r (cells n) = ⊥
+RefusedBy r (used n) = ⊥
+RefusedBy r (refused n) = n ≡ r
+RefusedBy r (short n) = 12 ≡ r
+
+-- ---- next
+
+-- the numbers, from n on, of the answers to subgoal s, in increasing order
+unfoldable pub numbersOf : ℕ → ℕ → List Answer → List ℕ
+numbersOf s n [] = []
+numbersOf s n (a ∷ l) = let r = numbersOf s (suc n) l in pick (eqb (a .subgoal) s) (n ∷ r) r
+
+-- next from a on gives these numbers, each from the one before, and then none
+abbrev pub Visits : Coding → Table → ℕ → ℕ → List ℕ → Type 0
+Visits c t s a [] = step c t (next s a) .reply ≡ none
+Visits c t s a (b ∷ bs) = (step c t (next s a) .reply ≡ at b) × Visits c t s b bs
+
+-- ---- tables
+
+-- what holds of every table that calls make
+pub record Kept (t : Table) : Type 0 where
+  pub room : nodes t ≤ t .N
+  pub subgoal-room : length (t .subgoals) ≤ t .F
+  pub answer-room : length (t .answers) ≤ t .A
+  -- every answer is to a subgoal
+  pub answered : (a : ℕ) → 0 < a → a ≤ length (t .answers) → (0 < subgoalOfAnswer t a) × (subgoalOfAnswer t a ≤ length (t .subgoals))
+  -- no two subgoals have one form, and no two answers under one subgoal
+  pub subgoals-differ : (i j : ℕ) → 0 < i → i ≤ length (t .subgoals) → 0 < j → j ≤ length (t .subgoals) → subgoalAt t i .form ≡ subgoalAt t j .form → i ≡ j
+  pub answers-differ : (a b : ℕ) → 0 < a → a ≤ length (t .answers) → 0 < b → b ≤ length (t .answers)
+      → subgoalOfAnswer t a ≡ subgoalOfAnswer t b → answerAt t a .form ≡ answerAt t b .form → a ≡ b
+
+module _ (c : Coding) where
+  -- the table that a list of calls makes of a fresh one
+  abbrev pub reached : ℕ → ℕ → ℕ → List Request → Table
+  reached n f a qs = left (step c) (fresh n f a) qs
+
+  -- a refused call leaves the table and out as they were
+  abbrev pub Refusing : Type 0
+  Refusing = (t : Table) (q : Request) (r : ℕ) → RefusedBy r (step c t q .reply) → (step c t q .state ≡ t) × (step c t q .out ≡ lent q)
+
+  -- calls are refused by 3 to 8 and 10 to 12, never by 1, 2 or 9
+  abbrev pub RefusingBy : Type 0
+  RefusingBy = (t : Table) (q : Request) (r : ℕ) → RefusedBy r (step c t q .reply) → ((3 ≤ r) × (r ≤ 8)) ⊎ ((10 ≤ r) × (r ≤ 12))
+
+  -- next from 0 on gives every answer to a subgoal once, in increasing order, and then none
+  abbrev pub Visiting : Type 0
+  Visiting = (t : Table) (s : ℕ) → 0 < s → s ≤ length (t .subgoals) → Visits c t s 0 (numbersOf s 1 (t .answers))
+
+  -- two calls give one number exactly where their terms are variants, whatever was called before and in between
+  abbrev pub Calling : Type 0
+  Calling = (n f a : ℕ) → 0 < n → (before between : List Request) (cs ds : List ℕ) (i j : ℕ)
+      → (let t = reached n f a before in
+      let u = left (step c) (step c t (call cs) .state) between in
+      Gives i (step c t (call cs) .reply) → Gives j (step c u (call ds) .reply) → (i ≡ j → numbered cs ≡ numbered ds) × (numbered cs ≡ numbered ds → i ≡ j))
+
+  -- and so do two answers to one subgoal
+  abbrev pub Answering : Type 0
+  Answering = (n f a : ℕ) → 0 < n → (before between : List Request) (s : ℕ) (cs ds : List ℕ) (i j : ℕ)
+      → (let t = reached n f a before in
+      let u = left (step c) (step c t (answer s cs) .state) between in
+      Gives i (step c t (answer s cs) .reply) → Gives j (step c u (answer s ds) .reply) → (i ≡ j → numbered cs ≡ numbered ds) × (numbered cs ≡ numbered ds → i ≡ j))
+
+  -- load gives back the numbered terms that came with an answer, whatever was called in between
+  abbrev pub Loading : Type 0
+  Loading = (t : Table) (s i : ℕ) (cs : List ℕ) (between : List Request) (out : List ℕ)
+      → (let u = left (step c) (step c t (answer s cs) .state) between in
+      Gives i (step c t (answer s cs) .reply) → step c u (load i out) ≡ writes u (numbered cs) out)
+
+  -- a finished subgoal takes no more answers
+  abbrev pub Finishing : Type 0
+  Finishing = (t : Table) (s : ℕ) (cs : List ℕ) (qs : List Request)
+      → step c t (finish s) .reply ≡ done → step c (left (step c) (step c t (finish s) .state) qs) (answer s cs) .reply ≡ refused 8
+
+  -- room is kept, numbers lead to records, and no form is held twice
+  abbrev pub Keeping : Type 0
+  Keeping = (n f a : ℕ) → 0 < n → (qs : List Request) → (let t = reached n f a qs in Kept t × (t .N ≡ n) × (t .F ≡ f) × (t .A ≡ a))
+
+  -- the variables of the cells that instance writes are numbered by first meeting
+  abbrev pub Numbering : Type 0
+  Numbering = (n f a : ℕ) → 0 < n → (qs : List Request) (b k : ℕ) (out : List ℕ)
+      → (let r = step c (reached n f a qs) (instance b out) in r .reply ≡ cells k → numbered (take k (r .out)) ≡ take k (r .out))
+
+-- all of it
+pub record Consequences (c : Coding) : Type 0 where
+  pub refusing : Refusing c
+  pub refusing-by : RefusingBy c
+  pub visiting : Visiting c
+  pub calling : Calling c
+  pub answering : Answering c
+  pub loading : Loading c
+  pub finishing : Finishing c
+  pub keeping : Keeping c
+  pub numbering : Numbering c

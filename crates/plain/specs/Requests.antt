@@ -1,0 +1,71 @@
+-- The calls with all that is lent to them, what they answer, and what is compared after each call of a list.
+use mathlib.Core.List.{List, [], _∷_}
+use Prim.Native.Nat.{ℕ}
+
+pub data State : Type 0 where
+  Open : State
+  Finished : State
+
+-- A call with its numbers and the cells lent to it. Load and instance are lent out; the others get none.
+pub data Request : Type 0 where
+  call : (term : List ℕ) → Request
+  answer : (subgoal : ℕ) (terms : List ℕ) → Request
+  finish : (subgoal : ℕ) → Request
+  next : (subgoal a : ℕ) → Request
+  load : (a : ℕ) (out : List ℕ) → Request
+  instance : (a : ℕ) (out : List ℕ) → Request
+  counts : Request
+
+-- nodes, subgoals and answers used
+pub record Counts : Type 0 where
+  pub nodes : ℕ
+  pub subgoals : ℕ
+  pub answers : ℕ
+
+-- What a call answers: numbers of subgoals or answers, the cells written, the counts, a refusal's
+-- number; for refusal 12 (short) the cells that out would need.
+pub data Reply : Type 0 where
+  new : ℕ → Reply
+  oldSubgoal : ℕ → State → Reply
+  oldAnswer : ℕ → Reply
+  done : Reply
+  at : ℕ → Reply
+  none : Reply
+  cells : ℕ → Reply
+  used : Counts → Reply
+  refused : ℕ → Reply
+  short : ℕ → Reply
+
+-- what a call leaves: its answer, out, and the table
+pub record Result (S : Type 0) : Type 0 where
+  pub reply : Reply
+  pub out : List ℕ
+  pub state : S
+
+-- out as lent
+unfoldable pub lent : Request → List ℕ
+lent (call cs) = []
+lent (answer s cs) = []
+lent (finish s) = []
+lent (next s a) = []
+lent (load a out) = out
+lent (instance a out) = out
+lent counts = []
+
+-- what is compared after a call: its answer, the three counts, every cell of out
+pub record Seen : Type 0 where
+  pub reply : Reply
+  pub counted : Counts
+  pub out : List ℕ
+
+-- what is seen of a list of calls, each on the table as the one before left it
+unfoldable pub trace : {S : Type 0} → (S → Request → Result S) → (S → Counts) → S → List Request → List Seen
+trace step counted s [] = []
+trace step counted s (q ∷ qs) =
+    let r = step s q in
+    record { reply = r .reply; counted = counted (r .state); out = r .out } ∷ trace step counted (r .state) qs
+
+-- the table that a list of calls leaves
+unfoldable pub left : {S : Type 0} → (S → Request → Result S) → S → List Request → S
+left step s [] = s
+left step s (q ∷ qs) = left step (step s q .state) qs

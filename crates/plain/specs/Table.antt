@@ -1,0 +1,204 @@
+-- The plain table: subgoals and answers as lists of forms, and what each call answers and changes.
+use mathlib.Core.Bool.{Bool, true, false}
+use mathlib.Core.List.{List, [], _∷_, _++_, map}
+use Prim.Native.Nat.{ℕ, zero, suc, _+_, pred}
+use lib.Dec.{eqb, leb, ltb}
+use lib.ListN.{length, getD, drop, set}
+use Rattle.basis.specs.Choice.{pick}
+use Rattle.forms.specs.Compact.{same}
+use Rattle.plain.specs.Words.{Word, trieNodes}
+use Rattle.plain.specs.Coding.{Coding, Reading, refused, accepted}
+use Rattle.plain.specs.Requests.{State, Open, Finished, Request, call, answer, finish, next, load, instance, counts, Counts, Reply, new, oldSubgoal, oldAnswer, done, at, none, cells, used, refused, short, Result, Seen, trace}
+
+-- ---- state
+
+-- m is the number of the form's distinct variables
+pub record Subgoal : Type 0 where
+  pub form : Word
+  pub m : ℕ
+  pub state : State
+
+-- the number of its subgoal, and its form
+pub record Answer : Type 0 where
+  pub subgoal : ℕ
+  pub form : Word
+
+-- room for N nodes, F subgoals and A answers; numbers are places in the two lists, from 1
+pub record Table : Type 0 where
+  pub N : ℕ
+  pub F : ℕ
+  pub A : ℕ
+  pub subgoals : List Subgoal
+  pub answers : List Answer
+
+abbrev pub fresh : ℕ → ℕ → ℕ → Table
+fresh n f a = record { N = n; F = f; A = a; subgoals = []; answers = [] }
+
+-- what a number has that is 0 or beyond the list
+unfoldable pub noSubgoal : Subgoal
+noSubgoal = record { form = []; m = 0; state = Open }
+
+unfoldable pub noAnswer : Answer
+noAnswer = record { subgoal = 0; form = [] }
+
+unfoldable pub subgoalAt : Table → ℕ → Subgoal
+subgoalAt t s = getD (noSubgoal ∷ t .subgoals) s noSubgoal
+
+unfoldable pub answerAt : Table → ℕ → Answer
+answerAt t a = getD (noAnswer ∷ t .answers) a noAnswer
+
+-- ---- nodes used
+
+-- the forms of the subgoals
+abbrev pub calledForms : List Subgoal → List Word
+calledForms gs = map (λ g. g .form) gs
+
+-- the forms of the answers to subgoal s
+unfoldable pub answersTo : List Answer → ℕ → List Word
+answersTo [] s = []
+answersTo (a ∷ l) s = let r = answersTo l s in pick (eqb (a .subgoal) s) (a .form ∷ r) r
+
+-- the nodes of the answer tries of n subgoals from s on
+unfoldable pub answerNodes : List Answer → ℕ → ℕ → ℕ
+answerNodes l s zero = 0
+answerNodes l s (suc n) = trieNodes (answersTo l s) + answerNodes l (suc s) n
+
+-- the root and the prefixes of the subgoal forms, and those of the answer forms of each subgoal
+unfoldable pub nodes : Table → ℕ
+nodes t = trieNodes (calledForms (t .subgoals)) + answerNodes (t .answers) 1 (length (t .subgoals))
+
+unfoldable pub counted : Table → Counts
+counted t = record { nodes = nodes t; subgoals = length (t .subgoals); answers = length (t .answers) }
+
+-- ---- finding
+
+-- the number of the first record for which the test holds, counted from n, or 0
+unfoldable pub number : {R : Type 0} → (R → Bool) → ℕ → List R → ℕ
+number test n [] = 0
+number test n (r ∷ rs) = let later = number test (suc n) rs in pick (test r) n later
+
+-- the number of the subgoal of this form, or 0
+unfoldable pub subgoalOf : Table → Word → ℕ
+subgoalOf t w = number (λ g. same (g .form) w) 1 (t .subgoals)
+
+-- the number of the answer of this form under subgoal s, or 0
+unfoldable pub answerOf : Table → ℕ → Word → ℕ
+answerOf t s w = number (λ a. pick (eqb (a .subgoal) s) (same (a .form) w) false) 1 (t .answers)
+
+-- the lowest number above i and below n at which f is x, or 0
+unfoldable pub after : (ℕ → ℕ) → ℕ → ℕ → ℕ → ℕ
+after f zero i x = 0
+after f (suc n) i x =
+    let lower = after f n i x in
+    pick (eqb lower 0) (pick (ltb i n) (pick (eqb (f n) x) n 0) 0) lower
+
+-- the subgoal of answer a
+abbrev pub subgoalOfAnswer : Table → ℕ → ℕ
+subgoalOfAnswer t a = answerAt t a .subgoal
+
+-- the lowest answer number above a under subgoal s, or 0
+unfoldable pub following : Table → ℕ → ℕ → ℕ
+following t s a = after (subgoalOfAnswer t) (suc (length (t .answers))) a s
+
+-- ---- changing
+
+-- a new subgoal is open
+abbrev pub withSubgoal : Table → Word → ℕ → Table
+withSubgoal t w m = record {
+  N = t .N;
+  F = t .F;
+  A = t .A;
+  subgoals = t .subgoals ++ (record { form = w; m = m; state = Open } ∷ []);
+  answers = t .answers;
+}
+
+abbrev pub withAnswer : Table → ℕ → Word → Table
+withAnswer t s w = record {
+  N = t .N;
+  F = t .F;
+  A = t .A;
+  subgoals = t .subgoals;
+  answers = t .answers ++ (record { subgoal = s; form = w } ∷ []);
+}
+
+abbrev pub withFinished : Table → ℕ → Table
+withFinished t s = record {
+  N = t .N;
+  F = t .F;
+  A = t .A;
+  subgoals = set (t .subgoals) (pred s) (record { form = subgoalAt t s .form; m = subgoalAt t s .m; state = Finished });
+  answers = t .answers;
+}
+
+-- ---- answering
+
+-- the table stays, and out as lent
+abbrev pub stays : Table → List ℕ → Reply → Result Table
+stays t out r = record { reply = r; out = out; state = t }
+
+-- no out is lent
+abbrev pub becomes : Table → Reply → Result Table
+becomes t r = record { reply = r; out = []; state = t }
+
+-- 7 where s is not the number of one of n records
+abbrev pub known : Table → List ℕ → ℕ → ℕ → Result Table → Result Table
+known t out n s r = pick (ltb 0 s) (pick (leb s n) r (stays t out (refused 7))) (stays t out (refused 7))
+
+-- whether the nodes used are at most n
+unfoldable pub fits : Table → ℕ → Bool
+fits t n = leb (nodes t) n
+
+-- a record more: 10 where the nodes used would be above N, then 11 where no record is left
+unfoldable pub appended : Table → Table → Bool → ℕ → Result Table
+appended t more room n = pick (fits more (t .N)) (pick room (becomes more (new n)) (becomes t (refused 11))) (becomes t (refused 10))
+
+-- an equal form is old, else it is appended, open
+unfoldable pub called : Table → Reading → Result Table
+called t (refused r) = becomes t (refused r)
+called t (accepted w m) =
+    let n = subgoalOf t w in
+    let count = length (t .subgoals) in
+    pick (eqb n 0) (appended t (withSubgoal t w m) (ltb count (t .F)) (suc count)) (becomes t (oldSubgoal n (subgoalAt t n .state)))
+
+-- an equal form under the subgoal is old, else it is appended
+unfoldable pub answered : Table → ℕ → Reading → Result Table
+answered t s (refused r) = becomes t (refused r)
+answered t s (accepted w m) =
+    let n = answerOf t s w in
+    let count = length (t .answers) in
+    pick (eqb n 0) (appended t (withAnswer t s w) (ltb count (t .A)) (suc count)) (becomes t (oldAnswer n))
+
+-- 8 where the subgoal is finished
+abbrev pub whileOpen : Table → State → Result Table → Result Table
+whileOpen t Open r = r
+whileOpen t Finished r = becomes t (refused 8)
+
+-- where next may start: from 0, or from an answer of the subgoal
+unfoldable pub starting : Table → ℕ → ℕ → Bool
+starting t s a = pick (eqb a 0) true (pick (leb a (length (t .answers))) (eqb (subgoalOfAnswer t a) s) false)
+
+-- the first answer after a
+unfoldable pub onward : Table → ℕ → ℕ → Reply
+onward t s a = let n = following t s a in pick (eqb n 0) none (at n)
+
+-- the cells before what was in out, or 12 with the need where out is too short
+unfoldable pub writes : Table → List ℕ → List ℕ → Result Table
+writes t cs out =
+    pick (leb (length cs) (length out)) (record { reply = cells (length cs); out = cs ++ drop (length cs) out; state = t }) (stays t out (short (length cs)))
+
+-- what each call leaves; 7 and 8 are checked before the cells are read
+unfoldable pub step : Coding → Table → Request → Result Table
+step c t (call cs) = called t (c .called cs)
+step c t (answer s cs) =
+    known t [] (length (t .subgoals)) s (whileOpen t (subgoalAt t s .state) (answered t s (c .answered (subgoalAt t s .m) cs)))
+step c t (finish s) = known t [] (length (t .subgoals)) s (becomes (withFinished t s) done)
+step c t (next s a) = known t [] (length (t .subgoals)) s (becomes t (pick (starting t s a) (onward t s a) (refused 7)))
+step c t (load a out) = known t out (length (t .answers)) a (writes t (c .expand (answerAt t a .form)) out)
+step c t (instance a out) =
+    known t out (length (t .answers)) a
+    (writes t (c .instanceOf (subgoalAt t (subgoalOfAnswer t a) .form) (answerAt t a .form)) out)
+step c t counts = becomes t (used (counted t))
+
+-- what is seen of a list of calls
+abbrev pub tableTrace : Coding → Table → List Request → List Seen
+tableTrace c t qs = trace (step c) counted t qs

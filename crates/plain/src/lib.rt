@@ -1,0 +1,1 @@
+// The plain table: all of it stands in specs/ and proofs/.

@@ -1,0 +1,6 @@
+pub mod HeaderLaws
+pub mod LayoutLaws
+pub mod JudgingLaws
+mod HeaderCases
+mod FreshCases
+mod JudgingCases

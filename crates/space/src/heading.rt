@@ -1,0 +1,105 @@
+// The header of a space, read and judged.
+use super::Capacity;
+use super::Head;
+use super::Header;
+use basis::wide;
+ghost use mathlib.Core.Path.{_≡_};
+ghost use Prim.Native.Nat.{_<_, _≤_};
+ghost use lib.ListN.{length};
+ghost use Rattle.space.specs.Layout.{sizes};
+ghost use Rattle.space.specs.Heading.{inRange, capacity, counted, headerOf};
+
+// The records that a table may hold at most.
+const MOST: usize = 1048576;
+
+pub fn in_range(least: usize, n: usize) -> bool
+    ensures { λ r. ⌜ r ≡ inRange least n ⌝ }
+{
+    if least <= n {
+        return n <= MOST;
+    }
+    false
+}
+
+// The records of `size` cells between two offsets.
+fn capacity_of(least: usize, size: usize, low: usize, high: usize) -> Capacity
+    requires { ⌜ 0 < size ⌝ }
+    ensures { λ r. ⌜ r ≡ capacity least size low high ⌝ }
+{
+    if high < low {
+        return Capacity::Broken;
+    }
+    let span = high - low;
+    if span % size == 0 {
+        let n = span / size;
+        if in_range(least, n) {
+            return Capacity::Whole(n);
+        }
+    }
+    Capacity::Broken
+}
+
+// The end and the counts, under the capacities.
+fn count(space: &[u32], n: usize, f: usize, a: usize) -> Header
+    requires { ⌜ 8 ≤ length (now space) ⌝ }
+    ensures { λ r. ⌜ r ≡ counted (now (space .entry)) n f a ⌝ }
+{
+    let end = wide(space[7]);
+    if space.len() < end {
+        return Header::Refused(1);
+    }
+    let nodes = wide(space[1]);
+    if nodes == 0 {
+        return Header::Refused(1);
+    }
+    if n < nodes {
+        return Header::Refused(1);
+    }
+    let subgoals = wide(space[2]);
+    if f < subgoals {
+        return Header::Refused(1);
+    }
+    let answers = wide(space[3]);
+    if a < answers {
+        return Header::Refused(1);
+    }
+    let subgoal_offset = wide(space[5]);
+    let answer_offset = wide(space[6]);
+    Header::Sound(Head {
+        nodes: nodes,
+        subgoals: subgoals,
+        answers: answers,
+        node_capacity: n,
+        subgoal_capacity: f,
+        answer_capacity: a,
+        subgoal_offset: subgoal_offset,
+        answer_offset: answer_offset,
+        end: end,
+    })
+}
+
+pub fn read_header(space: &[u32]) -> Header
+    ensures { λ r. ⌜ r ≡ headerOf sizes (now (space .entry)) ⌝ }
+{
+    if space.len() < 8 {
+        return Header::Refused(1);
+    }
+    if space[0] == 1 {
+        if space[4] == 8 {
+            let subgoal_offset = wide(space[5]);
+            let Capacity::Whole(n) = capacity_of(1, 5, 8, subgoal_offset) else {
+                return Header::Refused(1);
+            };
+            let answer_offset = wide(space[6]);
+            let Capacity::Whole(f) = capacity_of(0, 6, subgoal_offset, answer_offset) else {
+                return Header::Refused(1);
+            };
+            let end = wide(space[7]);
+            let Capacity::Whole(a) = capacity_of(0, 3, answer_offset, end) else {
+                return Header::Refused(1);
+            };
+            return count(space, n, f, a);
+        }
+    }
+    Header::Refused(1)
+}

@@ -1,0 +1,180 @@
+-- `trie::paths::climb` meets its contract.
+use Rattle.trie.proofs.PathCases.{path-damaged, path-lower, path-root, path-other, path-deep, path-above, path-longer}
+use Rattle.trie.specs.Siblings.{trieIn}
+use Rattle.space.specs.Layout.{sizes}
+use mathlib.Core.List.{[]}
+use lib.ListN.{length-set}
+use borrow.Author.Needs.{needs}
+use native.Mathlib.Omega.{arith}
+use Prim.Native.Nat.{ℕ, _<_}
+use borrow.Fn.Kinds.{In}
+use borrow.Fn.PlainCycle.{Measures, is, falls, and}
+use Rattle.trie.proofs.paths.climb.Reads as climb
+use Rattle.trie.proofs.paths.climb.Kinds as climb-kinds
+use Rattle.trie.proofs.paths.+climb.Lts-climb as climb-lts
+use Rattle.space.proofs.records.read_node.Reads as read-node-reads
+use Rattle.trie.proofs.paths.+climb.{statement}
+use Rattle.trie.proofs.paths.+climb.Tie.{close}
+
+abbrev μ-climb : Measures 2 climb-kinds.ps ℕ
+μ-climb κs a = a .1 .1 .1 .1 .0
+
+abbrev climb-at : ℕ → In 2 climb-kinds.ps
+climb-at t = and 2 climb-kinds.ps (is 2 climb-kinds.ps μ-climb t) climb.Pre
+
+abbrev climb-below : ℕ → In 2 climb-kinds.ps
+climb-below t = and 2 climb-kinds.ps (falls 2 climb-kinds.ps _<_ μ-climb t) climb.Pre
+
+climb-read-node-requires : (t : ℕ) → climb-lts.Need-read-node-requires (
+  read-node-reads.Asked,
+  read-node-reads.Learnt,
+  climb-below t,
+  climb.Post,
+) (climb-at t) climb.Post
+climb-read-node-requires t c κs = search needs
+
+climb-enum-known-y : (t : ℕ) → climb-lts.Need-enum-known-y (
+  read-node-reads.Asked,
+  read-node-reads.Learnt,
+  climb-below t,
+  climb.Post,
+) (climb-at t) climb.Post
+climb-enum-known-y t c = search needs
+
+climb-enum-told : (t : ℕ) → climb-lts.Need-enum-told (
+  read-node-reads.Asked,
+  read-node-reads.Learnt,
+  climb-below t,
+  climb.Post,
+) (climb-at t) climb.Post
+climb-enum-told t c = search needs
+
+climb-returns : (t : ℕ) → climb-lts.Need-returns (
+  read-node-reads.Asked,
+  read-node-reads.Learnt,
+  climb-below t,
+  climb.Post,
+) (climb-at t) climb.Post
+climb-returns t c = path-damaged _ (trieIn sizes (c .before .before .before .before .before .args .space .now) (c .before .before .before .before .before .args .nodes) (c .before .before .before .before .before .args .links)) _ _ _ (cc)
+
+climb-returns-2 : (t : ℕ) → climb-lts.Need-returns-2 (
+  read-node-reads.Asked,
+  read-node-reads.Learnt,
+  climb-below t,
+  climb.Post,
+) (climb-at t) climb.Post
+climb-returns-2 t c = path-root _ (trieIn sizes (c .before .before .before .before .before .before .before .before .before .args .space .now) (c .before .before .before .before .before .before .before .before .before .args .nodes) (c .before .before .before .before .before .before .before .before .before .args .links)) _ _ _ (c .before .before .before .before .y .given .0 .0) (cc) (search needs) (search needs)
+
+climb-returns-3 : (t : ℕ) → climb-lts.Need-returns-3 (
+  read-node-reads.Asked,
+  read-node-reads.Learnt,
+  climb-below t,
+  climb.Post,
+) (climb-at t) climb.Post
+climb-returns-3 t c = path-other _ (trieIn sizes (c .before .before .before .before .before .before .before .before .before .args .space .now) (c .before .before .before .before .before .before .before .before .before .args .nodes) (c .before .before .before .before .before .before .before .before .before .args .links)) _ _ _ (c .before .before .before .before .y .given .0 .0) (cc) (search needs) (search needs)
+
+climb-returns-4 : (t : ℕ) → climb-lts.Need-returns-4 (
+  read-node-reads.Asked,
+  read-node-reads.Learnt,
+  climb-below t,
+  climb.Post,
+) (climb-at t) climb.Post
+climb-returns-4 t c = path-deep _ (trieIn sizes (c .before .before .before .before .before .before .before .before .before .args .space .now) (c .before .before .before .before .before .before .before .before .before .args .nodes) (c .before .before .before .before .before .before .before .before .before .args .links)) _ _ _ (c .before .before .before .before .y .given .0 .0) (cc) (search needs) (search needs)
+
+climb-sub-climb : (t : ℕ) → climb-lts.Need-sub-climb (
+  read-node-reads.Asked,
+  read-node-reads.Learnt,
+  climb-below t,
+  climb.Post,
+) (climb-at t) climb.Post
+climb-sub-climb t c = omega arith
+
+climb-climb-requires : (t : ℕ) → climb-lts.Need-climb-requires (
+  read-node-reads.Asked,
+  read-node-reads.Learnt,
+  climb-below t,
+  climb.Post,
+) (climb-at t) climb.Post
+climb-climb-requires t c κs = let l = path-lower 0 (trieIn sizes (c .before .before .before .before .before .before .before .before .before .before .args .space .now) (c .before .before .before .before .before .before .before .before .before .before .args .nodes) (c .before .before .before .before .before .before .before .before .before .before .args .links)) 0 (c .before .before .before .before .before .before .before .before .before .before .args .n) [] (c .before .before .before .before .before .y .given .0 .0) (cc) in search needs
+
+climb-mul-out : (t : ℕ) → climb-lts.Need-mul-out (
+  read-node-reads.Asked,
+  read-node-reads.Learnt,
+  climb-below t,
+  climb.Post,
+) (climb-at t) climb.Post
+climb-mul-out t c = omega arith
+
+climb-slice-write-out : (t : ℕ) → climb-lts.Need-slice-write-out (
+  read-node-reads.Asked,
+  read-node-reads.Learnt,
+  climb-below t,
+  climb.Post,
+) (climb-at t) climb.Post
+climb-slice-write-out t c = omega arith
+
+climb-add-result : (t : ℕ) → climb-lts.Need-add-result (
+  read-node-reads.Asked,
+  read-node-reads.Learnt,
+  climb-below t,
+  climb.Post,
+) (climb-at t) climb.Post
+climb-add-result t c = omega arith
+
+climb-same-length : (t : ℕ) → climb-lts.Need-same-length (
+  read-node-reads.Asked,
+  read-node-reads.Learnt,
+  climb-below t,
+  climb.Post,
+) (climb-at t) climb.Post
+climb-same-length t c = simp length-set (search needs)
+
+climb-returns-5 : (t : ℕ) → climb-lts.Need-returns-5 (
+  read-node-reads.Asked,
+  read-node-reads.Learnt,
+  climb-below t,
+  climb.Post,
+) (climb-at t) climb.Post
+climb-returns-5 t c = path-longer _ (trieIn sizes (c .before .before .before .before .before .before .before .before .before .before .before .before .before .before .args .space .now) (c .before .before .before .before .before .before .before .before .before .before .before .before .before .before .args .nodes) (c .before .before .before .before .before .before .before .before .before .before .before .before .before .before .args .links)) _ _ _ (c .before .before .before .before .before .before .before .before .before .y .given .0 .0) (cc) (search needs) (search needs) _ _ (omega arith) (omega arith) (c .before .before .before .climb .ensures)
+
+climb-same-length-2 : (t : ℕ) → climb-lts.Need-same-length-2 (
+  read-node-reads.Asked,
+  read-node-reads.Learnt,
+  climb-below t,
+  climb.Post,
+) (climb-at t) climb.Post
+climb-same-length-2 t c = search needs
+
+climb-returns-6 : (t : ℕ) → climb-lts.Need-returns-6 (
+  read-node-reads.Asked,
+  read-node-reads.Learnt,
+  climb-below t,
+  climb.Post,
+) (climb-at t) climb.Post
+climb-returns-6 t c = path-above _ (trieIn sizes (c .before .before .before .before .before .before .before .before .before .before .before .before .before .before .args .space .now) (c .before .before .before .before .before .before .before .before .before .before .before .before .before .before .args .nodes) (c .before .before .before .before .before .before .before .before .before .before .before .before .before .before .args .links)) _ _ _ (c .before .before .before .before .before .before .before .before .before .y .given .0 .0) (cc) (search needs) (search needs) _ _ (search needs) (c .before .before .before .climb .ensures)
+
+pub +climb-spec : {M : Type 1} → statement M
++climb-spec = close μ-climb λ t. climb-lts.spec (
+  read-node-reads.Asked,
+  read-node-reads.Learnt,
+  climb-below t,
+  climb.Post,
+)
+    (climb-at t)
+    climb.Post
+    (climb-read-node-requires t)
+    (climb-enum-known-y t)
+    (climb-enum-told t)
+    (climb-returns t)
+    (climb-returns-2 t)
+    (climb-returns-3 t)
+    (climb-returns-4 t)
+    (climb-sub-climb t)
+    (climb-climb-requires t)
+    (climb-mul-out t)
+    (climb-slice-write-out t)
+    (climb-add-result t)
+    (climb-same-length t)
+    (climb-returns-5 t)
+    (climb-same-length-2 t)
+    (climb-returns-6 t)

@@ -1,0 +1,80 @@
+-- `trie::walks::walk_from` meets its contract.
+use Rattle.trie.proofs.WalkCases.{Descent, descent-begin, descent-whole, descent-last, descent-damaged, descent-found}
+use Rattle.trie.specs.Walks.{walkFrom}
+use Rattle.trie.specs.Siblings.{trieIn}
+use Rattle.space.specs.Layout.{sizes}
+use lib.ListN.{length}
+use Prim.Native.Nat.{_-_}
+use borrow.Author.Needs.{needs}
+use native.Mathlib.Omega.{arith}
+use Rattle.trie.proofs.walks.walk_from.Statement.{statement}
+use Rattle.trie.proofs.walks.walk_from.Tie as tie
+
+abbrev Inv-loop : tie.InvT-loop
+Inv-loop space nodes links start tokens n₀ i₀ n i = Descent (trieIn sizes space nodes links) tokens n i (walkFrom (trieIn sizes space nodes links) start tokens)
+
+abbrev μ-loop : tie.MeasureT-loop
+μ-loop space nodes links start tokens n₀ i₀ n i = length tokens - i
+
+loop-holds : tie.Need-loop-holds Inv-loop μ-loop
+loop-holds c = descent-begin _ _ _ (search needs) (search needs)
+
+mul-search-children : tie.Need-mul-search-children Inv-loop μ-loop
+mul-search-children c = omega arith
+
+shared-slice-read-search-children : tie.Need-shared-slice-read-search-children Inv-loop μ-loop
+shared-slice-read-search-children c = omega arith
+
+search-children-requires : tie.Need-search-children-requires Inv-loop μ-loop
+search-children-requires c κs = search needs
+
+enum-known-found : tie.Need-enum-known-found Inv-loop μ-loop
+enum-known-found c = search needs
+
+add-i : tie.Need-add-i Inv-loop μ-loop
+add-i c = omega arith
+
+loop-less : tie.Need-loop-less Inv-loop μ-loop
+loop-less c = omega arith
+
+loop-again : tie.Need-loop-again Inv-loop μ-loop
+loop-again c = descent-found (c .before .before .before .before .before .before .loop .inv) (search needs) (c .before .found .given .0 .0) (cc)
+
+enum-known-found-2 : tie.Need-enum-known-found-2 Inv-loop μ-loop
+enum-known-found-2 c = search needs
+
+sub-t16 : tie.Need-sub-t16 Inv-loop μ-loop
+sub-t16 c = omega arith
+
+returns : tie.Need-returns Inv-loop μ-loop
+returns c = descent-last (c .before .before .before .before .before .before .loop .inv) (search needs) (c .before .found2 .given .0 .0) (cc)
+
+enum-told : tie.Need-enum-told Inv-loop μ-loop
+enum-told c = search needs
+
+returns-2 : tie.Need-returns-2 Inv-loop μ-loop
+returns-2 c = descent-damaged (c .before .before .before .before .before .loop .inv) (search needs) (cc)
+
+returns-3 : tie.Need-returns-3 Inv-loop μ-loop
+returns-3 c = descent-whole (c .before .loop .inv) (search needs)
+
+pub walk-from-spec : {M : Type 1} → statement M
+walk-from-spec =
+    tie.close
+    (tie.spec
+    Inv-loop
+    μ-loop
+    loop-holds
+    mul-search-children
+    shared-slice-read-search-children
+    search-children-requires
+    enum-known-found
+    add-i
+    loop-less
+    loop-again
+    enum-known-found-2
+    sub-t16
+    returns
+    enum-told
+    returns-2
+    returns-3)

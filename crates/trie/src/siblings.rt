@@ -1,0 +1,61 @@
+// The search among the children of a node.
+use super::Search;
+use space::NodeRead;
+use space::records::node_in;
+use space::records::read_node;
+ghost use mathlib.Core.Path.{_≡_};
+ghost use mathlib.Core.Bool.{true};
+ghost use Prim.Native.Nat.{_<_};
+ghost use Rattle.space.specs.Layout.{sizes};
+ghost use Rattle.space.specs.Sound.{NodesIn};
+ghost use Rattle.trie.specs.Siblings.{trieIn, sound, searchSiblings, searchChildren};
+
+// The siblings from `first` on, children of `parent`.
+pub fn search_siblings(
+    space: &[u32],
+    nodes: usize,
+    links: usize,
+    parent: usize,
+    first: usize,
+    token: u32,
+) -> Search
+    requires { ⌜ NodesIn (now space) nodes × (first < nodes) ⌝ }
+    ensures { λ r. ⌜ r ≡ searchSiblings nodes (trieIn sizes (now (space .entry)) nodes links) parent token first ⌝ }
+{
+    let mut n = first;
+    let found = loop {
+        let NodeRead::Sound(y) = read_node(space, nodes, links, n) else {
+            break Search::Damaged;
+        };
+        if y.parent != parent {
+            break Search::Damaged;
+        }
+        if y.token == token {
+            break Search::Found(n);
+        }
+        if y.sibling == 0 {
+            break Search::Last(n);
+        }
+        n = y.sibling;
+    };
+    found
+}
+
+// All children of a node that was read and found sound.
+pub fn search_children(
+    space: &[u32],
+    nodes: usize,
+    links: usize,
+    parent: usize,
+    token: u32,
+) -> Search
+    requires { ⌜ NodesIn (now space) nodes × (parent < nodes) ⌝ }
+    requires { ⌜ sound (trieIn sizes (now space) nodes links) parent ≡ true ⌝ }
+    ensures { λ r. ⌜ r ≡ searchChildren (trieIn sizes (now (space .entry)) nodes links) parent token ⌝ }
+{
+    let y = node_in(space, nodes, parent);
+    if y.child == 0 {
+        return Search::Last(0);
+    }
+    search_siblings(space, nodes, links, parent, y.child, token)
+}

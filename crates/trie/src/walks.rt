@@ -1,0 +1,49 @@
+// The walk of a list of tokens from a root.
+use super::Search;
+use super::Walked;
+use super::siblings::search_children;
+use space::NodeRead;
+use space::records::read_node;
+ghost use mathlib.Core.Path.{_≡_};
+ghost use mathlib.Core.Bool.{true};
+ghost use Prim.Native.Nat.{_<_};
+ghost use Rattle.space.specs.Layout.{sizes};
+ghost use Rattle.space.specs.Sound.{NodesIn};
+ghost use Rattle.trie.specs.Siblings.{trieIn, sound};
+ghost use Rattle.trie.specs.Walks.{walkFrom, walk, shown};
+
+// The walk below a node that was read and found sound.
+fn walk_from(space: &[u32], nodes: usize, links: usize, start: usize, tokens: &[u32]) -> Walked
+    requires { ⌜ NodesIn (now space) nodes × (start < nodes) ⌝ }
+    requires { ⌜ sound (trieIn sizes (now space) nodes links) start ≡ true ⌝ }
+    ensures { λ r. ⌜ r ≡ shown (walkFrom (trieIn sizes (now (space .entry)) nodes links) start (now (tokens .entry))) ⌝ }
+{
+    let mut n = start;
+    let mut i = 0;
+    while i < tokens.len() {
+        let found = search_children(space, nodes, links, n, tokens[i]);
+        match found {
+            Search::Found(child) => {
+                n = child;
+                i += 1;
+            }
+            Search::Last(last) => return Walked::Stopped(n, last, tokens.len() - i),
+            Search::Damaged => return Walked::Damaged,
+        }
+    }
+    Walked::Whole(n)
+}
+
+// The walk from a root.
+pub fn walk_tokens(space: &[u32], nodes: usize, links: usize, root: usize, tokens: &[u32]) -> Walked
+    requires { ⌜ NodesIn (now space) nodes × (root < nodes) ⌝ }
+    ensures { λ r. ⌜ r ≡ shown (walk (trieIn sizes (now (space .entry)) nodes links) root (now (tokens .entry))) ⌝ }
+{
+    let NodeRead::Sound(y) = read_node(space, nodes, links, root) else {
+        return Walked::Damaged;
+    };
+    if y.parent == root {
+        return walk_from(space, nodes, links, root, tokens);
+    }
+    Walked::Damaged
+}
