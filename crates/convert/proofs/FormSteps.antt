@@ -18,10 +18,10 @@ use Rattle.forms.specs.declared.Token.{Token}
 use Rattle.forms.specs.declared.Token.the-variants.{Sym, Begin, Last, Tail, Other}
 use Rattle.convert.specs.declared.Step.{Step}
 use Rattle.convert.specs.declared.Step.the-variants.{Done, Malformed}
-use Rattle.forms.specs.Cells.{payload, variable, nil, PAIR, BLIST, ELIST, EPAIR, shapeOf, tokenOf}
+use Rattle.forms.specs.Cells.{payload, variable, constant, nil, PAIR, BLIST, ELIST, EPAIR, shapeOf, tokenOf}
 use Rattle.forms.specs.Terms.{Term, cell, arg, pair, pairs, every, applied}
 use Rattle.forms.specs.Compact.{compact, elements, Item, term, last, tail, filled, lastOf, tailOf, inside, into, collected, whole, entered, items, front}
-use Rattle.forms.proofs.ShapeLaws.{Marks, marks}
+use Rattle.forms.proofs.ShapeLaws.{Marks, marks, constant-shape}
 use Rattle.forms.proofs.ReadLaws.{WellFormed, AllWellFormed, applied-short, applied-length, applied-well-formed, pairs-joins, compact-joins}
 use Rattle.forms.proofs.CompactLaws.{items-compact, Good, collected-good, forms}
 use Rattle.forms.proofs.FormLaws.{pairs-size}
@@ -476,3 +476,14 @@ module _ (arity : ℕ → ℕ) (s : List ℕ) where
       → (end + 2 * at ≤ to + 2 * next + 1) × (at ≤ next) × (next ≤ length s) × (count₁ + at ≤ count + next)
   rest-room at count out to out₁ next end count₁ v h =
       omega (arith, pairs-size (v .0), ap length (v .3 .1), v .4 .next-at, v .4 .end-at, v .4 .known, counted-most (v .2) count, span-within s at (v .2) count out to (pairs (v .0)) out₁ next end count₁ (v .4) h)
+
+  -- ---- a constant
+
+  pub forms-constant : (at count : ℕ) (out : List ℕ) (to end : ℕ) → at < length s → constant (getD s at 0) ≡ true → end ≡ to + 1
+      → FormsRan arity s at 1 count out to (set out to (getD s at 0)) (Done (at + 1) end count)
+  forms-constant at count out to end h e p =
+      let q = constant-shape arity (getD s at 0) e in
+      let o = ordered-cell count (getD s at 0) (q .1) in
+      rw p
+      (forms-symbol at 1 count out to (set out to (getD s at 0)) (omega arith) h 0 0 count (Done (at + 1) (to + 1) count) (q .0) refl (o .0) (sym (o .1))
+      (forms-none (at + 1) 0 count (set out to (getD s at 0)) (to + 1) refl))

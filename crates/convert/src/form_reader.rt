@@ -65,6 +65,7 @@ pub fn terms(s: &[u32], from: usize, n: usize, known: usize, out: &mut [u32], st
 }
 
 // Reads the elements of a list from `from` on, behind BLIST, and writes the list from `start` on.
+// Most elements are constants, and take no call of the term reader.
 fn list(s: &[u32], from: usize, known: usize, out: &mut [u32], start: usize) -> Step
     requires { ⌜ (length (now s) ≤ 383) × (2 * length (now s) ≤ length (now out)) × (from ≤ length (now s)) × (known ≤ from) × (start + 2 ≤ 2 * from) ⌝ }
     ensures { λ r. ⌜ RestRan arity16 (now (s .entry)) from false known (now (out .entry)) start (now (out .exit)) r ⌝ }
@@ -78,6 +79,14 @@ fn list(s: &[u32], from: usize, known: usize, out: &mut [u32], start: usize) -> 
             return Step::Malformed;
         }
         let c = s[at];
+        if forms::is_constant(c) {
+            out[to] = forms::PAIR;
+            out[to + 1] = c;
+            at += 1;
+            some = true;
+            to += 2;
+            continue;
+        }
         if c == forms::EPAIR {
             if some {
                 return ending(s, at, count, out, to);
@@ -92,7 +101,7 @@ fn list(s: &[u32], from: usize, known: usize, out: &mut [u32], start: usize) -> 
             out[end] = forms::NIL;
             return Step::Done(next, end + 1, met);
         }
-        let Step::Done(next, end, met) = element(s, at, count, out, to + 1) else {
+        let Step::Done(next, end, met) = terms(s, at, 1, count, out, to + 1) else {
             return Step::Malformed;
         };
         at = next;
@@ -118,17 +127,4 @@ fn ending(s: &[u32], at: usize, count: usize, out: &mut [u32], to: usize) -> Ste
         return Step::Malformed;
     }
     terms(s, at + 1, 1, count, out, to)
-}
-
-// Reads one element of a list. Most are constants, and take no call of the term reader.
-fn element(s: &[u32], at: usize, count: usize, out: &mut [u32], to: usize) -> Step
-    requires { ⌜ (length (now s) ≤ 383) × (2 * length (now s) ≤ length (now out)) × (at < length (now s)) × (count ≤ at) × (to ≤ 2 * at) ⌝ }
-    ensures { λ r. ⌜ FormsRan arity16 (now (s .entry)) at 1 count (now (out .entry)) to (now (out .exit)) r ⌝ }
-{
-    let c = s[at];
-    if forms::is_constant(c) {
-        out[to] = c;
-        return Step::Done(at + 1, to + 1, count);
-    }
-    terms(s, at, 1, count, out, to)
 }

@@ -150,6 +150,11 @@ pub extern "C" fn tables_expand(input: &[u8], out: &mut [u8]) -> u32
         let mut cells = [0u32; 32];
         return expand_with(input, n, &mut form, &mut cells, out);
     }
+    if n <= 64 {
+        let mut form = [0u32; 64];
+        let mut cells = [0u32; 128];
+        return expand_with(input, n, &mut form, &mut cells, out);
+    }
     if n <= 128 {
         let mut form = [0u32; 128];
         let mut cells = [0u32; 256];

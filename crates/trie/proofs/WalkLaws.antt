@@ -1,4 +1,4 @@
--- A walk after an append: it finds the path that was appended where it had stopped.
+-- A walk after an append: it finds the path that was appended where it had stopped. Paths gathered before stay.
 use Prim.Native.Nat.{ℕ, suc, zero, _+_, _*_, _<_, _≤_}
 use mathlib.Core.Path.{_≡_, refl, sym, ap, _∙_}
 use mathlib.Core.Bool.{Bool, true, false, _&&_}
@@ -14,6 +14,8 @@ use Rattle.space.specs.declared.Node.{Node}
 use Rattle.space.proofs.JudgingLaws.{NodeBounds, node-bounds, node-sound, follows-zero, follows-last, follows-more, follows-within}
 use Rattle.trie.specs.Siblings.{Trie, trieIn, sound, searchSiblings, searchChildren}
 use Rattle.trie.specs.Walks.{Walk, whole, stopped, damaged, walkFrom, walk}
+use Rattle.trie.specs.Paths.{Path, none, tokens, below, gather}
+use Rattle.trie.proofs.PathLaws.{gather-unsound, gather-root, gather-other, gather-deep, gather-up}
 use Rattle.trie.specs.Append.{newNode, withChild, withSibling, withNode, appendNode, appendPath}
 use Rattle.trie.specs.declared.Search.{Search}
 use Rattle.trie.specs.declared.Search.the-variants.{Found, Last, Damaged}
@@ -316,3 +318,38 @@ walk-appended (x ∷ xs) s ys nodes links root parent last token h r e =
     ap (λ (k : ℕ). walk (trieIn sizes (appendPath sizes s′ (nodes + 1) nodes 0 (x ∷ xs)) k links) root ys) i
     ∙ walk-appended xs s′ ys (nodes + 1) links root nodes 0 x (omega (arith, append-node-size s nodes parent last token)) (omega arith) w
     ∙ ap whole j
+
+-- a path that was gathered stays as it was
+below-tokens : (p : Path) (x : ℕ) (xs : List ℕ) → below p x ≡ tokens xs → (ys : List ℕ) × (p ≡ tokens ys)
+below-tokens none x xs e = let z : _≡_ {A = ℕ} 0 1 = cc in absurd (omega arith)
+below-tokens (tokens ys) x xs e = (ys, refl)
+
+gather-step : (most : ℕ) (t t′ : Trie) (root n : ℕ) (xs : List ℕ) → Kept t t′ n → gather most t root n ≡ tokens xs →
+    (sound t n ≡ true → (t .at n .parent ≡ n → ⊥) → gather most t′ root n ≡ tokens xs) → gather most t′ root n ≡ tokens xs
+gather-step most t t′ root n xs k w up =
+    by-cases (sound t n) (λ s.
+    by-cases (eqb (t .at n .parent) n) (λ p.
+    let p′ : t .at n .parent ≡ n = eqb-true _ _ p in
+    by-cases (eqb n root)
+    (λ r. gather-root t′ root n (k .sound-same s) most (k .parent-same ∙ p′) (eqb-true _ _ r) ∙ sym (gather-root t root n s most p′ (eqb-true _ _ r)) ∙ w)
+    (λ r. let d = gather-other t root n s most p′ (eqb-false _ _ r) in let z : _≡_ {A = ℕ} 0 1 = cc in absurd (omega arith)))
+    (λ p. up s (eqb-false _ _ p)))
+    (λ s. let d = gather-unsound t root n most s in let z : _≡_ {A = ℕ} 0 1 = cc in absurd (omega arith))
+
+pub gather-kept : (most : ℕ) (t t′ : Trie) (parent last token root n : ℕ) (xs : List ℕ) → Grown t t′ parent last token → Ends t parent last →
+    n < t .nodes → gather most t root n ≡ tokens xs → gather most t′ root n ≡ tokens xs
+gather-kept zero t t′ parent last token root n xs g e h w =
+    gather-step 0 t t′ root n xs (kept g e n h) w (λ s p.
+    let d = gather-deep t root n s p in let z : _≡_ {A = ℕ} 0 1 = cc in absurd (omega arith))
+gather-kept (suc most) t t′ parent last token root n xs g e h w =
+    let k = kept g e n h in
+    gather-step (suc most) t t′ root n xs k w (λ s p.
+    let b = node-bounds (t .nodes) (t .links) n (t .at n) s in
+    let u : below (gather most t root (t .at n .parent)) (t .at n .token) ≡ tokens xs = sym (gather-up t root n s p most) ∙ w in
+    let ys = below-tokens (gather most t root (t .at n .parent)) (t .at n .token) xs u in
+    let i : gather most t′ root (t .at n .parent) ≡ gather most t root (t .at n .parent) =
+    gather-kept most t t′ parent last token root (t .at n .parent) (ys .0) g e (omega arith) (ys .1) ∙ sym (ys .1) in
+    gather-up t′ root n (k .sound-same s) (λ y. p (sym (k .parent-same) ∙ y)) most
+    ∙ ap (λ (m : ℕ). below (gather most t′ root m) (t′ .at n .token)) (k .parent-same)
+    ∙ ap (below (gather most t′ root (t .at n .parent))) (k .token-same)
+    ∙ ap (λ (q : Path). below q (t .at n .token)) i ∙ u)

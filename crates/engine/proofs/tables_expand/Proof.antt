@@ -59,11 +59,26 @@ same-length-3 c = search needs
 returns-4 : tie.Need-returns-4
 returns-4 c = search needs
 
+slice-aggregate-expand-with-7 : tie.Need-slice-aggregate-expand-with-7
+slice-aggregate-expand-with-7 c = search needs
+
+slice-aggregate-expand-with-8 : tie.Need-slice-aggregate-expand-with-8
+slice-aggregate-expand-with-8 c = search needs
+
+expand-with-requires-4 : tie.Need-expand-with-requires-4
+expand-with-requires-4 c κs = search needs
+
+same-length-4 : tie.Need-same-length-4
+same-length-4 c = search needs
+
+returns-5 : tie.Need-returns-5
+returns-5 c = search needs
+
 add-result-2 : tie.Need-add-result-2
 add-result-2 c = omega arith
 
-returns-5 : tie.Need-returns-5
-returns-5 c = expand-long _ _ (c .before .before .before .if1 .left) (omega arith)
+returns-6 : tie.Need-returns-6
+returns-6 c = expand-long _ _ (c .before .before .before .before .if1 .left) (omega arith)
 
 pub tables-expand-spec : {M : Type 1} → statement M
 tables-expand-spec =
@@ -86,5 +101,10 @@ tables-expand-spec =
     expand-with-requires-3
     same-length-3
     returns-4
+    slice-aggregate-expand-with-7
+    slice-aggregate-expand-with-8
+    expand-with-requires-4
+    same-length-4
+    returns-5
     add-result-2
-    returns-5)
+    returns-6)

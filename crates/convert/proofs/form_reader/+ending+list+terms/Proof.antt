@@ -1,4 +1,4 @@
--- The proof of the cycle of calls {element, ending, list, terms}. The measure is three times the cells left, and one or two more for all but terms.
+-- The proof of the cycle of calls {ending, list, terms}. The measure is three times the cells left, and one or two more for all but terms.
 use Prim.Native.Nat.{_≤_, _-_, _*_, _+_}
 use mathlib.Core.Bool.{true, false}
 use mathlib.Core.Path.{_≡_, refl, sym, ap, _∙_, subst}
@@ -10,7 +10,7 @@ use Rattle.convert.specs.declared.Step.the-variants.{Done, Malformed}
 use Rattle.forms.specs.Cells.{payload, variable, constant, shapeOf, arity16, BLIST, ELIST, EPAIR, PAIR, nil}
 use Rattle.forms.proofs.ShapeLaws.{symbol-small, variable-shape, constant-shape}
 use Rattle.convert.specs.Loading.{after, ordered, FormsRan, RestRan}
-use Rattle.convert.proofs.FormSteps.{ordered-variable, ordered-cell, forms-none, forms-end, forms-illegal, forms-unordered, forms-symbol, forms-begin-short, forms-begin, rest-end, rest-last-short, rest-tail-first, rest-tail-end, rest-tail-nil, rest-tail-list, rest-element-short, rest-last, rest-tail, rest-element, forms-room, rest-room}
+use Rattle.convert.proofs.FormSteps.{ordered-variable, ordered-cell, forms-none, forms-end, forms-illegal, forms-unordered, forms-symbol, forms-begin-short, forms-begin, rest-end, rest-last-short, rest-tail-first, rest-tail-end, rest-tail-nil, rest-tail-list, rest-element-short, rest-last, rest-tail, rest-element, forms-room, rest-room, forms-constant}
 use Rattle.convert.proofs.FormTurns.{FormsTurn, RestTurn, after-most}
 use Rattle.convert.proofs.PairTurns.{arity16-small}
 use mathlib.Core.List.{[], _∷_}
@@ -21,28 +21,22 @@ use Rattle.forms.proofs.Shape.{the-type}
 use Prim.Native.Nat.{ℕ, _<_}
 use borrow.Fn.Kinds.{In}
 use borrow.Fn.PlainCycle.{Measures, is, falls, and}
-use Rattle.convert.proofs.form_reader.element.Reads as element
-use Rattle.convert.proofs.form_reader.element.Kinds as element-kinds
-use Rattle.convert.proofs.form_reader.+element+ending+list+terms.Lts-element as element-lts
 use Rattle.convert.proofs.form_reader.ending.Reads as ending
 use Rattle.convert.proofs.form_reader.ending.Kinds as ending-kinds
-use Rattle.convert.proofs.form_reader.+element+ending+list+terms.Lts-ending as ending-lts
+use Rattle.convert.proofs.form_reader.+ending+list+terms.Lts-ending as ending-lts
 use Rattle.convert.proofs.form_reader.list.Reads as list
 use Rattle.convert.proofs.form_reader.list.Kinds as list-kinds
-use Rattle.convert.proofs.form_reader.+element+ending+list+terms.Lts-list as list-lts
+use Rattle.convert.proofs.form_reader.+ending+list+terms.Lts-list as list-lts
 use Rattle.convert.proofs.form_reader.terms.Reads as terms
 use Rattle.convert.proofs.form_reader.terms.Kinds as terms-kinds
-use Rattle.convert.proofs.form_reader.+element+ending+list+terms.Lts-terms as terms-lts
+use Rattle.convert.proofs.form_reader.+ending+list+terms.Lts-terms as terms-lts
 use Rattle.convert.proofs.form_reader.met_after.Reads as met-after-reads
 use Rattle.forms.proofs.is_constant.Reads as is-constant-reads
 use Rattle.forms.proofs.is_variable.Reads as is-variable-reads
 use Rattle.forms.proofs.payload_of.Reads as payload-of-reads
 use Rattle.forms.proofs.shape_of.Reads as shape-of-reads
-use Rattle.convert.proofs.form_reader.+element+ending+list+terms.{statement}
-use Rattle.convert.proofs.form_reader.+element+ending+list+terms.Tie.{close}
-
-abbrev μ-element : Measures 2 element-kinds.ps ℕ
-μ-element κs a = 3 * (length (a .0 .now) - a .1 .0) + 1
+use Rattle.convert.proofs.form_reader.+ending+list+terms.{statement}
+use Rattle.convert.proofs.form_reader.+ending+list+terms.Tie.{close}
 
 abbrev μ-ending : Measures 2 ending-kinds.ps ℕ
 μ-ending κs a = 3 * (length (a .0 .now) - a .1 .0) + 1
@@ -52,12 +46,6 @@ abbrev μ-list : Measures 2 list-kinds.ps ℕ
 
 abbrev μ-terms : Measures 2 terms-kinds.ps ℕ
 μ-terms κs a = 3 * (length (a .0 .now) - a .1 .0)
-
-abbrev element-at : ℕ → In 2 element-kinds.ps
-element-at t = and 2 element-kinds.ps (is 2 element-kinds.ps μ-element t) element.Pre
-
-abbrev element-below : ℕ → In 2 element-kinds.ps
-element-below t = and 2 element-kinds.ps (falls 2 element-kinds.ps _<_ μ-element t) element.Pre
 
 abbrev ending-at : ℕ → In 2 ending-kinds.ps
 ending-at t = and 2 ending-kinds.ps (is 2 ending-kinds.ps μ-ending t) ending.Pre
@@ -90,21 +78,21 @@ abbrev terms-μ-loop : terms-lts.MeasureT-loop
 terms-μ-loop s from n known out₀ start at₀ due₀ count₀ to₀ out at due count to = length s - at
 
 -- list: the last element is read
-list-last : (t : ℕ) (x : list-lts.After-next (ending-below t, ending.Post, terms-below t, terms.Post, element-below t, element.Post) (list-at t) list.Post list-Inv-loop list-μ-loop)
-    → FormsRan arity16 (x .before .before .before .before .before .before .before .before .before .before .before .before .before .args .s .now) (x .before .before .before .before .before .before .before .before .before .before .loop .at + 1) 1 (x .before .before .before .before .before .before .before .before .before .before .loop .count) (set (x .before .before .before .before .before .before .before .before .before .before .loop .out) (x .before .before .before .before .before .before .before .before .before .before .loop .to) PAIR) (x .before .before .before .before .before .before .before .before .before .before .loop .to + 1) (x .before .before .before .before .terms .last .1 .1 .1 .1 .0) (Done (x .next .given .0 .0) (x .next .given .0 .1 .0) (x .next .given .0 .1 .1 .0))
+list-last : (t : ℕ) (x : list-lts.After-next (is-constant-reads.Asked, is-constant-reads.Learnt, ending-below t, ending.Post, terms-below t, terms.Post) (list-at t) list.Post list-Inv-loop list-μ-loop)
+    → FormsRan arity16 (x .before .before .before .before .before .before .before .before .before .before .before .before .before .before .before .args .s .now) (x .before .before .before .before .before .before .before .before .before .before .before .before .loop .at + 1) 1 (x .before .before .before .before .before .before .before .before .before .before .before .before .loop .count) (set (x .before .before .before .before .before .before .before .before .before .before .before .before .loop .out) (x .before .before .before .before .before .before .before .before .before .before .before .before .loop .to) PAIR) (x .before .before .before .before .before .before .before .before .before .before .before .before .loop .to + 1) (x .before .before .before .before .terms .last .1 .1 .1 .1 .0) (Done (x .next .given .0 .0) (x .next .given .0 .1 .0) (x .next .given .0 .1 .1 .0))
 list-last t x = rw (x .next .given .1) at (x .before .before .before .before .terms .ensures)
 
-list-last-room : (t : ℕ) (x : list-lts.After-next (ending-below t, ending.Post, terms-below t, terms.Post, element-below t, element.Post) (list-at t) list.Post list-Inv-loop list-μ-loop)
-    → (x .next .given .0 .1 .0 + 1 + 2 * (x .before .before .before .before .before .before .before .before .before .before .loop .at + 1) ≤ x .before .before .before .before .before .before .before .before .before .before .loop .to + 1 + 2 * x .next .given .0 .0) × (x .before .before .before .before .before .before .before .before .before .before .loop .at + 1 < x .next .given .0 .0) × (x .next .given .0 .0 ≤ length (x .before .before .before .before .before .before .before .before .before .before .before .before .before .args .s .now)) × (x .next .given .0 .1 .1 .0 + (x .before .before .before .before .before .before .before .before .before .before .loop .at + 1) ≤ x .before .before .before .before .before .before .before .before .before .before .loop .count + x .next .given .0 .0)
+list-last-room : (t : ℕ) (x : list-lts.After-next (is-constant-reads.Asked, is-constant-reads.Learnt, ending-below t, ending.Post, terms-below t, terms.Post) (list-at t) list.Post list-Inv-loop list-μ-loop)
+    → (x .next .given .0 .1 .0 + 1 + 2 * (x .before .before .before .before .before .before .before .before .before .before .before .before .loop .at + 1) ≤ x .before .before .before .before .before .before .before .before .before .before .before .before .loop .to + 1 + 2 * x .next .given .0 .0) × (x .before .before .before .before .before .before .before .before .before .before .before .before .loop .at + 1 < x .next .given .0 .0) × (x .next .given .0 .0 ≤ length (x .before .before .before .before .before .before .before .before .before .before .before .before .before .before .before .args .s .now)) × (x .next .given .0 .1 .1 .0 + (x .before .before .before .before .before .before .before .before .before .before .before .before .loop .at + 1) ≤ x .before .before .before .before .before .before .before .before .before .before .before .before .loop .count + x .next .given .0 .0)
 list-last-room t x = forms-room _ _ _ _ _ _ _ _ _ _ (list-last t x) (omega arith)
 
 -- list: an element is read
-list-got : (t : ℕ) (x : list-lts.After-next2 (ending-below t, ending.Post, terms-below t, terms.Post, element-below t, element.Post) (list-at t) list.Post list-Inv-loop list-μ-loop)
-    → FormsRan arity16 (x .before .before .before .before .before .before .before .before .before .before .before .before .before .args .s .now) (x .before .before .before .before .before .before .before .before .before .before .loop .at) 1 (x .before .before .before .before .before .before .before .before .before .before .loop .count) (set (x .before .before .before .before .before .before .before .before .before .before .loop .out) (x .before .before .before .before .before .before .before .before .before .before .loop .to) PAIR) (x .before .before .before .before .before .before .before .before .before .before .loop .to + 1) (x .before .before .before .before .element .last .1 .1 .1 .0) (Done (x .next2 .given .0 .0) (x .next2 .given .0 .1 .0) (x .next2 .given .0 .1 .1 .0))
-list-got t x = rw (x .next2 .given .1) at (x .before .before .before .before .element .ensures)
+list-got : (t : ℕ) (x : list-lts.After-next2 (is-constant-reads.Asked, is-constant-reads.Learnt, ending-below t, ending.Post, terms-below t, terms.Post) (list-at t) list.Post list-Inv-loop list-μ-loop)
+    → FormsRan arity16 (x .before .before .before .before .before .before .before .before .before .before .before .before .before .before .before .args .s .now) (x .before .before .before .before .before .before .before .before .before .before .before .before .loop .at) 1 (x .before .before .before .before .before .before .before .before .before .before .before .before .loop .count) (set (x .before .before .before .before .before .before .before .before .before .before .before .before .loop .out) (x .before .before .before .before .before .before .before .before .before .before .before .before .loop .to) PAIR) (x .before .before .before .before .before .before .before .before .before .before .before .before .loop .to + 1) (x .before .before .before .before .terms2 .last .1 .1 .1 .1 .0) (Done (x .next2 .given .0 .0) (x .next2 .given .0 .1 .0) (x .next2 .given .0 .1 .1 .0))
+list-got t x = rw (x .next2 .given .1) at (x .before .before .before .before .terms2 .ensures)
 
-list-room : (t : ℕ) (x : list-lts.After-next2 (ending-below t, ending.Post, terms-below t, terms.Post, element-below t, element.Post) (list-at t) list.Post list-Inv-loop list-μ-loop)
-    → (x .next2 .given .0 .1 .0 + 1 + 2 * x .before .before .before .before .before .before .before .before .before .before .loop .at ≤ x .before .before .before .before .before .before .before .before .before .before .loop .to + 1 + 2 * x .next2 .given .0 .0) × (x .before .before .before .before .before .before .before .before .before .before .loop .at < x .next2 .given .0 .0) × (x .next2 .given .0 .0 ≤ length (x .before .before .before .before .before .before .before .before .before .before .before .before .before .args .s .now)) × (x .next2 .given .0 .1 .1 .0 + x .before .before .before .before .before .before .before .before .before .before .loop .at ≤ x .before .before .before .before .before .before .before .before .before .before .loop .count + x .next2 .given .0 .0)
+list-room : (t : ℕ) (x : list-lts.After-next2 (is-constant-reads.Asked, is-constant-reads.Learnt, ending-below t, ending.Post, terms-below t, terms.Post) (list-at t) list.Post list-Inv-loop list-μ-loop)
+    → (x .next2 .given .0 .1 .0 + 1 + 2 * x .before .before .before .before .before .before .before .before .before .before .before .before .loop .at ≤ x .before .before .before .before .before .before .before .before .before .before .before .before .loop .to + 1 + 2 * x .next2 .given .0 .0) × (x .before .before .before .before .before .before .before .before .before .before .before .before .loop .at < x .next2 .given .0 .0) × (x .next2 .given .0 .0 ≤ length (x .before .before .before .before .before .before .before .before .before .before .before .before .before .before .before .args .s .now)) × (x .next2 .given .0 .1 .1 .0 + x .before .before .before .before .before .before .before .before .before .before .before .before .loop .at ≤ x .before .before .before .before .before .before .before .before .before .before .before .before .loop .count + x .next2 .given .0 .0)
 list-room t x = forms-room _ _ _ _ _ _ _ _ _ _ (list-got t x) (omega arith)
 
 -- terms: a list is read
@@ -124,45 +112,6 @@ terms-shape t x = sym (x .before .before .shape-of .ensures) ∙ x .k .given .1
 -- a symbol is no other shape
 no-symbol : (k : ℕ) → OneOf (1 ∷ 2 ∷ []) (tagOf the-type (Symbol k)) → ⊥
 no-symbol k o = ⊎-elim (λ (e : _≡_ {A = ℕ} 0 1). omega arith) (λ (e : _≡_ {A = ℕ} 0 2). omega arith) o
-
-element-mul-c : (t : ℕ) → element-lts.Need-mul-c (is-constant-reads.Asked, is-constant-reads.Learnt, terms-below t, terms.Post) (element-at t) element.Post
-element-mul-c t c = search needs
-
-element-shared-slice-read-c : (t : ℕ) → element-lts.Need-shared-slice-read-c (is-constant-reads.Asked, is-constant-reads.Learnt, terms-below t, terms.Post) (element-at t) element.Post
-element-shared-slice-read-c t c = search needs
-
-element-is-constant-requires : (t : ℕ) → element-lts.Need-is-constant-requires (is-constant-reads.Asked, is-constant-reads.Learnt, terms-below t, terms.Post) (element-at t) element.Post
-element-is-constant-requires t c κs = search needs
-
-element-mul-out : (t : ℕ) → element-lts.Need-mul-out (is-constant-reads.Asked, is-constant-reads.Learnt, terms-below t, terms.Post) (element-at t) element.Post
-element-mul-out t c = search needs
-
-element-slice-write-out : (t : ℕ) → element-lts.Need-slice-write-out (is-constant-reads.Asked, is-constant-reads.Learnt, terms-below t, terms.Post) (element-at t) element.Post
-element-slice-write-out t c = search needs
-
-element-add-t11 : (t : ℕ) → element-lts.Need-add-t11 (is-constant-reads.Asked, is-constant-reads.Learnt, terms-below t, terms.Post) (element-at t) element.Post
-element-add-t11 t c = search needs
-
-element-add-t13 : (t : ℕ) → element-lts.Need-add-t13 (is-constant-reads.Asked, is-constant-reads.Learnt, terms-below t, terms.Post) (element-at t) element.Post
-element-add-t13 t c = search needs
-
-element-same-length : (t : ℕ) → element-lts.Need-same-length (is-constant-reads.Asked, is-constant-reads.Learnt, terms-below t, terms.Post) (element-at t) element.Post
-element-same-length t c = search needs
-
-element-returns : (t : ℕ) → element-lts.Need-returns (is-constant-reads.Asked, is-constant-reads.Learnt, terms-below t, terms.Post) (element-at t) element.Post
-element-returns t c = let q = constant-shape arity16 (getD (c .before .before .before .before .before .args .s .now) (c .before .before .before .before .before .args .at) 0) (sym (c .before .is-constant .ensures) ∙ c .if1 .taken) in
-    let o = ordered-cell (c .before .before .before .before .before .args .count) (getD (c .before .before .before .before .before .args .s .now) (c .before .before .before .before .before .args .at) 0) (q .1) in
-    forms-symbol arity16 (c .before .before .before .before .before .args .s .now) (c .before .before .before .before .before .args .at) 1 (c .before .before .before .before .before .args .count) (c .before .before .before .before .before .args .out .now) (c .before .before .before .before .before .args .to) (set (c .before .before .before .before .before .args .out .now) (c .before .before .before .before .before .args .to) (getD (c .before .before .before .before .before .args .s .now) (c .before .before .before .before .before .args .at) 0)) (omega arith) (omega arith) 0 0 (c .before .before .before .before .before .args .count) (Done (c .before .before .before .before .before .args .at + 1) (c .before .before .before .before .before .args .to + 1) (c .before .before .before .before .before .args .count))
-    (q .0) refl (o .0) (sym (o .1)) (forms-none arity16 (c .before .before .before .before .before .args .s .now) (c .before .before .before .before .before .args .at + 1) 0 (c .before .before .before .before .before .args .count) (set (c .before .before .before .before .before .args .out .now) (c .before .before .before .before .before .args .to) (getD (c .before .before .before .before .before .args .s .now) (c .before .before .before .before .before .args .at) 0)) (c .before .before .before .before .before .args .to + 1) refl)
-
-element-terms-requires : (t : ℕ) → element-lts.Need-terms-requires (is-constant-reads.Asked, is-constant-reads.Learnt, terms-below t, terms.Post) (element-at t) element.Post
-element-terms-requires t c κs = omega arith
-
-element-same-length-2 : (t : ℕ) → element-lts.Need-same-length-2 (is-constant-reads.Asked, is-constant-reads.Learnt, terms-below t, terms.Post) (element-at t) element.Post
-element-same-length-2 t c = search needs
-
-element-returns-2 : (t : ℕ) → element-lts.Need-returns-2 (is-constant-reads.Asked, is-constant-reads.Learnt, terms-below t, terms.Post) (element-at t) element.Post
-element-returns-2 t c = c .before .before .terms .ensures
 
 ending-add-if1 :
     (t : ℕ) → ending-lts.Need-add-if1 (terms-below t, terms.Post) (ending-at t) ending.Post
@@ -207,7 +156,7 @@ ending-returns-4 :
     (t : ℕ) → ending-lts.Need-returns-4 (terms-below t, terms.Post) (ending-at t) ending.Post
 ending-returns-4 t c = rest-tail arity16 (c .before .before .before .before .before .before .before .before .before .before .args .s .now) (c .before .before .before .before .before .before .before .before .before .before .args .at) (c .before .before .before .before .before .before .before .before .before .before .args .count) (c .before .before .before .before .before .before .before .before .before .before .args .out .now) (c .before .before .before .before .before .before .before .before .before .before .args .to) (omega arith) (c .before .before .terms .last .1 .1 .1 .1 .0) (c .before .before .terms .result) (c .before .before .before .before .before .before .before .before .before .before .pre .1 .3) (c .before .before .before .before .before .before .before .if1 .left) (c .before .before .before .before .before .if2 .left) (c .before .before .before .before .if3 .left) (c .before .before .terms .ensures)
 
-list-loop-holds : (t : ℕ) → list-lts.Need-loop-holds (ending-below t, ending.Post, terms-below t, terms.Post, element-below t, element.Post) (list-at t) list.Post list-Inv-loop list-μ-loop
+list-loop-holds : (t : ℕ) → list-lts.Need-loop-holds (is-constant-reads.Asked, is-constant-reads.Learnt, ending-below t, ending.Post, terms-below t, terms.Post) (list-at t) list.Post list-Inv-loop list-μ-loop
 list-loop-holds t c = record {
   from-at = omega arith;
   at-in = omega arith;
@@ -217,107 +166,148 @@ list-loop-holds t c = record {
   goes-on = λ o r w. w;
 }
 
-list-same-length : (t : ℕ) → list-lts.Need-same-length (ending-below t, ending.Post, terms-below t, terms.Post, element-below t, element.Post) (list-at t) list.Post list-Inv-loop list-μ-loop
+list-same-length : (t : ℕ) → list-lts.Need-same-length (is-constant-reads.Asked, is-constant-reads.Learnt, ending-below t, ending.Post, terms-below t, terms.Post) (list-at t) list.Post list-Inv-loop list-μ-loop
 list-same-length t c = search needs
 
-list-returns : (t : ℕ) → list-lts.Need-returns (ending-below t, ending.Post, terms-below t, terms.Post, element-below t, element.Post) (list-at t) list.Post list-Inv-loop list-μ-loop
+list-returns : (t : ℕ) → list-lts.Need-returns (is-constant-reads.Asked, is-constant-reads.Learnt, ending-below t, ending.Post, terms-below t, terms.Post) (list-at t) list.Post list-Inv-loop list-μ-loop
 list-returns t c = c .before .loop .inv .goes-on (c .before .loop .out) Malformed (rest-end arity16 (c .before .before .before .before .args .s .now) (c .before .loop .at) (c .before .loop .some) (c .before .loop .count) (c .before .loop .out) (c .before .loop .to) (c .before .loop .out) (c .if1 .taken))
 
-list-mul-c : (t : ℕ) → list-lts.Need-mul-c (ending-below t, ending.Post, terms-below t, terms.Post, element-below t, element.Post) (list-at t) list.Post list-Inv-loop list-μ-loop
+list-mul-c : (t : ℕ) → list-lts.Need-mul-c (is-constant-reads.Asked, is-constant-reads.Learnt, ending-below t, ending.Post, terms-below t, terms.Post) (list-at t) list.Post list-Inv-loop list-μ-loop
 list-mul-c t c = search needs
 
-list-shared-slice-read-c : (t : ℕ) → list-lts.Need-shared-slice-read-c (ending-below t, ending.Post, terms-below t, terms.Post, element-below t, element.Post) (list-at t) list.Post list-Inv-loop list-μ-loop
+list-shared-slice-read-c : (t : ℕ) → list-lts.Need-shared-slice-read-c (is-constant-reads.Asked, is-constant-reads.Learnt, ending-below t, ending.Post, terms-below t, terms.Post) (list-at t) list.Post list-Inv-loop list-μ-loop
 list-shared-slice-read-c t c = search needs
 
-list-ending-requires : (t : ℕ) → list-lts.Need-ending-requires (ending-below t, ending.Post, terms-below t, terms.Post, element-below t, element.Post) (list-at t) list.Post list-Inv-loop list-μ-loop
-list-ending-requires t c κs = (omega arith, (omega arith, omega arith, omega arith, c .before .before .if2 .taken, omega arith, omega arith))
+list-is-constant-requires : (t : ℕ) → list-lts.Need-is-constant-requires (is-constant-reads.Asked, is-constant-reads.Learnt, ending-below t, ending.Post, terms-below t, terms.Post) (list-at t) list.Post list-Inv-loop list-μ-loop
+list-is-constant-requires t c κs = search needs
 
-list-same-length-2 : (t : ℕ) → list-lts.Need-same-length-2 (ending-below t, ending.Post, terms-below t, terms.Post, element-below t, element.Post) (list-at t) list.Post list-Inv-loop list-μ-loop
-list-same-length-2 t c = search needs
-
-list-returns-2 : (t : ℕ) → list-lts.Need-returns-2 (ending-below t, ending.Post, terms-below t, terms.Post, element-below t, element.Post) (list-at t) list.Post list-Inv-loop list-μ-loop
-list-returns-2 t c = c .before .before .before .before .before .before .before .before .loop .inv .goes-on (c .before .before .ending .last .1 .1 .1 .0) (c .before .before .ending .result) (subst (λ b. RestRan arity16 (c .before .before .before .before .before .before .before .before .before .before .before .args .s .now) (c .before .before .before .before .before .before .before .before .loop .at) b (c .before .before .before .before .before .before .before .before .loop .count) (c .before .before .before .before .before .before .before .before .loop .out) (c .before .before .before .before .before .before .before .before .loop .to) (c .before .before .ending .last .1 .1 .1 .0) (c .before .before .ending .result)) (sym (c .before .before .before .before .if3 .taken)) (c .before .before .ending .ensures))
-
-list-same-length-3 : (t : ℕ) → list-lts.Need-same-length-3 (ending-below t, ending.Post, terms-below t, terms.Post, element-below t, element.Post) (list-at t) list.Post list-Inv-loop list-μ-loop
-list-same-length-3 t c = search needs
-
-list-returns-3 : (t : ℕ) → list-lts.Need-returns-3 (ending-below t, ending.Post, terms-below t, terms.Post, element-below t, element.Post) (list-at t) list.Post list-Inv-loop list-μ-loop
-list-returns-3 t c = c .before .before .before .before .loop .inv .goes-on (c .before .before .before .before .loop .out) Malformed (subst (λ b. RestRan arity16 (c .before .before .before .before .before .before .before .args .s .now) (c .before .before .before .before .loop .at) b (c .before .before .before .before .loop .count) (c .before .before .before .before .loop .out) (c .before .before .before .before .loop .to) (c .before .before .before .before .loop .out) Malformed) (sym (c .if3 .left)) (rest-tail-first arity16 (c .before .before .before .before .before .before .before .args .s .now) (c .before .before .before .before .loop .at) (c .before .before .before .before .loop .count) (c .before .before .before .before .loop .out) (c .before .before .before .before .loop .to) (c .before .before .before .if1 .left) (c .before .before .before .before .loop .out) (c .before .if2 .taken)))
-
-list-mul-out : (t : ℕ) → list-lts.Need-mul-out (ending-below t, ending.Post, terms-below t, terms.Post, element-below t, element.Post) (list-at t) list.Post list-Inv-loop list-μ-loop
+list-mul-out : (t : ℕ) → list-lts.Need-mul-out (is-constant-reads.Asked, is-constant-reads.Learnt, ending-below t, ending.Post, terms-below t, terms.Post) (list-at t) list.Post list-Inv-loop list-μ-loop
 list-mul-out t c = search needs
 
-list-slice-write-out : (t : ℕ) → list-lts.Need-slice-write-out (ending-below t, ending.Post, terms-below t, terms.Post, element-below t, element.Post) (list-at t) list.Post list-Inv-loop list-μ-loop
+list-slice-write-out : (t : ℕ) → list-lts.Need-slice-write-out (is-constant-reads.Asked, is-constant-reads.Learnt, ending-below t, ending.Post, terms-below t, terms.Post) (list-at t) list.Post list-Inv-loop list-μ-loop
 list-slice-write-out t c = search needs
 
-list-add-terms : (t : ℕ) → list-lts.Need-add-terms (ending-below t, ending.Post, terms-below t, terms.Post, element-below t, element.Post) (list-at t) list.Post list-Inv-loop list-μ-loop
+list-add-out : (t : ℕ) → list-lts.Need-add-out (is-constant-reads.Asked, is-constant-reads.Learnt, ending-below t, ending.Post, terms-below t, terms.Post) (list-at t) list.Post list-Inv-loop list-μ-loop
+list-add-out t c = search needs
+
+list-mul-out-2 : (t : ℕ) → list-lts.Need-mul-out-2 (is-constant-reads.Asked, is-constant-reads.Learnt, ending-below t, ending.Post, terms-below t, terms.Post) (list-at t) list.Post list-Inv-loop list-μ-loop
+list-mul-out-2 t c = search needs
+
+list-slice-write-out-2 : (t : ℕ) → list-lts.Need-slice-write-out-2 (is-constant-reads.Asked, is-constant-reads.Learnt, ending-below t, ending.Post, terms-below t, terms.Post) (list-at t) list.Post list-Inv-loop list-μ-loop
+list-slice-write-out-2 t c = simp length-set (omega arith)
+
+list-add-at : (t : ℕ) → list-lts.Need-add-at (is-constant-reads.Asked, is-constant-reads.Learnt, ending-below t, ending.Post, terms-below t, terms.Post) (list-at t) list.Post list-Inv-loop list-μ-loop
+list-add-at t c = search needs
+
+list-add-to : (t : ℕ) → list-lts.Need-add-to (is-constant-reads.Asked, is-constant-reads.Learnt, ending-below t, ending.Post, terms-below t, terms.Post) (list-at t) list.Post list-Inv-loop list-μ-loop
+list-add-to t c = search needs
+
+list-loop-less : (t : ℕ) → list-lts.Need-loop-less (is-constant-reads.Asked, is-constant-reads.Learnt, ending-below t, ending.Post, terms-below t, terms.Post) (list-at t) list.Post list-Inv-loop list-μ-loop
+list-loop-less t c = omega arith
+
+list-loop-again : (t : ℕ) → list-lts.Need-loop-again (is-constant-reads.Asked, is-constant-reads.Learnt, ending-below t, ending.Post, terms-below t, terms.Post) (list-at t) list.Post list-Inv-loop list-μ-loop
+list-loop-again t c = let k : constant (getD (c .before .before .before .before .before .before .before .args .s .now) (c .before .before .before .before .loop .at) 0) ≡ true = sym (c .before .is-constant .ensures) ∙ c .if2 .taken in
+    record {
+      from-at = omega arith;
+      at-in = omega arith;
+      count-in = omega arith;
+      room = omega arith;
+      out-kept = simp length-set (c .before .before .before .before .loop .inv .out-kept);
+      goes-on = λ o r w.
+          c .before .before .before .before .loop .inv .goes-on o r
+          (rest-element arity16 (c .before .before .before .before .before .before .before .args .s .now) (c .before .before .before .before .loop .at) (c .before .before .before .before .loop .count) (c .before .before .before .before .loop .out) (c .before .before .before .before .loop .to) (c .before .before .before .if1 .left) (c .before .before .before .before .loop .some) (set (set (c .before .before .before .before .loop .out) (c .before .before .before .before .loop .to) PAIR) (c .before .before .before .before .loop .to + 1) (getD (c .before .before .before .before .before .before .before .args .s .now) (c .before .before .before .before .loop .at) 0)) (c .before .before .before .before .loop .at + 1) (c .before .before .before .before .loop .to + 2) (c .before .before .before .before .loop .count) o r
+          (forms-constant arity16 (c .before .before .before .before .before .before .before .args .s .now) (c .before .before .before .before .loop .at) (c .before .before .before .before .loop .count) (set (c .before .before .before .before .loop .out) (c .before .before .before .before .loop .to) PAIR) (c .before .before .before .before .loop .to + 1) (c .before .before .before .before .loop .to + 2) (c .before .before .before .if1 .left) k (omega arith)) w);
+    }
+
+list-ending-requires : (t : ℕ) → list-lts.Need-ending-requires (is-constant-reads.Asked, is-constant-reads.Learnt, ending-below t, ending.Post, terms-below t, terms.Post) (list-at t) list.Post list-Inv-loop list-μ-loop
+list-ending-requires t c κs = (omega arith, (omega arith, omega arith, omega arith, c .before .before .if3 .taken, omega arith, omega arith))
+
+list-same-length-2 : (t : ℕ) → list-lts.Need-same-length-2 (is-constant-reads.Asked, is-constant-reads.Learnt, ending-below t, ending.Post, terms-below t, terms.Post) (list-at t) list.Post list-Inv-loop list-μ-loop
+list-same-length-2 t c = search needs
+
+list-returns-2 : (t : ℕ) → list-lts.Need-returns-2 (is-constant-reads.Asked, is-constant-reads.Learnt, ending-below t, ending.Post, terms-below t, terms.Post) (list-at t) list.Post list-Inv-loop list-μ-loop
+list-returns-2 t c = c .before .before .before .before .before .before .before .before .before .before .loop .inv .goes-on (c .before .before .ending .last .1 .1 .1 .0) (c .before .before .ending .result) (subst (λ b. RestRan arity16 (c .before .before .before .before .before .before .before .before .before .before .before .before .before .args .s .now) (c .before .before .before .before .before .before .before .before .before .before .loop .at) b (c .before .before .before .before .before .before .before .before .before .before .loop .count) (c .before .before .before .before .before .before .before .before .before .before .loop .out) (c .before .before .before .before .before .before .before .before .before .before .loop .to) (c .before .before .ending .last .1 .1 .1 .0) (c .before .before .ending .result)) (sym (c .before .before .before .before .if4 .taken)) (c .before .before .ending .ensures))
+
+list-same-length-3 : (t : ℕ) → list-lts.Need-same-length-3 (is-constant-reads.Asked, is-constant-reads.Learnt, ending-below t, ending.Post, terms-below t, terms.Post) (list-at t) list.Post list-Inv-loop list-μ-loop
+list-same-length-3 t c = search needs
+
+list-returns-3 : (t : ℕ) → list-lts.Need-returns-3 (is-constant-reads.Asked, is-constant-reads.Learnt, ending-below t, ending.Post, terms-below t, terms.Post) (list-at t) list.Post list-Inv-loop list-μ-loop
+list-returns-3 t c = c .before .before .before .before .before .before .loop .inv .goes-on (c .before .before .before .before .before .before .loop .out) Malformed (subst (λ b. RestRan arity16 (c .before .before .before .before .before .before .before .before .before .args .s .now) (c .before .before .before .before .before .before .loop .at) b (c .before .before .before .before .before .before .loop .count) (c .before .before .before .before .before .before .loop .out) (c .before .before .before .before .before .before .loop .to) (c .before .before .before .before .before .before .loop .out) Malformed) (sym (c .if4 .left)) (rest-tail-first arity16 (c .before .before .before .before .before .before .before .before .before .args .s .now) (c .before .before .before .before .before .before .loop .at) (c .before .before .before .before .before .before .loop .count) (c .before .before .before .before .before .before .loop .out) (c .before .before .before .before .before .before .loop .to) (c .before .before .before .before .before .if1 .left) (c .before .before .before .before .before .before .loop .out) (c .before .if3 .taken)))
+
+list-mul-out-3 : (t : ℕ) → list-lts.Need-mul-out-3 (is-constant-reads.Asked, is-constant-reads.Learnt, ending-below t, ending.Post, terms-below t, terms.Post) (list-at t) list.Post list-Inv-loop list-μ-loop
+list-mul-out-3 t c = search needs
+
+list-slice-write-out-3 : (t : ℕ) → list-lts.Need-slice-write-out-3 (is-constant-reads.Asked, is-constant-reads.Learnt, ending-below t, ending.Post, terms-below t, terms.Post) (list-at t) list.Post list-Inv-loop list-μ-loop
+list-slice-write-out-3 t c = search needs
+
+list-add-terms : (t : ℕ) → list-lts.Need-add-terms (is-constant-reads.Asked, is-constant-reads.Learnt, ending-below t, ending.Post, terms-below t, terms.Post) (list-at t) list.Post list-Inv-loop list-μ-loop
 list-add-terms t c = search needs
 
-list-add-terms-2 : (t : ℕ) → list-lts.Need-add-terms-2 (ending-below t, ending.Post, terms-below t, terms.Post, element-below t, element.Post) (list-at t) list.Post list-Inv-loop list-μ-loop
+list-add-terms-2 : (t : ℕ) → list-lts.Need-add-terms-2 (is-constant-reads.Asked, is-constant-reads.Learnt, ending-below t, ending.Post, terms-below t, terms.Post) (list-at t) list.Post list-Inv-loop list-μ-loop
 list-add-terms-2 t c = search needs
 
-list-terms-requires : (t : ℕ) → list-lts.Need-terms-requires (ending-below t, ending.Post, terms-below t, terms.Post, element-below t, element.Post) (list-at t) list.Post list-Inv-loop list-μ-loop
+list-terms-requires : (t : ℕ) → list-lts.Need-terms-requires (is-constant-reads.Asked, is-constant-reads.Learnt, ending-below t, ending.Post, terms-below t, terms.Post) (list-at t) list.Post list-Inv-loop list-μ-loop
 list-terms-requires t c κs = simp length-set (omega arith)
 
-list-enum-known-next : (t : ℕ) → list-lts.Need-enum-known-next (ending-below t, ending.Post, terms-below t, terms.Post, element-below t, element.Post) (list-at t) list.Post list-Inv-loop list-μ-loop
+list-enum-known-next : (t : ℕ) → list-lts.Need-enum-known-next (is-constant-reads.Asked, is-constant-reads.Learnt, ending-below t, ending.Post, terms-below t, terms.Post) (list-at t) list.Post list-Inv-loop list-μ-loop
 list-enum-known-next t c = search needs
 
-list-enum-told : (t : ℕ) → list-lts.Need-enum-told (ending-below t, ending.Post, terms-below t, terms.Post, element-below t, element.Post) (list-at t) list.Post list-Inv-loop list-μ-loop
+list-enum-told : (t : ℕ) → list-lts.Need-enum-told (is-constant-reads.Asked, is-constant-reads.Learnt, ending-below t, ending.Post, terms-below t, terms.Post) (list-at t) list.Post list-Inv-loop list-μ-loop
 list-enum-told t c = search needs
 
-list-same-length-4 : (t : ℕ) → list-lts.Need-same-length-4 (ending-below t, ending.Post, terms-below t, terms.Post, element-below t, element.Post) (list-at t) list.Post list-Inv-loop list-μ-loop
-list-same-length-4 t c = c .before .before .before .before .terms .kept .1 .1 .1 .1 .0 ∙ simp length-set (c .before .before .before .before .before .before .before .before .before .before .loop .inv .out-kept)
+list-same-length-4 : (t : ℕ) → list-lts.Need-same-length-4 (is-constant-reads.Asked, is-constant-reads.Learnt, ending-below t, ending.Post, terms-below t, terms.Post) (list-at t) list.Post list-Inv-loop list-μ-loop
+list-same-length-4 t c = c .before .before .before .before .terms .kept .1 .1 .1 .1 .0 ∙ simp length-set (c .before .before .before .before .before .before .before .before .before .before .before .before .loop .inv .out-kept)
 
-list-returns-4 : (t : ℕ) → list-lts.Need-returns-4 (ending-below t, ending.Post, terms-below t, terms.Post, element-below t, element.Post) (list-at t) list.Post list-Inv-loop list-μ-loop
-list-returns-4 t c = c .before .before .before .before .before .before .before .before .before .before .loop .inv .goes-on (c .before .before .before .before .before .before .before .before .before .before .loop .out) Malformed (rest-last-short arity16 (c .before .before .before .before .before .before .before .before .before .before .before .before .before .args .s .now) (c .before .before .before .before .before .before .before .before .before .before .loop .at) (c .before .before .before .before .before .before .before .before .before .before .loop .count) (c .before .before .before .before .before .before .before .before .before .before .loop .out) (c .before .before .before .before .before .before .before .before .before .before .loop .to) (c .before .before .before .before .before .before .before .before .before .if1 .left) (c .before .before .before .before .before .before .before .before .before .before .loop .some) (c .before .before .before .before .terms .last .1 .1 .1 .1 .0) (c .before .before .before .before .before .before .before .before .before .before .loop .out) (c .before .before .before .before .before .before .if4 .taken) (rw (c .enum-told .given .1) at (c .before .before .before .before .terms .ensures)))
+list-returns-4 : (t : ℕ) → list-lts.Need-returns-4 (is-constant-reads.Asked, is-constant-reads.Learnt, ending-below t, ending.Post, terms-below t, terms.Post) (list-at t) list.Post list-Inv-loop list-μ-loop
+list-returns-4 t c = c .before .before .before .before .before .before .before .before .before .before .before .before .loop .inv .goes-on (c .before .before .before .before .before .before .before .before .before .before .before .before .loop .out) Malformed (rest-last-short arity16 (c .before .before .before .before .before .before .before .before .before .before .before .before .before .before .before .args .s .now) (c .before .before .before .before .before .before .before .before .before .before .before .before .loop .at) (c .before .before .before .before .before .before .before .before .before .before .before .before .loop .count) (c .before .before .before .before .before .before .before .before .before .before .before .before .loop .out) (c .before .before .before .before .before .before .before .before .before .before .before .before .loop .to) (c .before .before .before .before .before .before .before .before .before .before .before .if1 .left) (c .before .before .before .before .before .before .before .before .before .before .before .before .loop .some) (c .before .before .before .before .terms .last .1 .1 .1 .1 .0) (c .before .before .before .before .before .before .before .before .before .before .before .before .loop .out) (c .before .before .before .before .before .before .if5 .taken) (rw (c .enum-told .given .1) at (c .before .before .before .before .terms .ensures)))
 
-list-mul-out-2 : (t : ℕ) → list-lts.Need-mul-out-2 (ending-below t, ending.Post, terms-below t, terms.Post, element-below t, element.Post) (list-at t) list.Post list-Inv-loop list-μ-loop
-list-mul-out-2 t c = omega (arith, list-last-room t (c .before))
+list-mul-out-4 : (t : ℕ) → list-lts.Need-mul-out-4 (is-constant-reads.Asked, is-constant-reads.Learnt, ending-below t, ending.Post, terms-below t, terms.Post) (list-at t) list.Post list-Inv-loop list-μ-loop
+list-mul-out-4 t c = omega (arith, list-last-room t (c .before))
 
-list-slice-write-out-2 : (t : ℕ) → list-lts.Need-slice-write-out-2 (ending-below t, ending.Post, terms-below t, terms.Post, element-below t, element.Post) (list-at t) list.Post list-Inv-loop list-μ-loop
-list-slice-write-out-2 t c = omega (arith, list-last-room t (c .before), c .before .before .before .before .before .terms .kept .1 .1 .1 .1 .0, length-set (c .before .before .before .before .before .before .before .before .before .before .before .loop .out) (c .before .before .before .before .before .before .before .before .before .before .before .loop .to) PAIR)
+list-slice-write-out-4 : (t : ℕ) → list-lts.Need-slice-write-out-4 (is-constant-reads.Asked, is-constant-reads.Learnt, ending-below t, ending.Post, terms-below t, terms.Post) (list-at t) list.Post list-Inv-loop list-μ-loop
+list-slice-write-out-4 t c = omega (arith, list-last-room t (c .before), c .before .before .before .before .before .terms .kept .1 .1 .1 .1 .0, length-set (c .before .before .before .before .before .before .before .before .before .before .before .before .before .loop .out) (c .before .before .before .before .before .before .before .before .before .before .before .before .before .loop .to) PAIR)
 
-list-add-t29 : (t : ℕ) → list-lts.Need-add-t29 (ending-below t, ending.Post, terms-below t, terms.Post, element-below t, element.Post) (list-at t) list.Post list-Inv-loop list-μ-loop
-list-add-t29 t c = omega (arith, list-last-room t (c .before))
+list-add-t34 : (t : ℕ) → list-lts.Need-add-t34 (is-constant-reads.Asked, is-constant-reads.Learnt, ending-below t, ending.Post, terms-below t, terms.Post) (list-at t) list.Post list-Inv-loop list-μ-loop
+list-add-t34 t c = omega (arith, list-last-room t (c .before))
 
-list-same-length-5 : (t : ℕ) → list-lts.Need-same-length-5 (ending-below t, ending.Post, terms-below t, terms.Post, element-below t, element.Post) (list-at t) list.Post list-Inv-loop list-μ-loop
-list-same-length-5 t c = simp length-set (c .before .before .before .before .before .terms .kept .1 .1 .1 .1 .0 ∙ simp length-set (c .before .before .before .before .before .before .before .before .before .before .before .loop .inv .out-kept))
+list-same-length-5 : (t : ℕ) → list-lts.Need-same-length-5 (is-constant-reads.Asked, is-constant-reads.Learnt, ending-below t, ending.Post, terms-below t, terms.Post) (list-at t) list.Post list-Inv-loop list-μ-loop
+list-same-length-5 t c = simp length-set (c .before .before .before .before .before .terms .kept .1 .1 .1 .1 .0 ∙ simp length-set (c .before .before .before .before .before .before .before .before .before .before .before .before .before .loop .inv .out-kept))
 
-list-returns-5 : (t : ℕ) → list-lts.Need-returns-5 (ending-below t, ending.Post, terms-below t, terms.Post, element-below t, element.Post) (list-at t) list.Post list-Inv-loop list-μ-loop
-list-returns-5 t c = c .before .before .before .before .before .before .before .before .before .before .before .loop .inv .goes-on (set (c .before .before .before .before .before .terms .last .1 .1 .1 .1 .0) (c .before .next .given .0 .1 .0) nil) (Done (c .before .next .given .0 .0) (c .before .next .given .0 .1 .0 + 1) (c .before .next .given .0 .1 .1 .0)) (rest-last arity16 (c .before .before .before .before .before .before .before .before .before .before .before .before .before .before .args .s .now) (c .before .before .before .before .before .before .before .before .before .before .before .loop .at) (c .before .before .before .before .before .before .before .before .before .before .before .loop .count) (c .before .before .before .before .before .before .before .before .before .before .before .loop .out) (c .before .before .before .before .before .before .before .before .before .before .before .loop .to) (c .before .before .before .before .before .before .before .before .before .before .if1 .left) (c .before .before .before .before .before .before .before .before .before .before .before .loop .some) (c .before .before .before .before .before .terms .last .1 .1 .1 .1 .0) (c .before .next .given .0 .0) (c .before .next .given .0 .1 .0) (c .before .next .given .0 .1 .1 .0) (c .before .before .before .before .before .before .before .if4 .taken) (list-last t (c .before)))
+list-returns-5 : (t : ℕ) → list-lts.Need-returns-5 (is-constant-reads.Asked, is-constant-reads.Learnt, ending-below t, ending.Post, terms-below t, terms.Post) (list-at t) list.Post list-Inv-loop list-μ-loop
+list-returns-5 t c = c .before .before .before .before .before .before .before .before .before .before .before .before .before .loop .inv .goes-on (set (c .before .before .before .before .before .terms .last .1 .1 .1 .1 .0) (c .before .next .given .0 .1 .0) nil) (Done (c .before .next .given .0 .0) (c .before .next .given .0 .1 .0 + 1) (c .before .next .given .0 .1 .1 .0)) (rest-last arity16 (c .before .before .before .before .before .before .before .before .before .before .before .before .before .before .before .before .args .s .now) (c .before .before .before .before .before .before .before .before .before .before .before .before .before .loop .at) (c .before .before .before .before .before .before .before .before .before .before .before .before .before .loop .count) (c .before .before .before .before .before .before .before .before .before .before .before .before .before .loop .out) (c .before .before .before .before .before .before .before .before .before .before .before .before .before .loop .to) (c .before .before .before .before .before .before .before .before .before .before .before .before .if1 .left) (c .before .before .before .before .before .before .before .before .before .before .before .before .before .loop .some) (c .before .before .before .before .before .terms .last .1 .1 .1 .1 .0) (c .before .next .given .0 .0) (c .before .next .given .0 .1 .0) (c .before .next .given .0 .1 .1 .0) (c .before .before .before .before .before .before .before .if5 .taken) (list-last t (c .before)))
 
-list-add-element : (t : ℕ) → list-lts.Need-add-element (ending-below t, ending.Post, terms-below t, terms.Post, element-below t, element.Post) (list-at t) list.Post list-Inv-loop list-μ-loop
-list-add-element t c = search needs
+list-add-terms-3 : (t : ℕ) → list-lts.Need-add-terms-3 (is-constant-reads.Asked, is-constant-reads.Learnt, ending-below t, ending.Post, terms-below t, terms.Post) (list-at t) list.Post list-Inv-loop list-μ-loop
+list-add-terms-3 t c = search needs
 
-list-element-requires : (t : ℕ) → list-lts.Need-element-requires (ending-below t, ending.Post, terms-below t, terms.Post, element-below t, element.Post) (list-at t) list.Post list-Inv-loop list-μ-loop
-list-element-requires t c κs = simp length-set (omega arith)
+list-terms-requires-2 : (t : ℕ) → list-lts.Need-terms-requires-2 (is-constant-reads.Asked, is-constant-reads.Learnt, ending-below t, ending.Post, terms-below t, terms.Post) (list-at t) list.Post list-Inv-loop list-μ-loop
+list-terms-requires-2 t c κs = simp length-set (omega arith)
 
-list-enum-known-next-2 : (t : ℕ) → list-lts.Need-enum-known-next-2 (ending-below t, ending.Post, terms-below t, terms.Post, element-below t, element.Post) (list-at t) list.Post list-Inv-loop list-μ-loop
+list-enum-known-next-2 : (t : ℕ) → list-lts.Need-enum-known-next-2 (is-constant-reads.Asked, is-constant-reads.Learnt, ending-below t, ending.Post, terms-below t, terms.Post) (list-at t) list.Post list-Inv-loop list-μ-loop
 list-enum-known-next-2 t c = search needs
 
-list-enum-told-2 : (t : ℕ) → list-lts.Need-enum-told-2 (ending-below t, ending.Post, terms-below t, terms.Post, element-below t, element.Post) (list-at t) list.Post list-Inv-loop list-μ-loop
+list-enum-told-2 : (t : ℕ) → list-lts.Need-enum-told-2 (is-constant-reads.Asked, is-constant-reads.Learnt, ending-below t, ending.Post, terms-below t, terms.Post) (list-at t) list.Post list-Inv-loop list-μ-loop
 list-enum-told-2 t c = search needs
 
-list-same-length-6 : (t : ℕ) → list-lts.Need-same-length-6 (ending-below t, ending.Post, terms-below t, terms.Post, element-below t, element.Post) (list-at t) list.Post list-Inv-loop list-μ-loop
-list-same-length-6 t c = c .before .before .before .before .element .kept .1 .1 .1 .0 ∙ simp length-set (c .before .before .before .before .before .before .before .before .before .before .loop .inv .out-kept)
+list-same-length-6 : (t : ℕ) → list-lts.Need-same-length-6 (is-constant-reads.Asked, is-constant-reads.Learnt, ending-below t, ending.Post, terms-below t, terms.Post) (list-at t) list.Post list-Inv-loop list-μ-loop
+list-same-length-6 t c = c .before .before .before .before .terms2 .kept .1 .1 .1 .1 .0 ∙ simp length-set (c .before .before .before .before .before .before .before .before .before .before .before .before .loop .inv .out-kept)
 
-list-returns-6 : (t : ℕ) → list-lts.Need-returns-6 (ending-below t, ending.Post, terms-below t, terms.Post, element-below t, element.Post) (list-at t) list.Post list-Inv-loop list-μ-loop
-list-returns-6 t c = c .before .before .before .before .before .before .before .before .before .before .loop .inv .goes-on (c .before .before .before .before .before .before .before .before .before .before .loop .out) Malformed (rest-element-short arity16 (c .before .before .before .before .before .before .before .before .before .before .before .before .before .args .s .now) (c .before .before .before .before .before .before .before .before .before .before .loop .at) (c .before .before .before .before .before .before .before .before .before .before .loop .count) (c .before .before .before .before .before .before .before .before .before .before .loop .out) (c .before .before .before .before .before .before .before .before .before .before .loop .to) (c .before .before .before .before .before .before .before .before .before .if1 .left) (c .before .before .before .before .before .before .before .before .before .before .loop .some) (c .before .before .before .before .element .last .1 .1 .1 .0) (c .before .before .before .before .before .before .before .before .before .before .loop .out) (c .before .before .before .before .before .before .if4 .left) (c .before .before .before .before .before .before .before .if2 .left) (rw (c .enum-told2 .given .1) at (c .before .before .before .before .element .ensures)))
+list-returns-6 : (t : ℕ) → list-lts.Need-returns-6 (is-constant-reads.Asked, is-constant-reads.Learnt, ending-below t, ending.Post, terms-below t, terms.Post) (list-at t) list.Post list-Inv-loop list-μ-loop
+list-returns-6 t c = c .before .before .before .before .before .before .before .before .before .before .before .before .loop .inv .goes-on (c .before .before .before .before .before .before .before .before .before .before .before .before .loop .out) Malformed (rest-element-short arity16 (c .before .before .before .before .before .before .before .before .before .before .before .before .before .before .before .args .s .now) (c .before .before .before .before .before .before .before .before .before .before .before .before .loop .at) (c .before .before .before .before .before .before .before .before .before .before .before .before .loop .count) (c .before .before .before .before .before .before .before .before .before .before .before .before .loop .out) (c .before .before .before .before .before .before .before .before .before .before .before .before .loop .to) (c .before .before .before .before .before .before .before .before .before .before .before .if1 .left) (c .before .before .before .before .before .before .before .before .before .before .before .before .loop .some) (c .before .before .before .before .terms2 .last .1 .1 .1 .1 .0) (c .before .before .before .before .before .before .before .before .before .before .before .before .loop .out) (c .before .before .before .before .before .before .if5 .left) (c .before .before .before .before .before .before .before .if3 .left) (rw (c .enum-told2 .given .1) at (c .before .before .before .before .terms2 .ensures)))
 
-list-loop-less : (t : ℕ) → list-lts.Need-loop-less (ending-below t, ending.Post, terms-below t, terms.Post, element-below t, element.Post) (list-at t) list.Post list-Inv-loop list-μ-loop
-list-loop-less t c = omega (arith, list-room t (c .before))
+list-loop-less-2 : (t : ℕ) → list-lts.Need-loop-less-2 (is-constant-reads.Asked, is-constant-reads.Learnt, ending-below t, ending.Post, terms-below t, terms.Post) (list-at t) list.Post list-Inv-loop list-μ-loop
+list-loop-less-2 t c = omega (arith, list-room t (c .before))
 
-list-loop-again : (t : ℕ) → list-lts.Need-loop-again (ending-below t, ending.Post, terms-below t, terms.Post, element-below t, element.Post) (list-at t) list.Post list-Inv-loop list-μ-loop
-list-loop-again t c = let f = list-room t (c .before) in
+list-loop-again-2 : (t : ℕ) → list-lts.Need-loop-again-2 (is-constant-reads.Asked, is-constant-reads.Learnt, ending-below t, ending.Post, terms-below t, terms.Post) (list-at t) list.Post list-Inv-loop list-μ-loop
+list-loop-again-2 t c = let f = list-room t (c .before) in
     record {
       from-at = omega (arith, f);
       at-in = f .2;
       count-in = omega (arith, f);
       room = omega (arith, f);
-      out-kept = c .before .before .before .before .before .element .kept .1 .1 .1 .0 ∙ simp length-set (c .before .before .before .before .before .before .before .before .before .before .before .loop .inv .out-kept);
+      out-kept = c .before .before .before .before .before .terms2 .kept .1 .1 .1 .1 .0 ∙ simp length-set (c .before .before .before .before .before .before .before .before .before .before .before .before .before .loop .inv .out-kept);
       goes-on = λ o r w.
-          c .before .before .before .before .before .before .before .before .before .before .before .loop .inv .goes-on o r
-          (rest-element arity16 (c .before .before .before .before .before .before .before .before .before .before .before .before .before .before .args .s .now) (c .before .before .before .before .before .before .before .before .before .before .before .loop .at) (c .before .before .before .before .before .before .before .before .before .before .before .loop .count) (c .before .before .before .before .before .before .before .before .before .before .before .loop .out) (c .before .before .before .before .before .before .before .before .before .before .before .loop .to) (c .before .before .before .before .before .before .before .before .before .before .if1 .left) (c .before .before .before .before .before .before .before .before .before .before .before .loop .some) (c .before .before .before .before .before .element .last .1 .1 .1 .0) (c .before .next2 .given .0 .0) (c .before .next2 .given .0 .1 .0) (c .before .next2 .given .0 .1 .1 .0) o r (list-got t (c .before)) w);
+          c .before .before .before .before .before .before .before .before .before .before .before .before .before .loop .inv .goes-on o r
+          (rest-element arity16 (c .before .before .before .before .before .before .before .before .before .before .before .before .before .before .before .before .args .s .now) (c .before .before .before .before .before .before .before .before .before .before .before .before .before .loop .at) (c .before .before .before .before .before .before .before .before .before .before .before .before .before .loop .count) (c .before .before .before .before .before .before .before .before .before .before .before .before .before .loop .out) (c .before .before .before .before .before .before .before .before .before .before .before .before .before .loop .to) (c .before .before .before .before .before .before .before .before .before .before .before .before .if1 .left) (c .before .before .before .before .before .before .before .before .before .before .before .before .before .loop .some) (c .before .before .before .before .before .terms2 .last .1 .1 .1 .1 .0) (c .before .next2 .given .0 .0) (c .before .next2 .given .0 .1 .0) (c .before .next2 .given .0 .1 .1 .0) o r (list-got t (c .before)) w);
     }
 
 terms-loop-holds : (t : ℕ) → terms-lts.Need-loop-holds (list-below t, list.Post, is-variable-reads.Asked, is-variable-reads.Learnt, payload-of-reads.Asked, payload-of-reads.Learnt, met-after-reads.Asked, met-after-reads.Learnt, shape-of-reads.Asked, shape-of-reads.Learnt) (terms-at t) terms.Post terms-Inv-loop terms-μ-loop
@@ -484,24 +474,8 @@ terms-same-length-5 t c = search needs
 terms-returns-5 : (t : ℕ) → terms-lts.Need-returns-5 (list-below t, list.Post, is-variable-reads.Asked, is-variable-reads.Learnt, payload-of-reads.Asked, payload-of-reads.Learnt, met-after-reads.Asked, met-after-reads.Learnt, shape-of-reads.Asked, shape-of-reads.Learnt) (terms-at t) terms.Post terms-Inv-loop terms-μ-loop
 terms-returns-5 t c = c .before .loop .inv .goes-on (c .before .loop .out) (Done (c .before .loop .at) (c .before .loop .to) (c .before .loop .count)) (forms-none arity16 (c .before .before .before .before .args .s .now) (c .before .loop .at) (c .before .loop .due) (c .before .loop .count) (c .before .loop .out) (c .before .loop .to) (omega arith))
 
-pub +element+ending+list+terms-spec : {M : Type 1} → statement M
-+element+ending+list+terms-spec = close μ-element μ-ending μ-list μ-terms (λ t. element-lts.spec (is-constant-reads.Asked, is-constant-reads.Learnt, terms-below t, terms.Post)
-    (element-at t)
-    element.Post
-    (element-mul-c t)
-    (element-shared-slice-read-c t)
-    (element-is-constant-requires t)
-    (element-mul-out t)
-    (element-slice-write-out t)
-    (element-add-t11 t)
-    (element-add-t13 t)
-    (element-same-length t)
-    (element-returns t)
-    (element-terms-requires t)
-    (element-same-length-2 t)
-    (element-returns-2 t))
-    (λ t. ending-lts.spec
-    (terms-below t, terms.Post)
+pub +ending+list+terms-spec : {M : Type 1} → statement M
++ending+list+terms-spec = close μ-ending μ-list μ-terms (λ t. ending-lts.spec (terms-below t, terms.Post)
     (ending-at t)
     ending.Post
     (ending-add-if1 t)
@@ -515,7 +489,7 @@ pub +element+ending+list+terms-spec : {M : Type 1} → statement M
     (ending-terms-requires t)
     (ending-same-length t)
     (ending-returns-4 t))
-    (λ t. list-lts.spec (ending-below t, ending.Post, terms-below t, terms.Post, element-below t, element.Post)
+    (λ t. list-lts.spec (is-constant-reads.Asked, is-constant-reads.Learnt, ending-below t, ending.Post, terms-below t, terms.Post)
     (list-at t)
     list.Post
     list-Inv-loop
@@ -525,13 +499,23 @@ pub +element+ending+list+terms-spec : {M : Type 1} → statement M
     (list-returns t)
     (list-mul-c t)
     (list-shared-slice-read-c t)
+    (list-is-constant-requires t)
+    (list-mul-out t)
+    (list-slice-write-out t)
+    (list-add-out t)
+    (list-mul-out-2 t)
+    (list-slice-write-out-2 t)
+    (list-add-at t)
+    (list-add-to t)
+    (list-loop-less t)
+    (list-loop-again t)
     (list-ending-requires t)
     (list-same-length-2 t)
     (list-returns-2 t)
     (list-same-length-3 t)
     (list-returns-3 t)
-    (list-mul-out t)
-    (list-slice-write-out t)
+    (list-mul-out-3 t)
+    (list-slice-write-out-3 t)
     (list-add-terms t)
     (list-add-terms-2 t)
     (list-terms-requires t)
@@ -539,19 +523,19 @@ pub +element+ending+list+terms-spec : {M : Type 1} → statement M
     (list-enum-told t)
     (list-same-length-4 t)
     (list-returns-4 t)
-    (list-mul-out-2 t)
-    (list-slice-write-out-2 t)
-    (list-add-t29 t)
+    (list-mul-out-4 t)
+    (list-slice-write-out-4 t)
+    (list-add-t34 t)
     (list-same-length-5 t)
     (list-returns-5 t)
-    (list-add-element t)
-    (list-element-requires t)
+    (list-add-terms-3 t)
+    (list-terms-requires-2 t)
     (list-enum-known-next-2 t)
     (list-enum-told-2 t)
     (list-same-length-6 t)
     (list-returns-6 t)
-    (list-loop-less t)
-    (list-loop-again t))
+    (list-loop-less-2 t)
+    (list-loop-again-2 t))
     λ t. terms-lts.spec (list-below t, list.Post, is-variable-reads.Asked, is-variable-reads.Learnt, payload-of-reads.Asked, payload-of-reads.Learnt, met-after-reads.Asked, met-after-reads.Learnt, shape-of-reads.Asked, shape-of-reads.Learnt)
     (terms-at t)
     terms.Post
