@@ -84,7 +84,7 @@ each-term vs (u ∷ us) j zero d h l e = absurd (not-suc-le-zero h)
 each-term vs (u ∷ us) zero (suc k) d h l e = each-left vs (pairs u) (every pairs (take k us)) e
 each-term vs (u ∷ us) (suc j) (suc k) d h l e = each-term vs us j k d (omega arith) (omega arith) (each-right vs (pairs u) (every pairs (take k us)) e)
 
-every-suc : (us : List Term) (k : ℕ) (d : Term) → k < length us → every pairs (take (suc k) us) ≡ every pairs (take k us) ++ pairs (getD us k d)
+pub every-suc : (us : List Term) (k : ℕ) (d : Term) → k < length us → every pairs (take (suc k) us) ≡ every pairs (take k us) ++ pairs (getD us k d)
 unfolding every
 every-suc [] k d h = absurd (not-suc-le-zero h)
 every-suc (u ∷ us) zero d h = append-nil (pairs u)

@@ -1,0 +1,17 @@
+pub mod HeaderTests
+pub mod CellRecords
+pub mod CellWrites
+pub mod CellChanges
+pub mod FreshView
+pub mod TrieNodes
+pub mod TrieWalks
+pub mod TrieLinks
+pub mod SameRecords
+pub mod Agreeing
+pub mod Calling
+pub mod Answering
+pub mod Steps
+pub mod CallLists
+pub mod Following
+pub mod Untouched
+pub mod Theorem

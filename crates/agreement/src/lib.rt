@@ -1,0 +1,1 @@
+// The theorem over lists of calls: no code.

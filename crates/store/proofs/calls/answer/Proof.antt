@@ -1,0 +1,65 @@
+-- `store::calls::answer` meets its contract.
+use Prim.Native.Nat.{ℕ}
+use Rattle.plain.specs.Requests as request
+use Rattle.space.proofs.HeaderLaws.{header-bounds}
+use Rattle.store.proofs.CallsCases.{steps-refused, steps-sound-at}
+use borrow.Author.Needs.{needs}
+use Rattle.store.proofs.calls.answer.Statement.{statement}
+use Rattle.store.proofs.calls.answer.Tie as tie
+
+read-header-requires : tie.Need-read-header-requires
+read-header-requires c κs = search needs
+
+enum-known-read : tie.Need-enum-known-read
+enum-known-read c = search needs
+
+enum-known-read-2 : tie.Need-enum-known-read-2
+enum-known-read-2 c = search needs
+
+enum-known-read-3 : tie.Need-enum-known-read-3
+enum-known-read-3 c = search needs
+
+same-length : tie.Need-same-length
+same-length c = search needs
+
+returns : tie.Need-returns
+returns c = steps-refused _ _ _ (cc)
+
+enum-told : tie.Need-enum-told
+enum-told c = search needs
+
+same-length-2 : tie.Need-same-length-2
+same-length-2 c = search needs
+
+returns-2 : tie.Need-returns-2
+returns-2 c = search needs
+
+wide-requires : tie.Need-wide-requires
+wide-requires c κs = search needs
+
+answer-in-requires : tie.Need-answer-in-requires
+answer-in-requires c κs = header-bounds _ _ (cc)
+
+same-length-3 : tie.Need-same-length-3
+same-length-3 c = search needs
+
+returns-3 : tie.Need-returns-3
+returns-3 c = steps-sound-at _ _ (λ (s : ℕ). request.answer s (c .before .before .before .before .before .before .before .before .before .before .before .before .args .terms .now)) _ _ _ _ (c .before .before .before .wide .ensures .0) (cc) (c .before .before .answer-in .ensures)
+
+pub answer-spec : {M : Type 1} → statement M
+answer-spec =
+    tie.close
+    (tie.spec
+    read-header-requires
+    enum-known-read
+    enum-known-read-2
+    enum-known-read-3
+    same-length
+    returns
+    enum-told
+    same-length-2
+    returns-2
+    wide-requires
+    answer-in-requires
+    same-length-3
+    returns-3)

@@ -1,0 +1,96 @@
+-- `store::calls::answer_with` meets its contract.
+use mathlib.Core.Path.{_≡_, sym, _∙_}
+use lib.ListN.{take}
+use Rattle.forms.specs.Cells.{arity16}
+use Rattle.forms.specs.Compact.{compactForm}
+use Rattle.forms.specs.Converting.{reading}
+use Rattle.forms.specs.declared.Reading.the-variants.{Form}
+use Rattle.store.proofs.CallsReading.{form-room, form-count}
+use Rattle.store.proofs.CallsAnswers.{read-refused, read-form}
+use borrow.Author.Needs.{needs}
+use Rattle.store.proofs.calls.answer_with.Statement.{statement}
+use Rattle.store.proofs.calls.answer_with.Tie as tie
+
+-- the form that was read
+got : (x : tie.After-read) → Form (x .read .given .0 .0) (x .read .given .0 .1 .0) ≡ reading arity16 (x .before .before .before .before .before .before .before .before .before .before .before .before .before .args .g .variables) (x .before .before .before .before .before .before .before .before .before .before .before .before .before .args .terms .now)
+got x = sym (x .read .given .1) ∙ x .before .before .before .before .before .before .read-terms .ensures .0
+
+holds : (x : tie.After-read) → take (x .read .given .0 .0) (x .before .before .before .before .before .before .read-terms .last .1 .1 .1 .0) ≡ compactForm arity16 (x .before .before .before .before .before .before .before .before .before .before .before .before .before .args .terms .now)
+holds x = rw (x .read .given .1) at (x .before .before .before .before .before .before .read-terms .ensures .1)
+
+read-terms-requires : tie.Need-read-terms-requires
+read-terms-requires c κs = search needs
+
+enum-known-read : tie.Need-enum-known-read
+enum-known-read c = search needs
+
+enum-known-read-2 : tie.Need-enum-known-read-2
+enum-known-read-2 c = search needs
+
+enum-known-read-3 : tie.Need-enum-known-read-3
+enum-known-read-3 c = search needs
+
+same-length : tie.Need-same-length
+same-length c = search needs
+
+same-length-2 : tie.Need-same-length-2
+same-length-2 c = search needs
+
+returns : tie.Need-returns
+returns c = read-refused (c .before .before .before .before .before .before .before .before .before .before .before .before .before .before .before .before .before .args .space .now) (c .before .before .before .before .before .before .before .before .before .before .before .before .before .before .before .before .before .args .h) (c .before .before .before .before .before .before .before .before .before .before .before .before .before .before .before .before .before .args .s) (c .before .before .before .before .before .before .before .before .before .before .before .before .before .before .before .before .before .args .g .variables) (c .before .before .before .before .before .before .before .before .before .before .before .before .before .before .before .before .before .args .terms .now) _ (cc)
+
+enum-told : tie.Need-enum-told
+enum-told c = search needs
+
+same-length-3 : tie.Need-same-length-3
+same-length-3 c = search needs
+
+same-length-4 : tie.Need-same-length-4
+same-length-4 c = search needs
+
+returns-2 : tie.Need-returns-2
+returns-2 c = search needs
+
+slice-reshare-prefix-answer-at : tie.Need-slice-reshare-prefix-answer-at
+slice-reshare-prefix-answer-at c = form-room _ _ _ _ (got (c .before .before)) _ (holds (c .before .before))
+
+slice-aggregate-answer-at : tie.Need-slice-aggregate-answer-at
+slice-aggregate-answer-at c = form-count _ _ _ _ (got (c .before .before .before)) _ (holds (c .before .before .before))
+
+answer-at-requires : tie.Need-answer-at-requires
+answer-at-requires c κs = search needs
+
+same-length-5 : tie.Need-same-length-5
+same-length-5 c = search needs
+
+same-length-6 : tie.Need-same-length-6
+same-length-6 c = search needs
+
+same-length-7 : tie.Need-same-length-7
+same-length-7 c = search needs
+
+returns-3 : tie.Need-returns-3
+returns-3 c = read-form (c .before .before .before .before .before .before .before .before .before .before .before .before .before .before .before .before .before .before .before .args .space .now) (c .before .before .before .before .before .before .before .before .before .before .before .before .before .before .before .before .before .before .before .args .h) (c .before .before .before .before .before .before .before .before .before .before .before .before .before .before .before .before .before .before .before .args .s) (c .before .before .before .before .before .before .before .before .before .before .before .before .before .before .before .before .before .before .before .args .g .variables) (c .before .before .before .before .before .before .before .before .before .before .before .before .before .before .before .before .before .before .before .args .terms .now) (c .before .before .before .before .before .before .before .before .before .before .before .before .before .before .before .before .before .before .before .args .g) _ _ (c .before .before .before .before .before .before .before .before .before .before .before .before .read-terms .last .1 .1 .1 .0) _ _ (c .before .before .before .before .before .before .before .before .before .before .before .before .before .before .before .before .before .before .before .pre .0 .3) (got (c .before .before .before .before .before .before)) (holds (c .before .before .before .before .before .before)) (c .before .before .answer-at .ensures)
+
+pub answer-with-spec : {M : Type 1} → statement M
+answer-with-spec =
+    tie.close
+    (tie.spec
+    read-terms-requires
+    enum-known-read
+    enum-known-read-2
+    enum-known-read-3
+    same-length
+    same-length-2
+    returns
+    enum-told
+    same-length-3
+    same-length-4
+    returns-2
+    slice-reshare-prefix-answer-at
+    slice-aggregate-answer-at
+    answer-at-requires
+    same-length-5
+    same-length-6
+    same-length-7
+    returns-3)

@@ -1,0 +1,87 @@
+-- `store::calls::call` meets its contract.
+use Rattle.space.proofs.HeaderLaws.{header-bounds}
+use Rattle.store.proofs.CallsCases.{steps-refused, steps-sound}
+use borrow.Author.Needs.{needs}
+use Rattle.store.proofs.calls.call.Statement.{statement}
+use Rattle.store.proofs.calls.call.Tie as tie
+
+read-header-requires : tie.Need-read-header-requires
+read-header-requires c κs = search needs
+
+enum-known-read : tie.Need-enum-known-read
+enum-known-read c = search needs
+
+enum-known-read-2 : tie.Need-enum-known-read-2
+enum-known-read-2 c = search needs
+
+enum-known-read-3 : tie.Need-enum-known-read-3
+enum-known-read-3 c = search needs
+
+same-length : tie.Need-same-length
+same-length c = search needs
+
+returns : tie.Need-returns
+returns c = steps-refused _ _ _ (cc)
+
+enum-told : tie.Need-enum-told
+enum-told c = search needs
+
+same-length-2 : tie.Need-same-length-2
+same-length-2 c = search needs
+
+returns-2 : tie.Need-returns-2
+returns-2 c = search needs
+
+slice-aggregate-call-with : tie.Need-slice-aggregate-call-with
+slice-aggregate-call-with c = search needs
+
+slice-aggregate-call-with-2 : tie.Need-slice-aggregate-call-with-2
+slice-aggregate-call-with-2 c = search needs
+
+call-with-requires : tie.Need-call-with-requires
+call-with-requires c κs = (header-bounds _ _ (cc), search needs)
+
+same-length-3 : tie.Need-same-length-3
+same-length-3 c = search needs
+
+returns-3 : tie.Need-returns-3
+returns-3 c = steps-sound _ _ _ _ _ (cc) (c .before .before .before .before .call-with .ensures)
+
+slice-aggregate-call-with-3 : tie.Need-slice-aggregate-call-with-3
+slice-aggregate-call-with-3 c = search needs
+
+slice-aggregate-call-with-4 : tie.Need-slice-aggregate-call-with-4
+slice-aggregate-call-with-4 c = search needs
+
+call-with-requires-2 : tie.Need-call-with-requires-2
+call-with-requires-2 c κs = (header-bounds _ _ (cc), search needs)
+
+same-length-4 : tie.Need-same-length-4
+same-length-4 c = search needs
+
+returns-4 : tie.Need-returns-4
+returns-4 c = steps-sound _ _ _ _ _ (cc) (c .before .before .before .before .call-with2 .ensures)
+
+pub call-spec : {M : Type 1} → statement M
+call-spec =
+    tie.close
+    (tie.spec
+    read-header-requires
+    enum-known-read
+    enum-known-read-2
+    enum-known-read-3
+    same-length
+    returns
+    enum-told
+    same-length-2
+    returns-2
+    slice-aggregate-call-with
+    slice-aggregate-call-with-2
+    call-with-requires
+    same-length-3
+    returns-3
+    slice-aggregate-call-with-3
+    slice-aggregate-call-with-4
+    call-with-requires-2
+    same-length-4
+    returns-4)

@@ -1,0 +1,89 @@
+-- `store::calls::enter_subgoal` meets its contract.
+use mathlib.Core.Path.{_∙_, _≡_}
+use lib.ListN.{length, set, length-set}
+use native.Mathlib.Omega.{arith}
+use Prim.Native.Nat.{ℕ, _+_}
+use mathlib.Core.List.{List}
+use Rattle.space.specs.Sound.{Bounds}
+use Rattle.store.proofs.CallsRecords.{bounds-appended, bounds-linked, bounds-node}
+use Rattle.store.proofs.CallsCases.{subgoal-entered}
+use borrow.Author.Needs.{needs}
+use Rattle.store.proofs.calls.enter_subgoal.Statement.{statement}
+use Rattle.store.proofs.calls.enter_subgoal.Tie as tie
+
+-- the bounds after the answer root is written
+bounds : (c : tie.After-write-subgoal-arg) → Bounds (c .before .before .before .write-node .last .0) (c .before .before .before .before .before .before .before .before .before .before .before .before .before .before .before .before .before .args .h)
+bounds c =
+    bounds-node _ _ _
+    (bounds-linked _ _ _
+    (bounds-appended _ _ _ (c .before .before .before .before .before .before .before .before .before .before .before .before .before .before .before .before .before .pre .0 .0) _ _ _ (search needs) (search needs) (c .before .before .before .before .before .before .before .before .before .before .before .append-path .ensures))
+    _ _ (c .before .before .before .before .before .before .before .write-link .ensures))
+    _ _ (c .before .before .before .write-node .ensures)
+
+sized : (c : tie.After-slice-known5) → length (c .before .before .write-subgoal .last .0) ≡ length (c .before .before .before .before .before .before .before .before .before .before .before .before .before .before .before .before .before .before .before .before .args .space .now)
+sized c = c .before .before .write-subgoal .kept .0 ∙ c .before .before .before .before .before .before .write-node .kept .0 ∙ c .before .before .before .before .before .before .before .before .before .before .write-link .kept .0 ∙ c .before .before .before .before .before .before .before .before .before .before .before .before .before .before .append-path .kept .0
+
+add-root : tie.Need-add-root
+add-root c = search needs
+
+sub-leaf : tie.Need-sub-leaf
+sub-leaf c = search needs
+
+add-s : tie.Need-add-s
+add-s c = search needs
+
+append-path-requires : tie.Need-append-path-requires
+append-path-requires c κs = search needs
+
+cast-write-link : tie.Need-cast-write-link
+cast-write-link c = search needs
+
+write-link-requires : tie.Need-write-link-requires
+write-link-requires c κs = search needs
+
+write-node-requires : tie.Need-write-node-requires
+write-node-requires c κs = search needs
+
+write-subgoal-requires : tie.Need-write-subgoal-requires
+write-subgoal-requires c κs = (bounds c, search needs, search needs, record { leaf-fits = omega arith; root-fits = omega arith; variables-fit = omega arith; state-fits = omega arith; first-fits = omega arith; last-fits = omega arith })
+
+add-space : tie.Need-add-space
+add-space c = search needs
+
+cast-space : tie.Need-cast-space
+cast-space c = search needs
+
+slice-write-space : tie.Need-slice-write-space
+slice-write-space c = search needs
+
+cast-space-2 : tie.Need-cast-space-2
+cast-space-2 c = search needs
+
+slice-write-space-2 : tie.Need-slice-write-space-2
+slice-write-space-2 c = omega (arith, sized c, length-set (c .before .before .write-subgoal .last .0) 1 (c .before .before .before .before .before .before .before .before .before .before .before .before .before .before .before .before .before .before .before .before .args .h .nodes + length (c .before .before .before .before .before .before .before .before .before .before .before .before .before .before .before .before .before .before .before .before .args .tokens .now) + 1))
+
+same-length : tie.Need-same-length
+same-length c = let s : List ℕ = c .before .before .write-subgoal .last .0 in length-set (set s 1 (c .before .before .before .before .before .before .before .before .before .before .before .before .before .before .before .before .before .before .before .before .args .h .nodes + length (c .before .before .before .before .before .before .before .before .before .before .before .before .before .before .before .before .before .before .before .before .args .tokens .now) + 1)) 2 (c .before .before .before .before .before .before .before .before .before .before .before .before .before .before .before .before .before .before .before .before .args .h .subgoals + 1) ∙ length-set s 1 (c .before .before .before .before .before .before .before .before .before .before .before .before .before .before .before .before .before .before .before .before .args .h .nodes + length (c .before .before .before .before .before .before .before .before .before .before .before .before .before .before .before .before .before .before .before .before .args .tokens .now) + 1) ∙ sized c
+
+returns : tie.Need-returns
+returns c = subgoal-entered _ _ _ _ _ _ _ _ _ _ (c .before .before .before .before .before .before .before .before .before .before .before .before .before .before .append-path .ensures) (c .before .before .before .before .before .before .before .before .before .before .write-link .ensures) (c .before .before .before .before .before .before .write-node .ensures) (c .before .before .write-subgoal .ensures)
+
+pub enter-subgoal-spec : {M : Type 1} → statement M
+enter-subgoal-spec =
+    tie.close
+    (tie.spec
+    add-root
+    sub-leaf
+    add-s
+    append-path-requires
+    cast-write-link
+    write-link-requires
+    write-node-requires
+    write-subgoal-requires
+    add-space
+    cast-space
+    slice-write-space
+    cast-space-2
+    slice-write-space-2
+    same-length
+    returns)

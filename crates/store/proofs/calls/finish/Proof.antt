@@ -1,0 +1,64 @@
+-- `store::calls::finish` meets its contract.
+use Rattle.store.proofs.CallsCases.{steps-refused, steps-sound-at}
+use Rattle.space.proofs.HeaderLaws.{header-bounds}
+use Rattle.plain.specs.Requests as request
+use borrow.Author.Needs.{needs}
+use Rattle.store.proofs.calls.finish.Statement.{statement}
+use Rattle.store.proofs.calls.finish.Tie as tie
+
+read-header-requires : tie.Need-read-header-requires
+read-header-requires c κs = search needs
+
+enum-known-read : tie.Need-enum-known-read
+enum-known-read c = search needs
+
+enum-known-read-2 : tie.Need-enum-known-read-2
+enum-known-read-2 c = search needs
+
+enum-known-read-3 : tie.Need-enum-known-read-3
+enum-known-read-3 c = search needs
+
+same-length : tie.Need-same-length
+same-length c = search needs
+
+returns : tie.Need-returns
+returns c = steps-refused _ _ _ (cc)
+
+enum-told : tie.Need-enum-told
+enum-told c = search needs
+
+same-length-2 : tie.Need-same-length-2
+same-length-2 c = search needs
+
+returns-2 : tie.Need-returns-2
+returns-2 c = search needs
+
+wide-requires : tie.Need-wide-requires
+wide-requires c κs = search needs
+
+finish-in-requires : tie.Need-finish-in-requires
+finish-in-requires c κs = header-bounds _ _ (cc)
+
+same-length-3 : tie.Need-same-length-3
+same-length-3 c = search needs
+
+returns-3 : tie.Need-returns-3
+returns-3 c = steps-sound-at _ _ request.finish _ _ _ _ (c .before .before .before .wide .ensures .0) (cc) (c .before .before .finish-in .ensures)
+
+pub finish-spec : {M : Type 1} → statement M
+finish-spec =
+    tie.close
+    (tie.spec
+    read-header-requires
+    enum-known-read
+    enum-known-read-2
+    enum-known-read-3
+    same-length
+    returns
+    enum-told
+    same-length-2
+    returns-2
+    wide-requires
+    finish-in-requires
+    same-length-3
+    returns-3)

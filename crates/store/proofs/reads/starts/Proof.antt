@@ -1,0 +1,23 @@
+-- `store::reads::starts` meets its contract.
+use Rattle.store.proofs.ReadsCases.{starting-none, starting-above, starting-named}
+use borrow.Author.Needs.{needs}
+use Rattle.store.proofs.reads.starts.Statement.{statement}
+use Rattle.store.proofs.reads.starts.Tie as tie
+use Rattle.store.proofs.reads.starts.Reads as reads
+use Rattle.store.proofs.reads.starts.Lts as lts
+use Rattle.space.proofs.records.answer_in.Reads as answer-in-reads
+
+returns : tie.Need-returns
+returns c = starting-none _ _ _ (search needs)
+
+returns-2 : tie.Need-returns-2
+returns-2 c = starting-above _ _ _ (search needs) (search needs)
+
+answer-in-requires : tie.Need-answer-in-requires
+answer-in-requires c κs = search needs
+
+returns-3 : tie.Need-returns-3
+returns-3 c = starting-named _ _ _ (search needs) (search needs) (c .before .answer-in .result) (c .before .answer-in .ensures)
+
+pub starts-spec : {M : Type 1} → statement M
+starts-spec = tie.close (tie.spec returns returns-2 answer-in-requires returns-3)

@@ -1,0 +1,52 @@
+-- The seven calls on the cells of a space, sound or damaged: refusal 1, then the decision, then the change.
+use Prim.Native.Nat.{ℕ, _+_}
+use mathlib.Core.List.{List, [], _++_}
+use lib.Dec.{leb}
+use lib.ListN.{length, drop, getD}
+use Rattle.basis.specs.Choice.{pick}
+use Rattle.plain.specs.Coding.{Coding, edition1}
+use Rattle.plain.specs.Requests.{Request, lent, Counts, Reply, new, done, cells, refused, short, Result, Seen, trace}
+use Rattle.space.specs.Layout.{Sizes, sizes}
+use Rattle.space.specs.Heading.{headerOf}
+use Rattle.space.specs.declared.Head.{Head}
+use Rattle.space.specs.declared.Header.{Header}
+use Rattle.space.specs.declared.Header.the-variants as header
+use Rattle.store.specs.Views.{View, viewOf}
+use Rattle.store.specs.Decisions.{Decision, says, gives, entersSubgoal, entersAnswer, entersEmpty, finishes, decide}
+use Rattle.store.specs.Changes.{nodesCell, subgoalsCell, answersCell, change}
+
+-- what the call answers, out being so long; cells that do not fit are 12 with the need
+unfoldable pub reply : View → Decision → ℕ → Reply
+reply v (says r) room = r
+reply v (gives ks) room = pick (leb (length ks) room) (cells (length ks)) (short (length ks))
+reply v (entersSubgoal parent last left m) room = new (v .subgoals + 1)
+reply v (entersAnswer s parent last left) room = new (v .answers + 1)
+reply v (entersEmpty s) room = new (v .answers + 1)
+reply v (finishes s) room = done
+
+-- out after the call: the cells before what was there, if they fit
+unfoldable pub outAfter : Decision → List ℕ → List ℕ
+outAfter (says r) out = out
+outAfter (gives ks) out = pick (leb (length ks) (length out)) (ks ++ drop (length ks) out) out
+outAfter (entersSubgoal parent last left m) out = out
+outAfter (entersAnswer s parent last left) out = out
+outAfter (entersEmpty s) out = out
+outAfter (finishes s) out = out
+
+unfoldable pub under : Sizes → Coding → List ℕ → Request → Header → Result (List ℕ)
+under z c cs q (header.Sound h) =
+    let d = decide c (viewOf z cs h) q in
+    record { reply = reply (viewOf z cs h) d (length (lent q)); out = outAfter d (lent q); state = change z cs h d }
+under z c cs q (header.Refused r) = record { reply = refused r; out = lent q; state = cs }
+
+-- what a call leaves
+unfoldable pub cellStep : Sizes → Coding → List ℕ → Request → Result (List ℕ)
+cellStep z c cs q = under z c cs q (headerOf z cs)
+
+-- the counts as they stand in the header
+abbrev pub countedCells : List ℕ → Counts
+countedCells cs = record { nodes = getD cs nodesCell 0; subgoals = getD cs subgoalsCell 0; answers = getD cs answersCell 0 }
+
+-- what is seen of a list of calls
+abbrev pub cellTrace : Sizes → Coding → List ℕ → List Request → List Seen
+cellTrace z c cs qs = trace (cellStep z c) countedCells cs qs

@@ -1,0 +1,166 @@
+-- What a call comes to, before anything is written: refusals 3 to 11 in their order, each record judged where it is read.
+use Prim.Native.Nat.{ℕ, suc, _+_}
+use mathlib.Core.Bool.{Bool, true, false, _&&_}
+use mathlib.Core.List.{List, []}
+use lib.Dec.{eqb, leb, ltb}
+use lib.ListN.{length}
+use Rattle.basis.specs.Choice.{pick}
+use Rattle.forms.specs.Numbering.{met}
+use Rattle.plain.specs.Words.{Word}
+use Rattle.plain.specs.Coding.{Coding, Reading, refused, accepted}
+use Rattle.plain.specs.Requests.{State, Open, Finished, Request, call, answer, finish, next, load, instance, counts, Counts, Reply, new, oldSubgoal, oldAnswer, done, at, none, cells, used, refused, short}
+use Rattle.space.specs.Judging.{subgoalSound, answerSound}
+use Rattle.space.specs.declared.Subgoal.{Subgoal}
+use Rattle.space.specs.declared.Answer.{Answer}
+use Rattle.trie.specs.Siblings.{Trie}
+use Rattle.trie.specs.Walks.{Walk, whole, stopped, damaged, rootSound, walk}
+use Rattle.trie.specs.Paths.{Path, none, tokens, gather, longest}
+use Rattle.store.specs.Views.{View, subgoalTrie, answerTrie}
+
+-- an answer, and nothing is written; cells for out; or a record more: below a node after its last child
+-- (0: it has none) a path for the tokens left
+pub data Decision : Type 0 where
+  says : Reply → Decision
+  gives : List ℕ → Decision
+  -- parent, last child, tokens left, variables
+  entersSubgoal : ℕ → ℕ → Word → ℕ → Decision
+  -- subgoal, parent, last child, tokens left
+  entersAnswer : ℕ → ℕ → ℕ → Word → Decision
+  -- subgoal: the empty answer, whose leaf is the answer root
+  entersEmpty : ℕ → Decision
+  finishes : ℕ → Decision
+
+abbrev pub refuses : ℕ → Decision
+refuses r = says (refused r)
+
+-- ---- records
+
+abbrev pub soundSubgoal : View → ℕ → Bool
+soundSubgoal v s = subgoalSound (v .nodes) (v .answers) (v .subgoal s)
+
+abbrev pub soundAnswer : View → ℕ → Bool
+soundAnswer v a = answerSound (v .nodes) (v .subgoals) (v .answers) a (v .answer a)
+
+-- an answer that a subgoal record, or another answer of the subgoal, names
+abbrev pub soundAnswerOf : View → ℕ → ℕ → Bool
+soundAnswerOf v s a = soundAnswer v a && eqb (v .answer a .subgoal) s
+
+-- where the test fails a damaged record was met
+abbrev pub sound : Bool → Decision → Decision
+sound b d = pick b d (refuses 9)
+
+-- 7 where s is not the number of one of n records
+abbrev pub known : ℕ → ℕ → Decision → Decision
+known n s d = pick (ltb 0 s) (pick (leb s n) d (refuses 7)) (refuses 7)
+
+abbrev pub stateOf : ℕ → State
+stateOf x = pick (eqb x 0) Open Finished
+
+-- ---- call
+
+-- the path was found whole at a node with this link
+unfoldable pub calledOld : View → ℕ → ℕ → Decision
+calledOld v leaf s =
+    sound (ltb 0 s && soundSubgoal v s && eqb (v .subgoal s .leaf) leaf) (says (oldSubgoal s (stateOf (v .subgoal s .state))))
+
+-- 10 where the nodes left are fewer than the new ones, the answer root among them; then 11
+unfoldable pub calledNew : View → ℕ → ℕ → Word → ℕ → Decision
+calledNew v parent last left m =
+    pick (leb (v .nodes + length left + 1) (v .N))
+    (pick (ltb (v .subgoals) (v .F)) (entersSubgoal parent last left m) (refuses 11))
+    (refuses 10)
+
+unfoldable pub calledAt : View → Walk → ℕ → Decision
+calledAt v (whole leaf) m = calledOld v leaf (v .node leaf .link)
+calledAt v (stopped parent last left) m = calledNew v parent last left m
+calledAt v damaged m = refuses 9
+
+unfoldable pub called : View → Reading → Decision
+called v (refused r) = refuses r
+called v (accepted w m) = calledAt v (walk (subgoalTrie v) 0 w) m
+
+-- ---- answer
+
+-- the last answer of the subgoal, if there is one, is read before a new one is entered
+abbrev pub soundLast : View → ℕ → Bool
+soundLast v s = let a = v .subgoal s .last in pick (eqb a 0) true (soundAnswerOf v s a && eqb (v .answer a .next) 0)
+
+unfoldable pub answeredNew : View → ℕ → ℕ → Decision → Decision
+answeredNew v s more d =
+    sound (soundLast v s)
+    (pick (leb (v .nodes + more) (v .N)) (pick (ltb (v .answers) (v .A)) d (refuses 11)) (refuses 10))
+
+-- the terms' path was found whole at a node with this link; with no terms that is the answer root
+unfoldable pub answeredOld : View → ℕ → Word → ℕ → ℕ → Decision
+answeredOld v s w leaf a =
+    pick (eqb a 0)
+    (pick (eqb (length w) 0) (answeredNew v s 0 (entersEmpty s)) (refuses 9))
+    (sound (soundAnswer v a && eqb (v .answer a .leaf) leaf) (says (oldAnswer a)))
+
+unfoldable pub answeredAt : View → ℕ → Word → Walk → Decision
+answeredAt v s w (whole leaf) = answeredOld v s w leaf (v .node leaf .link)
+answeredAt v s w (stopped parent last left) = answeredNew v s (length left) (entersAnswer s parent last left)
+answeredAt v s w damaged = refuses 9
+
+unfoldable pub answered : View → ℕ → Reading → Decision
+answered v s (refused r) = refuses r
+answered v s (accepted w m) = answeredAt v s w (walk (answerTrie v) (v .subgoal s .root) w)
+
+-- 8 where the subgoal is finished
+abbrev pub whileOpen : State → Decision → Decision
+whileOpen Open d = d
+whileOpen Finished d = refuses 8
+
+-- ---- next
+
+-- where next may start: from 0, or from an answer whose record names the subgoal, as it stands
+unfoldable pub starting : View → ℕ → ℕ → Bool
+starting v s a = pick (eqb a 0) true (pick (leb a (v .answers)) (eqb (v .answer a .subgoal) s) false)
+
+-- answer a is handed out
+unfoldable pub handed : View → ℕ → ℕ → Decision
+handed v s a = pick (eqb a 0) (says none) (sound (soundAnswerOf v s a) (says (at a)))
+
+unfoldable pub onward : View → ℕ → ℕ → Decision
+onward v s a =
+    sound (soundSubgoal v s)
+    (pick (eqb a 0) (handed v s (v .subgoal s .first)) (sound (soundAnswer v a) (handed v s (v .answer a .next))))
+
+-- ---- load and instance
+
+-- what follows where a path leads to the root and passes the test
+unfoldable pub onPath : Path → (Word → Bool) → (Word → Decision) → Decision
+onPath none test d = refuses 9
+onPath (tokens w) test d = sound (test w) (d w)
+
+-- the path of an answer is the form of m legal terms
+unfoldable pub loaded : Coding → View → ℕ → (Word → Decision) → Decision
+loaded c v a d =
+    let g = v .subgoal (v .answer a .subgoal) in
+    onPath (gather longest (answerTrie v) (g .root) (v .answer a .leaf)) (λ w. c .legal (g .variables) w) d
+
+-- the path of a subgoal is the form of one legal term with m variables
+unfoldable pub instanced : Coding → View → ℕ → (Word → Decision) → Decision
+instanced c v s d =
+    let g = v .subgoal s in
+    onPath (gather longest (subgoalTrie v) 0 (g .leaf)) (λ w. c .legal 1 w && eqb (length (met [] w)) (g .variables)) d
+
+-- the answer's record and its subgoal's are judged straight after 7
+abbrev pub soundPair : View → ℕ → Bool
+soundPair v a = soundAnswer v a && soundSubgoal v (v .answer a .subgoal)
+
+-- ---- the seven calls
+
+unfoldable pub decide : Coding → View → Request → Decision
+decide c v (call cs) = called v (c .called cs)
+decide c v (answer s cs) =
+    known (v .subgoals) s
+    (sound (soundSubgoal v s && rootSound (answerTrie v) (v .subgoal s .root))
+    (whileOpen (stateOf (v .subgoal s .state)) (answered v s (c .answered (v .subgoal s .variables) cs))))
+decide c v (finish s) = known (v .subgoals) s (sound (soundSubgoal v s) (finishes s))
+decide c v (next s a) = known (v .subgoals) s (pick (starting v s a) (onward v s a) (refuses 7))
+decide c v (load a out) = known (v .answers) a (sound (soundPair v a) (loaded c v a (λ w. gives (c .expand w))))
+decide c v (instance a out) =
+    known (v .answers) a
+    (sound (soundPair v a) (loaded c v a (λ w. instanced c v (v .answer a .subgoal) (λ u. gives (c .instanceOf u w)))))
+decide c v counts = says (used (record { nodes = v .nodes; subgoals = v .subgoals; answers = v .answers }))

@@ -1,0 +1,51 @@
+-- What each answer of the code says: the number and values that the request's paper gives for each case.
+use mathlib.Core.List.{List}
+use Rattle.plain.specs.Requests.{State, Open, Finished, Counts, Reply, new, oldSubgoal, oldAnswer, done, at, none, cells, used, refused, short}
+use Rattle.forms.specs.declared.Answer.{Answer}
+use Rattle.forms.specs.declared.Answer.the-variants as converted
+use Rattle.store.specs.declared.State as declared-state
+use Rattle.store.specs.declared.State.the-variants as state
+use Rattle.store.specs.declared.CallAnswer.{CallAnswer}
+use Rattle.store.specs.declared.CallAnswer.the-variants as call
+use Rattle.store.specs.declared.AnswerAnswer.{AnswerAnswer}
+use Rattle.store.specs.declared.AnswerAnswer.the-variants as answer
+use Rattle.store.specs.declared.FinishAnswer.{FinishAnswer}
+use Rattle.store.specs.declared.FinishAnswer.the-variants as finish
+use Rattle.store.specs.declared.NextAnswer.{NextAnswer}
+use Rattle.store.specs.declared.NextAnswer.the-variants as next
+use Rattle.store.specs.declared.Counts as declared-counts
+use Rattle.store.specs.declared.CountsAnswer.{CountsAnswer}
+use Rattle.store.specs.declared.CountsAnswer.the-variants as counts
+
+abbrev pub saidState : declared-state.State → State
+saidState state.Open = Open
+saidState state.Finished = Finished
+
+abbrev pub saidCall : CallAnswer → Reply
+saidCall (call.New n) = new n
+saidCall (call.Old n s) = oldSubgoal n (saidState s)
+saidCall (call.Refused r) = refused r
+
+abbrev pub saidAnswer : AnswerAnswer → Reply
+saidAnswer (answer.New n) = new n
+saidAnswer (answer.Old n) = oldAnswer n
+saidAnswer (answer.Refused r) = refused r
+
+abbrev pub saidFinish : FinishAnswer → Reply
+saidFinish finish.Done = done
+saidFinish (finish.Refused r) = refused r
+
+abbrev pub saidNext : NextAnswer → Reply
+saidNext (next.At n) = at n
+saidNext next.NoMore = none
+saidNext (next.Refused r) = refused r
+
+-- load and instance answer as the converters do
+abbrev pub saidCells : Answer → Reply
+saidCells (converted.Cells n) = cells n
+saidCells (converted.Refused r) = refused r
+saidCells (converted.Short n) = short n
+
+abbrev pub saidCounts : CountsAnswer → Reply
+saidCounts (counts.Used y) = used (record { nodes = y .nodes; subgoals = y .subgoals; answers = y .answers })
+saidCounts (counts.Refused r) = refused r

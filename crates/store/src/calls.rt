@@ -1,0 +1,469 @@
+// The calls that write: call, answer and finish. Each decides first, and then changes the space.
+use super::AnswerAnswer;
+use super::CallAnswer;
+use super::FinishAnswer;
+use super::State;
+use basis::wide;
+use convert::read_terms;
+use forms::Reading;
+use forms::is_callable;
+use space::Answer;
+use space::AnswerRead;
+use space::Head;
+use space::Header;
+use space::Node;
+use space::NodeRead;
+use space::Subgoal;
+use space::SubgoalRead;
+use space::heading::read_header;
+use space::records::node_in;
+use space::records::read_answer;
+use space::records::read_node;
+use space::records::read_subgoal;
+use space::records::write_answer;
+use space::records::write_link;
+use space::records::write_node;
+use space::records::write_subgoal;
+use trie::Walked;
+use trie::appends::append_path;
+use trie::walks::walk_tokens;
+ghost use mathlib.Core.Path.{_≡_};
+ghost use Prim.Native.Nat.{_+_, _*_, _<_, _≤_};
+ghost use lib.Dec.{eqb};
+ghost use lib.ListN.{length};
+ghost use Rattle.basis.specs.Choice.{pick};
+ghost use Rattle.basis.specs.Writes.{writes};
+ghost use Rattle.forms.specs.Cells.{arity16};
+ghost use Rattle.plain.specs.Coding.{judged, compacted, edition1};
+ghost use Rattle.plain.specs.Requests as request;
+ghost use Rattle.space.specs.Layout.{sizes, subgoalIn};
+ghost use Rattle.space.specs.Sound.{Bounds};
+ghost use Rattle.space.specs.declared.Header.the-variants as header;
+ghost use Rattle.trie.specs.Siblings.{trieIn};
+ghost use Rattle.trie.specs.Walks.{walk};
+ghost use Rattle.store.specs.Views.{viewOf};
+ghost use Rattle.store.specs.Decisions.{Decision, refuses, stateOf, calledOld, calledNew, calledAt, called, soundLast, answeredNew, answeredOld, answeredAt, answered, entersAnswer, entersEmpty};
+ghost use Rattle.store.specs.Changes.{chained, subgoalEntered, answerEntered, change};
+ghost use Rattle.store.specs.Calls.{reply, under, cellStep};
+ghost use Rattle.store.specs.Replies.{saidState, saidCall, saidAnswer, saidFinish};
+
+// ---- finish
+
+// In a space whose header is sound.
+fn finish_in(space: &mut [u32], h: Head, s: usize) -> FinishAnswer
+    requires { ⌜ Bounds (now space) h ⌝ }
+    ensures { λ r. ⌜ (saidFinish r ≡ under sizes edition1 (now (space .entry)) (request.finish s) (header.Sound h) .reply) × (now (space .exit) ≡ under sizes edition1 (now (space .entry)) (request.finish s) (header.Sound h) .state) ⌝ }
+{
+    if s == 0 {
+        return FinishAnswer::Refused(7);
+    }
+    if h.subgoals < s {
+        return FinishAnswer::Refused(7);
+    }
+    let SubgoalRead::Sound(_) = read_subgoal(space, h, s) else {
+        return FinishAnswer::Refused(9);
+    };
+    let at = h.subgoal_offset + 6 * (s - 1);
+    space[at + 3] = 1;
+    FinishAnswer::Done
+}
+
+pub fn finish(space: &mut [u32], subgoal: u32) -> FinishAnswer
+    ensures { λ r. ⌜ (saidFinish r ≡ cellStep sizes edition1 (now (space .entry)) (request.finish subgoal) .reply) × (now (space .exit) ≡ cellStep sizes edition1 (now (space .entry)) (request.finish subgoal) .state) ⌝ }
+{
+    let read = read_header(space);
+    let Header::Sound(h) = read else {
+        match read {
+            Header::Refused(r) => return FinishAnswer::Refused(r),
+            Header::Sound(_) => return FinishAnswer::Refused(0),
+        }
+    };
+    finish_in(space, h, wide(subgoal))
+}
+
+// ---- call
+
+// What a subgoal's state cell says.
+fn state_of(x: usize) -> State
+    ensures { λ r. ⌜ saidState r ≡ stateOf x ⌝ }
+{
+    if x == 0 {
+        return State::Open;
+    }
+    State::Finished
+}
+
+// The path was found whole at a leaf whose link is s.
+fn call_old(space: &[u32], h: Head, leaf: usize, s: usize) -> CallAnswer
+    requires { ⌜ Bounds (now space) h × (s ≤ h .subgoals) ⌝ }
+    ensures { λ r. ⌜ saidCall r ≡ reply (viewOf sizes (now (space .entry)) h) (calledOld (viewOf sizes (now (space .entry)) h) leaf s) 0 ⌝ }
+{
+    if s == 0 {
+        return CallAnswer::Refused(9);
+    }
+    let SubgoalRead::Sound(y) = read_subgoal(space, h, s) else {
+        return CallAnswer::Refused(9);
+    };
+    if y.leaf == leaf {
+        return CallAnswer::Old(s as u32, state_of(y.state));
+    }
+    CallAnswer::Refused(9)
+}
+
+// The path, its leaf linked to the subgoal, the answer root behind it, the record, the counts.
+fn enter_subgoal(space: &mut [u32], h: Head, parent: usize, last: usize, tokens: &[u32], m: usize)
+    requires { ⌜ Bounds (now space) h × (parent < h .nodes) × (last < h .nodes) × (m ≤ 32) ⌝ }
+    requires { ⌜ (h .nodes + length (now tokens) < h .«node_capacity») × (h .subgoals < h .«subgoal_capacity») ⌝ }
+    ensures { λ r. ⌜ now (space .exit) ≡ subgoalEntered sizes (now (space .entry)) h parent last (now (tokens .entry)) m ⌝ }
+{
+    let root = h.nodes + tokens.len();
+    let leaf = root - 1;
+    let s = h.subgoals + 1;
+    append_path(space, h.node_capacity, h.nodes, parent, last, tokens);
+    write_link(space, h.node_capacity, leaf, s as u32);
+    let node = Node {
+        token: 0,
+        child: 0,
+        sibling: 0,
+        parent: root,
+        link: 0,
+    };
+    write_node(space, h.node_capacity, root, node);
+    let record = Subgoal {
+        leaf: leaf,
+        root: root,
+        variables: m,
+        state: 0,
+        first: 0,
+        last: 0,
+    };
+    write_subgoal(space, h, s, record);
+    space[1] = (root + 1) as u32;
+    space[2] = s as u32;
+}
+
+// The path stopped below a node: a node for each token left and an answer root are new.
+fn call_new(
+    space: &mut [u32],
+    h: Head,
+    parent: usize,
+    last: usize,
+    tokens: &[u32],
+    m: usize,
+) -> CallAnswer
+    requires { ⌜ Bounds (now space) h × (parent < h .nodes) × (last < h .nodes) × (m ≤ 32) ⌝ }
+    ensures { λ r. ⌜ (saidCall r ≡ reply (viewOf sizes (now (space .entry)) h) (calledNew (viewOf sizes (now (space .entry)) h) parent last (now (tokens .entry)) m) 0) × (now (space .exit) ≡ change sizes (now (space .entry)) h (calledNew (viewOf sizes (now (space .entry)) h) parent last (now (tokens .entry)) m)) ⌝ }
+{
+    let free = h.node_capacity - h.nodes;
+    if free <= tokens.len() {
+        return CallAnswer::Refused(10);
+    }
+    if h.subgoal_capacity <= h.subgoals {
+        return CallAnswer::Refused(11);
+    }
+    enter_subgoal(space, h, parent, last, tokens, m);
+    let s = h.subgoals + 1;
+    CallAnswer::New(s as u32)
+}
+
+// A term with this form and m variables is called.
+fn call_at(space: &mut [u32], h: Head, tokens: &[u32], m: usize) -> CallAnswer
+    requires { ⌜ Bounds (now space) h × (m ≤ 32) ⌝ }
+    ensures { λ r. ⌜ (saidCall r ≡ reply (viewOf sizes (now (space .entry)) h) (calledAt (viewOf sizes (now (space .entry)) h) (walk (trieIn sizes (now (space .entry)) (h .nodes) (h .subgoals)) 0 (now (tokens .entry))) m) 0) × (now (space .exit) ≡ change sizes (now (space .entry)) h (calledAt (viewOf sizes (now (space .entry)) h) (walk (trieIn sizes (now (space .entry)) (h .nodes) (h .subgoals)) 0 (now (tokens .entry))) m)) ⌝ }
+{
+    let walked = walk_tokens(space, h.nodes, h.subgoals, 0, tokens);
+    match walked {
+        Walked::Whole(leaf) => {
+            let y = node_in(space, h.nodes, leaf);
+            return call_old(space, h, leaf, y.link);
+        }
+        Walked::Stopped(parent, last, left) => {
+            let from = tokens.len() - left;
+            return call_new(space, h, parent, last, &tokens[from..], m);
+        }
+        Walked::Damaged => return CallAnswer::Refused(9),
+    }
+}
+
+// A term is called, with buffers that are long enough for it.
+fn call_with(
+    space: &mut [u32],
+    h: Head,
+    term: &[u32],
+    vars: &mut [u32],
+    form: &mut [u32],
+) -> CallAnswer
+    requires { ⌜ Bounds (now space) h ⌝ }
+    requires { ⌜ (length (now term) ≤ 256 → (length (now term) ≤ length (now vars)) × (3 * length (now term) ≤ 2 * length (now form))) ⌝ }
+    ensures { λ r. ⌜ (saidCall r ≡ under sizes edition1 (now (space .entry)) (request.call (now (term .entry))) (header.Sound h) .reply) × (now (space .exit) ≡ under sizes edition1 (now (space .entry)) (request.call (now (term .entry))) (header.Sound h) .state) ⌝ }
+{
+    let read = read_terms(term, 1, vars, form);
+    let Reading::Form(n, m) = read else {
+        match read {
+            Reading::Refusal(r) => return CallAnswer::Refused(r),
+            Reading::Form(_, _) => return CallAnswer::Refused(0),
+        }
+    };
+    if is_callable(term[0]) {
+        return call_at(space, h, &form[..n], m);
+    }
+    CallAnswer::Refused(6)
+}
+
+// Short terms get short buffers.
+pub fn call(space: &mut [u32], term: &[u32]) -> CallAnswer
+    ensures { λ r. ⌜ (saidCall r ≡ cellStep sizes edition1 (now (space .entry)) (request.call (now (term .entry))) .reply) × (now (space .exit) ≡ cellStep sizes edition1 (now (space .entry)) (request.call (now (term .entry))) .state) ⌝ }
+{
+    let read = read_header(space);
+    let Header::Sound(h) = read else {
+        match read {
+            Header::Refused(r) => return CallAnswer::Refused(r),
+            Header::Sound(_) => return CallAnswer::Refused(0),
+        }
+    };
+    if term.len() <= 16 {
+        let mut vars = [0u32; 16];
+        let mut form = [0u32; 24];
+        return call_with(space, h, term, &mut vars, &mut form);
+    }
+    let mut vars = [0u32; 256];
+    let mut form = [0u32; 384];
+    call_with(space, h, term, &mut vars, &mut form)
+}
+
+// ---- answer
+
+// The last answer of subgoal s, where there is one, is the subgoal's and has none after it.
+fn last_sound(space: &[u32], h: Head, s: usize, last: usize) -> bool
+    requires { ⌜ Bounds (now space) h × (last ≤ h .answers) × (last ≡ subgoalIn sizes (now space) (h .«subgoal_offset») s .last) ⌝ }
+    ensures { λ r. ⌜ r ≡ soundLast (viewOf sizes (now (space .entry)) h) s ⌝ }
+{
+    if last == 0 {
+        return true;
+    }
+    let AnswerRead::Sound(y) = read_answer(space, h, last) else {
+        return false;
+    };
+    if y.subgoal == s {
+        return y.next == 0;
+    }
+    false
+}
+
+// The refusal of a new answer that takes so many nodes more; 0 for none.
+fn refusal(space: &[u32], h: Head, s: usize, g: Subgoal, more: usize) -> u32
+    requires { ⌜ Bounds (now space) h × (g ≡ subgoalIn sizes (now space) (h .«subgoal_offset») s) × (g .last ≤ h .answers) ⌝ }
+    ensures { λ r. ⌜ ((d : Decision) → answeredNew (viewOf sizes (now (space .entry)) h) s more d ≡ pick (eqb r 0) d (refuses r)) ⌝ }
+{
+    if last_sound(space, h, s, g.last) {
+        let free = h.node_capacity - h.nodes;
+        if free < more {
+            return 10;
+        }
+        if h.answer_capacity <= h.answers {
+            return 11;
+        }
+        return 0;
+    }
+    9
+}
+
+// The new answer a becomes the subgoal's first, or the next of its last.
+fn chain(space: &mut [u32], h: Head, s: usize, g: Subgoal, a: usize)
+    requires { ⌜ Bounds (now space) h × (1 ≤ s) × (s ≤ h .subgoals) × (g .last ≤ h .answers) × (a ≤ h .«answer_capacity») ⌝ }
+    ensures { λ r. ⌜ now (space .exit) ≡ writes (chained sizes h s g a) (now (space .entry)) ⌝ }
+{
+    let last = g.last;
+    if last == 0 {
+        let at = h.subgoal_offset + 6 * (s - 1);
+        space[at + 4] = a as u32;
+        return;
+    }
+    let at = h.answer_offset + 3 * (last - 1);
+    space[at + 2] = a as u32;
+}
+
+// The leaf linked to the answer, the chain, the record, the subgoal's last answer, the counts.
+fn enter_answer(space: &mut [u32], h: Head, s: usize, g: Subgoal, leaf: usize, nodes: usize)
+    requires { ⌜ Bounds (now space) h × (1 ≤ s) × (s ≤ h .subgoals) × (g .last ≤ h .answers) ⌝ }
+    requires { ⌜ (leaf < h .«node_capacity») × (nodes ≤ h .«node_capacity») × (h .answers < h .«answer_capacity») ⌝ }
+    ensures { λ r. ⌜ now (space .exit) ≡ answerEntered sizes (now (space .entry)) h s g leaf nodes ⌝ }
+{
+    let a = h.answers + 1;
+    write_link(space, h.node_capacity, leaf, a as u32);
+    chain(space, h, s, g, a);
+    let record = Answer {
+        leaf: leaf,
+        subgoal: s,
+        next: 0,
+    };
+    write_answer(space, h, a, record);
+    let at = h.subgoal_offset + 6 * (s - 1);
+    space[at + 5] = a as u32;
+    space[1] = nodes as u32;
+    space[3] = a as u32;
+}
+
+// A new answer whose leaf is the answer root: that of no terms.
+fn answer_empty(space: &mut [u32], h: Head, s: usize, g: Subgoal) -> AnswerAnswer
+    requires { ⌜ Bounds (now space) h × (1 ≤ s) × (s ≤ h .subgoals) × (g ≡ subgoalIn sizes (now space) (h .«subgoal_offset») s) × (g .last ≤ h .answers) × (g .root < h .nodes) ⌝ }
+    ensures { λ r. ⌜ (saidAnswer r ≡ reply (viewOf sizes (now (space .entry)) h) (answeredNew (viewOf sizes (now (space .entry)) h) s 0 (entersEmpty s)) 0) × (now (space .exit) ≡ change sizes (now (space .entry)) h (answeredNew (viewOf sizes (now (space .entry)) h) s 0 (entersEmpty s))) ⌝ }
+{
+    let k = refusal(space, h, s, g, 0);
+    if k == 0 {
+        enter_answer(space, h, s, g, g.root, h.nodes);
+        let a = h.answers + 1;
+        return AnswerAnswer::New(a as u32);
+    }
+    AnswerAnswer::Refused(k)
+}
+
+// A new answer with a node for each token left.
+fn answer_new(
+    space: &mut [u32],
+    h: Head,
+    s: usize,
+    g: Subgoal,
+    parent: usize,
+    last: usize,
+    tokens: &[u32],
+) -> AnswerAnswer
+    requires { ⌜ Bounds (now space) h × (1 ≤ s) × (s ≤ h .subgoals) × (g ≡ subgoalIn sizes (now space) (h .«subgoal_offset») s) × (g .last ≤ h .answers) ⌝ }
+    requires { ⌜ (parent < h .nodes) × (last < h .nodes) ⌝ }
+    ensures { λ r. ⌜ (saidAnswer r ≡ reply (viewOf sizes (now (space .entry)) h) (answeredNew (viewOf sizes (now (space .entry)) h) s (length (now (tokens .entry))) (entersAnswer s parent last (now (tokens .entry)))) 0) × (now (space .exit) ≡ change sizes (now (space .entry)) h (answeredNew (viewOf sizes (now (space .entry)) h) s (length (now (tokens .entry))) (entersAnswer s parent last (now (tokens .entry))))) ⌝ }
+{
+    let k = refusal(space, h, s, g, tokens.len());
+    if k == 0 {
+        let nodes = h.nodes + tokens.len();
+        append_path(space, h.node_capacity, h.nodes, parent, last, tokens);
+        enter_answer(space, h, s, g, nodes - 1, nodes);
+        let a = h.answers + 1;
+        return AnswerAnswer::New(a as u32);
+    }
+    AnswerAnswer::Refused(k)
+}
+
+// The path was found whole at a leaf whose link is a; with no terms that is the answer root.
+fn answer_old(
+    space: &mut [u32],
+    h: Head,
+    s: usize,
+    g: Subgoal,
+    tokens: &[u32],
+    leaf: usize,
+    a: usize,
+) -> AnswerAnswer
+    requires { ⌜ Bounds (now space) h × (1 ≤ s) × (s ≤ h .subgoals) × (g ≡ subgoalIn sizes (now space) (h .«subgoal_offset») s) × (g .last ≤ h .answers) × (g .root < h .nodes) × (a ≤ h .answers) ⌝ }
+    ensures { λ r. ⌜ (saidAnswer r ≡ reply (viewOf sizes (now (space .entry)) h) (answeredOld (viewOf sizes (now (space .entry)) h) s (now (tokens .entry)) leaf a) 0) × (now (space .exit) ≡ change sizes (now (space .entry)) h (answeredOld (viewOf sizes (now (space .entry)) h) s (now (tokens .entry)) leaf a)) ⌝ }
+{
+    if a == 0 {
+        if tokens.len() == 0 {
+            return answer_empty(space, h, s, g);
+        }
+        return AnswerAnswer::Refused(9);
+    }
+    let AnswerRead::Sound(y) = read_answer(space, h, a) else {
+        return AnswerAnswer::Refused(9);
+    };
+    if y.leaf == leaf {
+        return AnswerAnswer::Old(a as u32);
+    }
+    AnswerAnswer::Refused(9)
+}
+
+// Terms with this form answer subgoal s.
+fn answer_at(space: &mut [u32], h: Head, s: usize, g: Subgoal, tokens: &[u32]) -> AnswerAnswer
+    requires { ⌜ Bounds (now space) h × (1 ≤ s) × (s ≤ h .subgoals) × (g ≡ subgoalIn sizes (now space) (h .«subgoal_offset») s) × (g .last ≤ h .answers) × (g .root < h .nodes) ⌝ }
+    ensures { λ r. ⌜ (saidAnswer r ≡ reply (viewOf sizes (now (space .entry)) h) (answeredAt (viewOf sizes (now (space .entry)) h) s (now (tokens .entry)) (walk (trieIn sizes (now (space .entry)) (h .nodes) (h .answers)) (g .root) (now (tokens .entry)))) 0) × (now (space .exit) ≡ change sizes (now (space .entry)) h (answeredAt (viewOf sizes (now (space .entry)) h) s (now (tokens .entry)) (walk (trieIn sizes (now (space .entry)) (h .nodes) (h .answers)) (g .root) (now (tokens .entry))))) ⌝ }
+{
+    let walked = walk_tokens(space, h.nodes, h.answers, g.root, tokens);
+    match walked {
+        Walked::Whole(leaf) => {
+            let y = node_in(space, h.nodes, leaf);
+            return answer_old(space, h, s, g, tokens, leaf, y.link);
+        }
+        Walked::Stopped(parent, last, left) => {
+            let from = tokens.len() - left;
+            return answer_new(space, h, s, g, parent, last, &tokens[from..]);
+        }
+        Walked::Damaged => return AnswerAnswer::Refused(9),
+    }
+}
+
+// Terms answer subgoal s, with buffers that are long enough for them.
+fn answer_with(
+    space: &mut [u32],
+    h: Head,
+    s: usize,
+    g: Subgoal,
+    terms: &[u32],
+    vars: &mut [u32],
+    form: &mut [u32],
+) -> AnswerAnswer
+    requires { ⌜ Bounds (now space) h × (1 ≤ s) × (s ≤ h .subgoals) × (g ≡ subgoalIn sizes (now space) (h .«subgoal_offset») s) × (g .last ≤ h .answers) × (g .root < h .nodes) ⌝ }
+    requires { ⌜ (length (now terms) ≤ 256 → (length (now terms) ≤ length (now vars)) × (3 * length (now terms) ≤ 2 * length (now form))) ⌝ }
+    ensures { λ r. ⌜ (saidAnswer r ≡ reply (viewOf sizes (now (space .entry)) h) (answered (viewOf sizes (now (space .entry)) h) s (judged arity16 (g .variables) (now (terms .entry)) (compacted arity16 (now (terms .entry))))) 0) × (now (space .exit) ≡ change sizes (now (space .entry)) h (answered (viewOf sizes (now (space .entry)) h) s (judged arity16 (g .variables) (now (terms .entry)) (compacted arity16 (now (terms .entry)))))) ⌝ }
+{
+    let read = read_terms(terms, g.variables, vars, form);
+    let Reading::Form(n, _) = read else {
+        match read {
+            Reading::Refusal(r) => return AnswerAnswer::Refused(r),
+            Reading::Form(_, _) => return AnswerAnswer::Refused(0),
+        }
+    };
+    answer_at(space, h, s, g, &form[..n])
+}
+
+// An open subgoal is answered. Short terms get short buffers.
+fn answer_open(space: &mut [u32], h: Head, s: usize, g: Subgoal, terms: &[u32]) -> AnswerAnswer
+    requires { ⌜ Bounds (now space) h × (1 ≤ s) × (s ≤ h .subgoals) × (g ≡ subgoalIn sizes (now space) (h .«subgoal_offset») s) × (g .last ≤ h .answers) × (g .root < h .nodes) ⌝ }
+    ensures { λ r. ⌜ (saidAnswer r ≡ reply (viewOf sizes (now (space .entry)) h) (answered (viewOf sizes (now (space .entry)) h) s (judged arity16 (g .variables) (now (terms .entry)) (compacted arity16 (now (terms .entry))))) 0) × (now (space .exit) ≡ change sizes (now (space .entry)) h (answered (viewOf sizes (now (space .entry)) h) s (judged arity16 (g .variables) (now (terms .entry)) (compacted arity16 (now (terms .entry)))))) ⌝ }
+{
+    if terms.len() <= 16 {
+        let mut vars = [0u32; 16];
+        let mut form = [0u32; 24];
+        return answer_with(space, h, s, g, terms, &mut vars, &mut form);
+    }
+    let mut vars = [0u32; 256];
+    let mut form = [0u32; 384];
+    answer_with(space, h, s, g, terms, &mut vars, &mut form)
+}
+
+// In a space whose header is sound: the number, the subgoal and its answer root, the state.
+fn answer_in(space: &mut [u32], h: Head, s: usize, terms: &[u32]) -> AnswerAnswer
+    requires { ⌜ Bounds (now space) h ⌝ }
+    ensures { λ r. ⌜ (saidAnswer r ≡ under sizes edition1 (now (space .entry)) (request.answer s (now (terms .entry))) (header.Sound h) .reply) × (now (space .exit) ≡ under sizes edition1 (now (space .entry)) (request.answer s (now (terms .entry))) (header.Sound h) .state) ⌝ }
+{
+    if s == 0 {
+        return AnswerAnswer::Refused(7);
+    }
+    if h.subgoals < s {
+        return AnswerAnswer::Refused(7);
+    }
+    let SubgoalRead::Sound(g) = read_subgoal(space, h, s) else {
+        return AnswerAnswer::Refused(9);
+    };
+    let NodeRead::Sound(y) = read_node(space, h.nodes, h.answers, g.root) else {
+        return AnswerAnswer::Refused(9);
+    };
+    if y.parent != g.root {
+        return AnswerAnswer::Refused(9);
+    }
+    if g.state == 0 {
+        return answer_open(space, h, s, g, terms);
+    }
+    AnswerAnswer::Refused(8)
+}
+
+pub fn answer(space: &mut [u32], subgoal: u32, terms: &[u32]) -> AnswerAnswer
+    ensures { λ r. ⌜ (saidAnswer r ≡ cellStep sizes edition1 (now (space .entry)) (request.answer subgoal (now (terms .entry))) .reply) × (now (space .exit) ≡ cellStep sizes edition1 (now (space .entry)) (request.answer subgoal (now (terms .entry))) .state) ⌝ }
+{
+    let read = read_header(space);
+    let Header::Sound(h) = read else {
+        match read {
+            Header::Refused(r) => return AnswerAnswer::Refused(r),
+            Header::Sound(_) => return AnswerAnswer::Refused(0),
+        }
+    };
+    answer_in(space, h, wide(subgoal), terms)
+}

@@ -1,0 +1,50 @@
+// The seven calls on a space that the caller lends: what they answer.
+pub mod calls;
+pub mod instances;
+pub mod reads;
+
+// A subgoal is open or finished.
+pub enum State {
+    Open,
+    Finished,
+}
+
+// What call answers: a new subgoal's number, or an old one's with its state.
+pub enum CallAnswer {
+    New(u32),
+    Old(u32, State),
+    Refused(u32),
+}
+
+// What answer answers: a new answer's number, or an old one's.
+pub enum AnswerAnswer {
+    New(u32),
+    Old(u32),
+    Refused(u32),
+}
+
+// What finish answers.
+pub enum FinishAnswer {
+    Done,
+    Refused(u32),
+}
+
+// What next answers: the number of the next answer, or that there is none.
+pub enum NextAnswer {
+    At(u32),
+    NoMore,
+    Refused(u32),
+}
+
+// Nodes, subgoals and answers used.
+pub struct Counts {
+    pub nodes: u32,
+    pub subgoals: u32,
+    pub answers: u32,
+}
+
+// What counts answers.
+pub enum CountsAnswer {
+    Used(Counts),
+    Refused(u32),
+}
