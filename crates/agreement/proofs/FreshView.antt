@@ -18,15 +18,12 @@ use Rattle.space.specs.declared.FreshAnswer.the-variants.{Done, Refused}
 use Rattle.space.proofs.HeaderLaws.{range-least, range-largest}
 use Rattle.space.proofs.LayoutLaws.{node-equal, subgoal-equal, answer-equal}
 use Rattle.trie.specs.Append.{newRoot}
+use Rattle.trie.proofs.WalkLaws.{both-true}
 use Rattle.store.specs.Views.{viewOf}
 use Rattle.store.specs.Changes.{newSubgoal}
 use Rattle.agreement.specs.Records.{Wide, Alike, freshView}
 use Rattle.agreement.proofs.CellRecords.{Holds, row-ends}
 use Rattle.agreement.proofs.CellChanges.{view-made}
-
-and-true : (b c : Bool) → b && c ≡ true → (b ≡ true) × (c ≡ true)
-and-true true c e = (refl, e)
-and-true false c e = let z : _≡_ {A = ℕ} 0 1 = cc in absurd (omega arith)
 
 zeros-behind : (x : List ℕ) (n : ℕ) (y : List ℕ) (j : ℕ) → length x ≤ j → j < length x + n → getD (x ++ (replicate n 0 ++ y)) j 0 ≡ 0
 zeros-behind x n y j l h =
@@ -47,9 +44,9 @@ module _ (z : Sizes) (n f a : ℕ) (s : List ℕ) where
   fits-held : freshFits z n f a s ≡ true → Held
   unfolding freshFits
   fits-held t =
-      let x = and-true (inRange 1 n && inRange 0 f && inRange 0 a) (leb (endOffset z n f a) (length s)) t in
-      let y = and-true (inRange 1 n && inRange 0 f) (inRange 0 a) (x .0) in
-      let w = and-true (inRange 1 n) (inRange 0 f) (y .0) in
+      let x = both-true (inRange 1 n && inRange 0 f && inRange 0 a) (leb (endOffset z n f a) (length s)) t in
+      let y = both-true (inRange 1 n && inRange 0 f) (inRange 0 a) (x .0) in
+      let w = both-true (inRange 1 n) (inRange 0 f) (y .0) in
       record {
         some-node = range-least 1 n (w .0);
         nodes-most = range-largest 1 n (w .0);

@@ -6,7 +6,7 @@ use mathlib.Core.List.{List, _++_}
 use native.Mathlib.Omega.{arith}
 use lib.ListN.{length, take, drop, length-append}
 use lib.Seq.{take-at}
-use lib.Dec.{eqb, leb, ltb}
+use lib.Dec.{eqb, leb}
 use borrow.Author.Tests.{lt-ltb, le-ltb, le-leb, lt-leb, eq-eqb, ne-eqb, leb-true, leb-false, eqb-true, eqb-false}
 use Rattle.basis.specs.Choice.{pick}
 use Rattle.basis.proofs.Cases.{by-cases}
@@ -17,11 +17,10 @@ use Rattle.forms.specs.declared.Answer.the-variants.{Cells, Refused, Short}
 use Rattle.plain.specs.Words.{Word}
 use Rattle.plain.specs.Coding.{Coding}
 use Rattle.plain.specs.Requests as requests
-use Rattle.plain.specs.Requests.{Request, next, load, instance, counts, Counts, Reply, at, cells, used, refused, short, lent}
+use Rattle.plain.specs.Requests.{Request, next, load, counts, Reply, at, cells, used, refused, short, lent}
 use Rattle.space.specs.Layout.{sizes}
 use Rattle.space.specs.Heading.{headerOf}
 use Rattle.space.specs.Judging.{subgoalSound, answerSound, readSubgoal, readAnswer}
-use Rattle.space.specs.Sound.{Bounds}
 use Rattle.space.specs.declared.Head.{Head}
 use Rattle.space.specs.declared.Header.the-variants as header
 use Rattle.space.specs.declared.Subgoal.{Subgoal}
@@ -31,11 +30,12 @@ use Rattle.space.specs.declared.SubgoalRead.the-variants as subgoal
 use Rattle.space.specs.declared.AnswerRead.{AnswerRead}
 use Rattle.space.specs.declared.AnswerRead.the-variants as answer
 use Rattle.space.proofs.HeaderLaws.{header-bounds}
-use Rattle.space.proofs.JudgingLaws.{SubgoalBounds, subgoal-bounds, AnswerBounds, answer-bounds, follows-within, read-subgoal-sound, read-answer-sound}
+use Rattle.space.proofs.JudgingLaws.{subgoal-bounds, answer-bounds, follows-within, read-subgoal-sound, read-answer-sound}
+use Rattle.trie.proofs.WalkLaws.{both-true}
 use Rattle.trie.specs.Paths.{Path, none, tokens, gather, longest, counted, held}
 use Rattle.trie.specs.declared.Gathered.the-variants as gathered
-use Rattle.store.specs.Views.{View, viewOf, subgoalTrie, answerTrie}
-use Rattle.store.specs.Decisions.{Decision, says, gives, refuses, sound, known, soundSubgoal, soundAnswer, soundPair, starting, handed, onward, onPath, loaded, instanced, decide}
+use Rattle.store.specs.Views.{View, viewOf, answerTrie}
+use Rattle.store.specs.Decisions.{Decision, says, gives, refuses, sound, known, soundSubgoal, soundAnswer, soundPair, starting, handed, onward, onPath, loaded, decide}
 use Rattle.store.specs.Calls.{reply, outAfter, under, cellStep}
 use Rattle.store.specs.Replies.{saidCells}
 
@@ -277,10 +277,6 @@ module _ (v : View) (a : ℕ) where
         let f : soundSubgoal v (v .answer a .subgoal) ≡ true = ap (λ (w : Answer). soundSubgoal v (w .subgoal)) (sym (r .0)) ∙ read-subgoal-sound (v .nodes) (v .answers) (v .subgoal) (y .subgoal) d .1 in
         simp (r .1, f)
 
-both-true : (b d : Bool) → b && d ≡ true → (b ≡ true) × (d ≡ true)
-both-true true d e = (refl, e)
-both-true false d e = let z : _≡_ {A = ℕ} 0 1 = cc in absurd (omega arith)
-
 -- the bounds of both, where the pair is sound
 pub record PairBounds (v : View) (y : Answer) (g : Subgoal) : Type 0 where
   pub leaf-below : y .leaf < v .nodes
@@ -303,6 +299,10 @@ pair-bounds v a t =
       root-below = d .root-below;
       variables-most = d .variables-most;
     }
+
+-- the same of the records as they were read
+pub read-bounds : (v : View) (a : ℕ) (y : Answer) (g : Subgoal) → y ≡ v .answer a → g ≡ v .subgoal (y .subgoal) → soundPair v a ≡ true → PairBounds v y g
+read-bounds v a y g e f t = rw (f, e) (pair-bounds v a t)
 
 -- ---- paths
 

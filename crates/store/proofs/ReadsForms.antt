@@ -1,18 +1,18 @@
 -- Whether a path is a legal form, and how many variables it has.
-use Prim.Native.Nat.{ℕ, suc, _+_, _<_, _≤_}
-use mathlib.Core.Path.{_≡_, refl, sym, ap, _∙_}
-use mathlib.Core.Bool.{Bool, true, false, _&&_}
-use mathlib.Core.List.{List, [], _∷_}
+use Prim.Native.Nat.{ℕ, _+_, _<_, _≤_}
+use mathlib.Core.Path.{_≡_, refl, sym, ap}
+use mathlib.Core.Bool.{true, false, _&&_}
+use mathlib.Core.List.{List, []}
 use native.Mathlib.Omega.{arith}
 use native.Mathlib.Numerals.{add-one}
 use lib.ListN.{length, getD, drop, drop-of-length-le}
 use lib.Seq.{drop-cons}
 use lib.Dec.{eqb}
-use borrow.Author.Tests.{eq-eqb, ne-eqb}
+use borrow.Author.Tests.{eq-eqb, ne-eqb, eqb-true}
 use Rattle.basis.proofs.Cases.{by-cases}
 use Rattle.forms.specs.Cells.{payload, variable}
 use Rattle.forms.specs.Numbering.{met, numbered}
-use Rattle.forms.specs.Compact.{pairForm, legalForm}
+use Rattle.forms.specs.Compact.{legalForm}
 use Rattle.forms.specs.Converting.{loading}
 use Rattle.forms.specs.declared.Loading.the-variants.{Terms, NoForm}
 use Rattle.forms.proofs.RoundTrip.{legal-parts}
@@ -80,3 +80,9 @@ module _ (arity : ℕ → ℕ) (m : ℕ) (w : List ℕ) where
 
   pub no-subgoal-form : false ≡ legalForm arity 1 w → false ≡ (legalForm arity 1 w && eqb (length (met [] w)) m)
   no-subgoal-form t = rw (← t) refl
+
+  pub subgoal-form-parts : (legalForm arity 1 w && eqb (length (met [] w)) m) ≡ true → (legalForm arity 1 w ≡ true) × (length (met [] w) ≡ m)
+  subgoal-form-parts t =
+      by-cases (legalForm arity 1 w)
+      (λ l. (l, eqb-true (length (met [] w)) m (rw l at t)))
+      (λ l. let d = rw l at t in let z : _≡_ {A = ℕ} 0 1 = cc in absurd (omega arith))

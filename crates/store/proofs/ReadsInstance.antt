@@ -1,6 +1,6 @@
 -- A law for each case of instance.
 use Prim.Native.Nat.{ℕ, _<_, _≤_}
-use mathlib.Core.Path.{_≡_, refl, sym, ap, _∙_}
+use mathlib.Core.Path.{_≡_, refl, ap, _∙_}
 use mathlib.Core.Bool.{Bool, true, false, _&&_}
 use mathlib.Core.List.{List, []}
 use lib.ListN.{length, take}
@@ -19,8 +19,8 @@ use Rattle.space.specs.declared.Answer.{Answer}
 use Rattle.trie.specs.Paths.{Path, none, tokens, gather, longest, counted, held}
 use Rattle.trie.specs.declared.Gathered.the-variants as gathered
 use Rattle.store.specs.Views.{View, viewOf, subgoalTrie, answerTrie}
-use Rattle.store.specs.Decisions.{Decision, gives, refuses, sound, known, soundPair, onPath, loaded, instanced, decide}
-use Rattle.store.specs.Calls.{reply, outAfter, cellStep}
+use Rattle.store.specs.Decisions.{Decision, gives, refuses, sound, soundPair, onPath, loaded, instanced, decide}
+use Rattle.store.specs.Calls.{cellStep}
 use Rattle.store.proofs.ReadsCases.{step-refused, step-kept, step-reply, step-out, Leaves, leaves-same, known-zero, known-above, answer-damaged, answer-sound, path-lost, path-found, loaded-found}
 
 -- ---- a path that was gathered

@@ -1,13 +1,13 @@
 -- Counts, next, load and instance leave the space as it is, whatever they answer.
 use Prim.Native.Nat.{ℕ}
-use mathlib.Core.Path.{_≡_, refl, sym, ap, _∙_}
+use mathlib.Core.Path.{_≡_, refl}
 use mathlib.Core.Bool.{Bool, true, false}
 use mathlib.Core.List.{List}
 use lib.Dec.{eqb, leb, ltb}
 use Rattle.basis.specs.Choice.{pick}
 use Rattle.plain.specs.Words.{Word}
 use Rattle.plain.specs.Coding.{Coding}
-use Rattle.plain.specs.Requests.{Request, next, load, instance, counts, Counts, used, refused}
+use Rattle.plain.specs.Requests.{Reply, Request, next, load, instance, counts, refused}
 use Rattle.space.specs.Layout.{Sizes}
 use Rattle.space.specs.Heading.{headerOf}
 use Rattle.space.specs.declared.Head.{Head}
@@ -23,7 +23,7 @@ use Rattle.store.specs.Calls.{under, cellStep}
 abbrev pub Reads : Decision → Type 0
 Reads d = (z : Sizes) (cs : List ℕ) (h : Head) → change z cs h d ≡ cs
 
-pub says-reads : (d : Decision) → (r : Rattle.plain.specs.Requests.Reply) → d ≡ says r → Reads d
+pub says-reads : (d : Decision) → (r : Reply) → d ≡ says r → Reads d
 unfolding change
 says-reads d r e z cs h = rw e
 

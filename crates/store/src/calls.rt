@@ -68,6 +68,7 @@ fn finish_in(space: &mut [u32], h: Head, s: usize) -> FinishAnswer
     FinishAnswer::Done
 }
 
+// Finishes a subgoal; to finish it again changes nothing.
 pub fn finish(space: &mut [u32], subgoal: u32) -> FinishAnswer
     ensures { λ r. ⌜ (saidFinish r ≡ cellStep sizes edition1 (now (space .entry)) (request.finish subgoal) .reply) × (now (space .exit) ≡ cellStep sizes edition1 (now (space .entry)) (request.finish subgoal) .state) ⌝ }
 {
@@ -210,7 +211,7 @@ fn call_with(
     CallAnswer::Refused(6)
 }
 
-// Short terms get short buffers.
+// Enters the subgoal that a callable term calls, or finds it. Short terms get short buffers.
 pub fn call(space: &mut [u32], term: &[u32]) -> CallAnswer
     ensures { λ r. ⌜ (saidCall r ≡ cellStep sizes edition1 (now (space .entry)) (request.call (now (term .entry))) .reply) × (now (space .exit) ≡ cellStep sizes edition1 (now (space .entry)) (request.call (now (term .entry))) .state) ⌝ }
 {
@@ -455,6 +456,7 @@ fn answer_in(space: &mut [u32], h: Head, s: usize, terms: &[u32]) -> AnswerAnswe
     AnswerAnswer::Refused(8)
 }
 
+// Enters the answer terms of an open subgoal, or finds them: one term for each of its variables.
 pub fn answer(space: &mut [u32], subgoal: u32, terms: &[u32]) -> AnswerAnswer
     ensures { λ r. ⌜ (saidAnswer r ≡ cellStep sizes edition1 (now (space .entry)) (request.answer subgoal (now (terms .entry))) .reply) × (now (space .exit) ≡ cellStep sizes edition1 (now (space .entry)) (request.answer subgoal (now (terms .entry))) .state) ⌝ }
 {

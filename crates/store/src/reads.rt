@@ -1,7 +1,8 @@
-// Next, load and counts: the calls that only read the space.
+// Next, load, instance and counts: the calls that only read the space.
 use super::Counts;
 use super::CountsAnswer;
 use super::NextAnswer;
+use super::instances::instance_of;
 use basis::wide;
 use convert::expand;
 use convert::load_terms;
@@ -31,12 +32,12 @@ ghost use Rattle.forms.specs.Numbering.{met, numbered};
 ghost use Rattle.forms.specs.Compact.{pairForm, legalForm};
 ghost use Rattle.convert.specs.Loading.{after};
 ghost use Rattle.plain.specs.Coding.{edition1};
-ghost use Rattle.plain.specs.Requests.{next, load, counts};
+ghost use Rattle.plain.specs.Requests.{next, load, instance, counts};
 ghost use Rattle.space.specs.Layout.{sizes};
 ghost use Rattle.space.specs.Sound.{Bounds};
 ghost use Rattle.trie.specs.Paths.{tokens, longest};
 ghost use Rattle.store.specs.Views.{View, viewOf};
-ghost use Rattle.store.specs.Decisions.{says, gives, soundPair, starting, handed, onward, onPath, loaded, decide};
+ghost use Rattle.store.specs.Decisions.{says, gives, soundPair, starting, handed, onward, onPath, loaded, instanced, decide};
 ghost use Rattle.store.specs.Calls.{reply, outAfter, cellStep};
 ghost use Rattle.store.specs.Replies.{saidNext, saidCells, saidCounts};
 
@@ -269,4 +270,74 @@ fn is_subgoal_form(path: &[u32], m: usize) -> bool
         return variables_in(path) == m;
     }
     false
+}
+
+// The subgoal's path with the terms of the answer's form for its m variables; what is no legal form is damage.
+fn instance_path(path: &[u32], form: &[u32], m: usize, out: &mut [u32]) -> Answer
+    ensures { λ r. ⌜ ((v : View) → (saidCells r ≡ reply v (onPath (tokens (now (form .entry))) (legalForm arity16 m) (λ y. onPath (tokens (now (path .entry))) (λ u. legalForm arity16 1 u && eqb (length (met [] u)) m) (λ u. gives (edition1 .instanceOf u y)))) (length (now (out .entry)))) × (now (out .exit) ≡ outAfter (onPath (tokens (now (form .entry))) (legalForm arity16 m) (λ y. onPath (tokens (now (path .entry))) (λ u. legalForm arity16 1 u && eqb (length (met [] u)) m) (λ u. gives (edition1 .instanceOf u y)))) (now (out .entry)))) ⌝ }
+{
+    if is_form(form, m) {
+        if is_subgoal_form(path, m) {
+            return instance_of(path, form, m, out);
+        }
+    }
+    Answer::Refused(9)
+}
+
+// Instance of an answer whose records are sound, with cells for the tokens of both paths.
+fn instance_with(
+    space: &[u32],
+    h: Head,
+    a: usize,
+    form: &mut [u32],
+    path: &mut [u32],
+    out: &mut [u32],
+) -> Answer
+    requires { ⌜ Bounds (now space) h × (1 ≤ a) × (a ≤ h .answers) × (longest ≤ length (now form)) × (longest ≤ length (now path)) ⌝ }
+    requires { ⌜ soundPair (viewOf sizes (now space) h) a ≡ true ⌝ }
+    ensures { λ r. ⌜ (saidCells r ≡ reply (viewOf sizes (now (space .entry)) h) (loaded edition1 (viewOf sizes (now (space .entry)) h) a (λ w. instanced edition1 (viewOf sizes (now (space .entry)) h) ((viewOf sizes (now (space .entry)) h) .answer a .subgoal) (λ u. gives (edition1 .instanceOf u w)))) (length (now (out .entry)))) × (now (out .exit) ≡ outAfter (loaded edition1 (viewOf sizes (now (space .entry)) h) a (λ w. instanced edition1 (viewOf sizes (now (space .entry)) h) ((viewOf sizes (now (space .entry)) h) .answer a .subgoal) (λ u. gives (edition1 .instanceOf u w)))) (now (out .entry))) ⌝ }
+{
+    let y = answer_in(space, h, a);
+    let g = subgoal_in(space, h, y.subgoal);
+    let Gathered::Tokens(n) = gather_tokens(space, h.nodes, h.answers, g.root, y.leaf, 383, form)
+    else {
+        return Answer::Refused(9);
+    };
+    let Gathered::Tokens(k) = gather_tokens(space, h.nodes, h.subgoals, 0, g.leaf, 383, path) else {
+        return Answer::Refused(9);
+    };
+    instance_path(&path[..k], &form[..n], g.variables, out)
+}
+
+// Instance, under a sound header.
+fn instance_in(space: &[u32], h: Head, a: usize, out: &mut [u32]) -> Answer
+    requires { ⌜ Bounds (now space) h ⌝ }
+    ensures { λ r. ⌜ (saidCells r ≡ reply (viewOf sizes (now (space .entry)) h) (decide edition1 (viewOf sizes (now (space .entry)) h) (instance a (now (out .entry)))) (length (now (out .entry)))) × (now (out .exit) ≡ outAfter (decide edition1 (viewOf sizes (now (space .entry)) h) (instance a (now (out .entry)))) (now (out .entry))) ⌝ }
+{
+    if a == 0 {
+        return Answer::Refused(7);
+    }
+    if h.answers < a {
+        return Answer::Refused(7);
+    }
+    if pair_sound(space, h, a) {
+        let mut form = [0u32; 383];
+        let mut path = [0u32; 383];
+        return instance_with(space, h, a, &mut form, &mut path, out);
+    }
+    Answer::Refused(9)
+}
+
+// The subgoal of an answer with variable i replaced by the answer's term i, in pair form.
+pub fn instance(space: &[u32], answer: u32, out: &mut [u32]) -> Answer
+    ensures { λ r. ⌜ (saidCells r ≡ cellStep sizes edition1 (now (space .entry)) (instance answer (now (out .entry))) .reply) × (now (out .exit) ≡ cellStep sizes edition1 (now (space .entry)) (instance answer (now (out .entry))) .out) ⌝ }
+{
+    let header = read_header(space);
+    let Header::Sound(h) = header else {
+        match header {
+            Header::Refused(r) => return Answer::Refused(r),
+            Header::Sound(_) => return Answer::Refused(0),
+        }
+    };
+    instance_in(space, h, wide(answer), out)
 }

@@ -249,7 +249,7 @@ walk-through (y ∷ ys) t t′ n parent last token xs g e p h s w = by-search (s
         let d = sym (walk-damaged t n y ys f) ∙ w in
         let z : _≡_ {A = ℕ} 0 1 = cc in absurd (omega arith)
 
-both-true : (b c : Bool) → b && c ≡ true → (b ≡ true) × (c ≡ true)
+pub both-true : (b c : Bool) → b && c ≡ true → (b ≡ true) × (c ≡ true)
 both-true true c e = (refl, e)
 both-true false c e = let z : _≡_ {A = ℕ} 0 1 = cc in absurd (omega arith)
 

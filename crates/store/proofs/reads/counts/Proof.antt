@@ -6,14 +6,11 @@ use Rattle.space.specs.Heading.{headerOf}
 use Rattle.space.specs.Layout.{sizes}
 use Rattle.plain.specs.Coding.{edition1}
 use native.Mathlib.Omega.{arith}
-use mathlib.Core.Path.{_≡_, sym, ap, _∙_}
+use mathlib.Core.Path.{_≡_}
 use Rattle.basis.proofs.Tests.{told}
 use borrow.Author.Needs.{needs}
 use Rattle.store.proofs.reads.counts.Statement.{statement}
 use Rattle.store.proofs.reads.counts.Tie as tie
-use Rattle.store.proofs.reads.counts.Reads as reads
-use Rattle.store.proofs.reads.counts.Lts as lts
-use Rattle.space.proofs.heading.read_header.Reads as read-header-reads
 
 -- the header that was read
 sound-header : (c : tie.After-known-told) → header.Sound (c .before .header .given .0 .0) ≡ headerOf sizes (c .before .before .before .before .before .args .space .now)

@@ -1,14 +1,11 @@
 -- `store::reads::expand_path` meets its contract.
 use Rattle.store.proofs.ReadsCases.{expanded-path}
-use Rattle.forms.specs.declared.Answer.the-variants.{Cells, Refused, Short}
+use Rattle.forms.specs.declared.Answer.the-variants.{Cells, Short}
 use Rattle.forms.specs.Cells.{arity16}
 use Rattle.basis.proofs.Tests.{told}
 use borrow.Author.Needs.{needs}
 use Rattle.store.proofs.reads.expand_path.Statement.{statement}
 use Rattle.store.proofs.reads.expand_path.Tie as tie
-use Rattle.store.proofs.reads.expand_path.Reads as reads
-use Rattle.store.proofs.reads.expand_path.Lts as lts
-use Rattle.convert.proofs.expand.Reads as expand-reads
 
 expand-requires : tie.Need-expand-requires
 expand-requires c κs = search needs

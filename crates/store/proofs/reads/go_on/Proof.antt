@@ -2,16 +2,11 @@
 use Rattle.store.proofs.ReadsCases.{onward-damaged, first-within, onward-first, onward-lost, next-within, onward-next}
 use Rattle.store.specs.Views.{viewOf}
 use Rattle.space.specs.Layout.{sizes}
-use mathlib.Core.Path.{_≡_, sym, ap, _∙_}
+use mathlib.Core.Path.{_∙_}
 use Rattle.basis.proofs.Tests.{told}
 use borrow.Author.Needs.{needs}
 use Rattle.store.proofs.reads.go_on.Statement.{statement}
 use Rattle.store.proofs.reads.go_on.Tie as tie
-use Rattle.store.proofs.reads.go_on.Reads as reads
-use Rattle.store.proofs.reads.go_on.Lts as lts
-use Rattle.space.proofs.records.read_answer.Reads as read-answer-reads
-use Rattle.space.proofs.records.read_subgoal.Reads as read-subgoal-reads
-use Rattle.store.proofs.reads.hand_out.Reads as hand-out-reads
 
 read-subgoal-requires : tie.Need-read-subgoal-requires
 read-subgoal-requires c κs = search needs

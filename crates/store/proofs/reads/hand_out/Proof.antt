@@ -4,9 +4,6 @@ use Rattle.basis.proofs.Tests.{told}
 use borrow.Author.Needs.{needs}
 use Rattle.store.proofs.reads.hand_out.Statement.{statement}
 use Rattle.store.proofs.reads.hand_out.Tie as tie
-use Rattle.store.proofs.reads.hand_out.Reads as reads
-use Rattle.store.proofs.reads.hand_out.Lts as lts
-use Rattle.space.proofs.records.read_answer.Reads as read-answer-reads
 
 returns : tie.Need-returns
 returns c = handed-none _ _ _ (search needs)

@@ -5,9 +5,6 @@ use Rattle.basis.proofs.Tests.{told}
 use borrow.Author.Needs.{needs}
 use Rattle.store.proofs.reads.is_form_with.Statement.{statement}
 use Rattle.store.proofs.reads.is_form_with.Tie as tie
-use Rattle.store.proofs.reads.is_form_with.Reads as reads
-use Rattle.store.proofs.reads.is_form_with.Lts as lts
-use Rattle.convert.proofs.load_terms.Reads as load-terms-reads
 
 load-terms-requires : tie.Need-load-terms-requires
 load-terms-requires c κs = search needs

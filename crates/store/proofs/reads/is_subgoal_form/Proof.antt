@@ -1,15 +1,10 @@
 -- `store::reads::is_subgoal_form` meets its contract.
 use Rattle.store.proofs.ReadsForms.{subgoal-form, no-subgoal-form}
 use Rattle.forms.specs.Cells.{arity16}
-use mathlib.Core.Path.{_≡_, sym, ap, _∙_}
-use Rattle.basis.proofs.Tests.{told}
+use mathlib.Core.Path.{sym, _∙_}
 use borrow.Author.Needs.{needs}
 use Rattle.store.proofs.reads.is_subgoal_form.Statement.{statement}
 use Rattle.store.proofs.reads.is_subgoal_form.Tie as tie
-use Rattle.store.proofs.reads.is_subgoal_form.Reads as reads
-use Rattle.store.proofs.reads.is_subgoal_form.Lts as lts
-use Rattle.store.proofs.reads.is_form.Reads as is-form-reads
-use Rattle.store.proofs.reads.variables_in.Reads as variables-in-reads
 
 is-form-requires : tie.Need-is-form-requires
 is-form-requires c κs = search needs

@@ -4,15 +4,10 @@ use Rattle.store.specs.Views.{viewOf}
 use Rattle.space.specs.Layout.{sizes}
 use Rattle.plain.specs.Coding.{edition1}
 use native.Mathlib.Omega.{arith}
-use mathlib.Core.Path.{_≡_, sym, ap, _∙_}
 use Rattle.basis.proofs.Tests.{told}
 use borrow.Author.Needs.{needs}
 use Rattle.store.proofs.reads.load_in.Statement.{statement}
 use Rattle.store.proofs.reads.load_in.Tie as tie
-use Rattle.store.proofs.reads.load_in.Reads as reads
-use Rattle.store.proofs.reads.load_in.Lts as lts
-use Rattle.store.proofs.reads.load_with.Reads as load-with-reads
-use Rattle.store.proofs.reads.pair_sound.Reads as pair-sound-reads
 
 returns : tie.Need-returns
 returns c = leaves-says (viewOf sizes (c .before .before .before .args .space .now) (c .before .before .before .args .h)) _ (c .before .before .before .args .out .now) _ (load-zero edition1 (viewOf sizes (c .before .before .before .args .space .now) (c .before .before .before .args .h)) (c .before .before .before .args .a) (c .before .before .before .args .out .now) (search needs))

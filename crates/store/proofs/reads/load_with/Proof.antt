@@ -1,9 +1,9 @@
 -- `store::reads::load_with` meets its contract.
 use Rattle.store.proofs.ReadsCases.{pair-bounds, path-room, leaves-says, leaves-same, loaded-lost, loaded-found}
 use Rattle.store.specs.Views.{viewOf, answerTrie}
-use Rattle.store.specs.Decisions.{gives, onPath, loaded}
+use Rattle.store.specs.Decisions.{gives}
 use Rattle.space.specs.declared.Answer.{Answer}
-use Rattle.trie.specs.Paths.{tokens, gather, longest}
+use Rattle.trie.specs.Paths.{gather, longest}
 use Rattle.space.proofs.HeaderLaws.{bounds-nodes}
 use Rattle.forms.specs.Compact.{pairForm}
 use lib.Seq.{length-take-le}
@@ -11,17 +11,11 @@ use Rattle.forms.specs.Cells.{arity16}
 use Rattle.space.specs.Layout.{sizes}
 use Rattle.plain.specs.Coding.{edition1}
 use native.Mathlib.Omega.{arith}
-use mathlib.Core.Path.{_≡_, sym, ap, _∙_}
+use mathlib.Core.Path.{sym, ap}
 use Rattle.basis.proofs.Tests.{told}
 use borrow.Author.Needs.{needs}
 use Rattle.store.proofs.reads.load_with.Statement.{statement}
 use Rattle.store.proofs.reads.load_with.Tie as tie
-use Rattle.store.proofs.reads.load_with.Reads as reads
-use Rattle.store.proofs.reads.load_with.Lts as lts
-use Rattle.space.proofs.records.answer_in.Reads as answer-in-reads
-use Rattle.space.proofs.records.subgoal_in.Reads as subgoal-in-reads
-use Rattle.store.proofs.reads.expand_path.Reads as expand-path-reads
-use Rattle.trie.proofs.paths.gather_tokens.Reads as gather-tokens-reads
 
 answer-in-requires : tie.Need-answer-in-requires
 answer-in-requires c κs = search needs

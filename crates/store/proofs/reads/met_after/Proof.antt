@@ -1,14 +1,10 @@
 -- `store::reads::met_after` meets its contract.
 use Rattle.store.proofs.ReadsForms.{after-other, after-next, after-old}
-use mathlib.Core.Path.{_≡_, sym, ap, _∙_}
+use mathlib.Core.Path.{sym, _∙_}
 use Rattle.basis.proofs.Tests.{told}
 use borrow.Author.Needs.{needs}
 use Rattle.store.proofs.reads.met_after.Statement.{statement}
 use Rattle.store.proofs.reads.met_after.Tie as tie
-use Rattle.store.proofs.reads.met_after.Reads as reads
-use Rattle.store.proofs.reads.met_after.Lts as lts
-use Rattle.forms.proofs.is_variable.Reads as is-variable-reads
-use Rattle.forms.proofs.payload_of.Reads as payload-of-reads
 
 is-variable-requires : tie.Need-is-variable-requires
 is-variable-requires c κs = search needs

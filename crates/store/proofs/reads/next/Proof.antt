@@ -6,16 +6,11 @@ use Rattle.space.specs.declared.Header.the-variants as header
 use Rattle.space.specs.Heading.{headerOf}
 use Rattle.space.specs.Layout.{sizes}
 use Rattle.plain.specs.Coding.{edition1}
-use mathlib.Core.Path.{_≡_, sym, ap, _∙_}
+use mathlib.Core.Path.{_≡_}
 use Rattle.basis.proofs.Tests.{told}
 use borrow.Author.Needs.{needs}
 use Rattle.store.proofs.reads.next.Statement.{statement}
 use Rattle.store.proofs.reads.next.Tie as tie
-use Rattle.store.proofs.reads.next.Reads as reads
-use Rattle.store.proofs.reads.next.Lts as lts
-use Rattle.basis.proofs.wide.Reads as wide-reads
-use Rattle.space.proofs.heading.read_header.Reads as read-header-reads
-use Rattle.store.proofs.reads.next_in.Reads as next-in-reads
 
 -- the header that was read
 sound-header : (c : tie.After-known-told) → header.Sound (c .before .header .given .0 .0) ≡ headerOf sizes (c .before .before .before .before .before .args .space .now)

@@ -4,15 +4,11 @@ use Rattle.store.specs.Views.{viewOf}
 use Rattle.space.specs.Layout.{sizes}
 use Rattle.plain.specs.Coding.{edition1}
 use native.Mathlib.Omega.{arith}
-use mathlib.Core.Path.{_≡_, sym, ap, _∙_}
+use mathlib.Core.Path.{_∙_}
 use Rattle.basis.proofs.Tests.{told}
 use borrow.Author.Needs.{needs}
 use Rattle.store.proofs.reads.next_in.Statement.{statement}
 use Rattle.store.proofs.reads.next_in.Tie as tie
-use Rattle.store.proofs.reads.next_in.Reads as reads
-use Rattle.store.proofs.reads.next_in.Lts as lts
-use Rattle.store.proofs.reads.go_on.Reads as go-on-reads
-use Rattle.store.proofs.reads.starts.Reads as starts-reads
 
 returns : tie.Need-returns
 returns c = next-zero edition1 _ _ _ (search needs)

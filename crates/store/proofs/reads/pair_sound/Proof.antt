@@ -6,10 +6,6 @@ use Rattle.basis.proofs.Tests.{told}
 use borrow.Author.Needs.{needs}
 use Rattle.store.proofs.reads.pair_sound.Statement.{statement}
 use Rattle.store.proofs.reads.pair_sound.Tie as tie
-use Rattle.store.proofs.reads.pair_sound.Reads as reads
-use Rattle.store.proofs.reads.pair_sound.Lts as lts
-use Rattle.space.proofs.records.read_answer.Reads as read-answer-reads
-use Rattle.space.proofs.records.read_subgoal.Reads as read-subgoal-reads
 
 read-answer-requires : tie.Need-read-answer-requires
 read-answer-requires c κs = search needs

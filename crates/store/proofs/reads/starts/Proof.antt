@@ -3,9 +3,6 @@ use Rattle.store.proofs.ReadsCases.{starting-none, starting-above, star
 use borrow.Author.Needs.{needs}
 use Rattle.store.proofs.reads.starts.Statement.{statement}
 use Rattle.store.proofs.reads.starts.Tie as tie
-use Rattle.store.proofs.reads.starts.Reads as reads
-use Rattle.store.proofs.reads.starts.Lts as lts
-use Rattle.space.proofs.records.answer_in.Reads as answer-in-reads
 
 returns : tie.Need-returns
 returns c = starting-none _ _ _ (search needs)

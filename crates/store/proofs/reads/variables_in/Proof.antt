@@ -1,16 +1,12 @@
 -- `store::reads::variables_in` meets its contract.
 use Rattle.store.proofs.ReadsForms.{after-most, counted-step, counted-end, counted-met}
-use Rattle.convert.specs.Loading.{counted, after}
+use Rattle.convert.specs.Loading.{counted}
 use lib.ListN.{length, drop, getD}
 use native.Mathlib.Omega.{arith}
 use mathlib.Core.Path.{_≡_, refl, sym, ap, _∙_}
-use Rattle.basis.proofs.Tests.{told}
 use Prim.Native.Nat.{ℕ, _≤_, _-_, _+_}
 use Rattle.store.proofs.reads.variables_in.Statement.{statement}
 use Rattle.store.proofs.reads.variables_in.Tie as tie
-use Rattle.store.proofs.reads.variables_in.Reads as reads
-use Rattle.store.proofs.reads.variables_in.Lts as lts
-use Rattle.store.proofs.reads.met_after.Reads as met-after-reads
 
 abbrev Inv-loop : tie.InvT-loop
 Inv-loop path count₀ i₀ count i = (i ≤ length path) × (count ≤ i) × (counted count (drop i path) ≡ counted 0 path)
