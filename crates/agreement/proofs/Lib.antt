@@ -15,3 +15,4 @@ pub mod CallLists
 pub mod Following
 pub mod Untouched
 pub mod Theorem
+pub mod Hollow

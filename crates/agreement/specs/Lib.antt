@@ -1,3 +1,4 @@
 pub mod Records
 pub mod Promise
 pub mod Consequences
+pub mod Hollow

@@ -1,11 +1,10 @@
 -- `store::calls::enter_answer` meets its contract.
-use Prim.Native.Nat.{ℕ, _+_, _-_, _*_}
-use mathlib.Core.List.{List}
+use Prim.Native.Nat.{_+_}
 use mathlib.Core.Path.{_≡_, _∙_}
 use native.Mathlib.Omega.{arith}
-use lib.ListN.{length, set, length-set}
+use lib.ListN.{length}
 use Rattle.space.specs.Sound.{Bounds}
-use Rattle.store.proofs.CallsRecords.{bounds-linked}
+use Rattle.store.proofs.CallsRecords.{bounds-linked, set-holds, two-hold, three-sized}
 use Rattle.store.proofs.CallsAnswers.{bounds-chained, answer-entered}
 use borrow.Author.Needs.{needs}
 use Rattle.store.proofs.calls.enter_answer.Statement.{statement}
@@ -20,15 +19,6 @@ in-chain x = bounds-chained (x .before .before .before .before .write-link .last
 
 sized : (x : tie.After-write-answer) → length (x .write-answer .last .0) ≡ length (x .before .before .before .before .before .before .before .before .before .before .before .before .args .space .now)
 sized x = x .write-answer .kept .0 ∙ x .before .before .before .before .chain .kept .0 ∙ x .before .before .before .before .before .before .before .before .write-link .kept .0
-
-abbrev last-set : (x : tie.After-write-answer) → List ℕ
-last-set x = set (x .write-answer .last .0) (x .before .before .before .before .before .before .before .before .before .before .before .before .args .h .«subgoal_offset» + 6 * (x .before .before .before .before .before .before .before .before .before .before .before .before .args .s - 1) + 5) (x .before .before .before .before .before .before .before .before .before .before .before .before .args .h .answers + 1)
-
-sized-last : (x : tie.After-write-answer) → length (last-set x) ≡ length (x .before .before .before .before .before .before .before .before .before .before .before .before .args .space .now)
-sized-last x = length-set (x .write-answer .last .0) (x .before .before .before .before .before .before .before .before .before .before .before .before .args .h .«subgoal_offset» + 6 * (x .before .before .before .before .before .before .before .before .before .before .before .before .args .s - 1) + 5) (x .before .before .before .before .before .before .before .before .before .before .before .before .args .h .answers + 1) ∙ sized x
-
-sized-nodes : (x : tie.After-write-answer) → length (set (last-set x) 1 (x .before .before .before .before .before .before .before .before .before .before .before .before .args .nodes)) ≡ length (x .before .before .before .before .before .before .before .before .before .before .before .before .args .space .now)
-sized-nodes x = length-set (last-set x) 1 (x .before .before .before .before .before .before .before .before .before .before .before .before .args .nodes) ∙ sized-last x
 
 add-a : tie.Need-add-a
 add-a c = search needs
@@ -70,16 +60,16 @@ cast-space-2 : tie.Need-cast-space-2
 cast-space-2 c = search needs
 
 slice-write-space-2 : tie.Need-slice-write-space-2
-slice-write-space-2 c = omega (arith, sized-last (c .before .before .before))
+slice-write-space-2 c = set-holds (c .before .before .before .write-answer .last .0) _ _ 1 (omega (arith, sized (c .before .before .before)))
 
 cast-space-3 : tie.Need-cast-space-3
 cast-space-3 c = search needs
 
 slice-write-space-3 : tie.Need-slice-write-space-3
-slice-write-space-3 c = omega (arith, sized-nodes (c .before .before .before))
+slice-write-space-3 c = two-hold (c .before .before .before .write-answer .last .0) _ _ _ _ 3 (omega (arith, sized (c .before .before .before)))
 
 same-length : tie.Need-same-length
-same-length c = length-set (set (last-set (c .before .before .before)) 1 (c .before .before .before .before .before .before .before .before .before .before .before .before .before .before .before .args .nodes)) 3 (c .before .before .before .before .before .before .before .before .before .before .before .before .before .before .before .args .h .answers + 1) ∙ sized-nodes (c .before .before .before)
+same-length c = three-sized (c .before .before .before .write-answer .last .0) _ _ _ _ _ _ ∙ sized (c .before .before .before)
 
 returns : tie.Need-returns
 returns c = answer-entered _ _ _ _ _ _ _ _ _ (c .before .before .before .before .before .before .before .before .before .before .before .write-link .ensures) (c .before .before .before .before .before .before .before .chain .ensures) (c .before .before .before .write-answer .ensures)

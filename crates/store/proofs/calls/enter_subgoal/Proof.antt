@@ -1,11 +1,9 @@
 -- `store::calls::enter_subgoal` meets its contract.
 use mathlib.Core.Path.{_∙_, _≡_}
-use lib.ListN.{length, set, length-set}
+use lib.ListN.{length}
 use native.Mathlib.Omega.{arith}
-use Prim.Native.Nat.{ℕ, _+_}
-use mathlib.Core.List.{List}
 use Rattle.space.specs.Sound.{Bounds}
-use Rattle.store.proofs.CallsRecords.{bounds-appended, bounds-linked, bounds-node}
+use Rattle.store.proofs.CallsRecords.{bounds-appended, bounds-linked, bounds-node, set-holds, two-sized}
 use Rattle.store.proofs.CallsCases.{subgoal-entered}
 use borrow.Author.Needs.{needs}
 use Rattle.store.proofs.calls.enter_subgoal.Statement.{statement}
@@ -60,10 +58,10 @@ cast-space-2 : tie.Need-cast-space-2
 cast-space-2 c = search needs
 
 slice-write-space-2 : tie.Need-slice-write-space-2
-slice-write-space-2 c = omega (arith, sized c, length-set (c .before .before .write-subgoal .last .0) 1 (c .before .before .before .before .before .before .before .before .before .before .before .before .before .before .before .before .before .before .before .before .args .h .nodes + length (c .before .before .before .before .before .before .before .before .before .before .before .before .before .before .before .before .before .before .before .before .args .tokens .now) + 1))
+slice-write-space-2 c = set-holds (c .before .before .write-subgoal .last .0) _ _ 2 (omega (arith, sized c))
 
 same-length : tie.Need-same-length
-same-length c = let s : List ℕ = c .before .before .write-subgoal .last .0 in length-set (set s 1 (c .before .before .before .before .before .before .before .before .before .before .before .before .before .before .before .before .before .before .before .before .args .h .nodes + length (c .before .before .before .before .before .before .before .before .before .before .before .before .before .before .before .before .before .before .before .before .args .tokens .now) + 1)) 2 (c .before .before .before .before .before .before .before .before .before .before .before .before .before .before .before .before .before .before .before .before .args .h .subgoals + 1) ∙ length-set s 1 (c .before .before .before .before .before .before .before .before .before .before .before .before .before .before .before .before .before .before .before .before .args .h .nodes + length (c .before .before .before .before .before .before .before .before .before .before .before .before .before .before .before .before .before .before .before .before .args .tokens .now) + 1) ∙ sized c
+same-length c = two-sized (c .before .before .write-subgoal .last .0) _ _ _ _ ∙ sized c
 
 returns : tie.Need-returns
 returns c = subgoal-entered _ _ _ _ _ _ _ _ _ _ (c .before .before .before .before .before .before .before .before .before .before .before .before .before .before .append-path .ensures) (c .before .before .before .before .before .before .before .before .before .before .write-link .ensures) (c .before .before .before .before .before .before .write-node .ensures) (c .before .before .write-subgoal .ensures)
