@@ -1,0 +1,56 @@
+-- A session, line by line, over any holder of a table: what is printed, and what is left.
+use Prim.Native.Nat.{ℕ}
+use mathlib.Core.List.{List, [], _∷_, _++_}
+use mathlib.Core.Path.{_≡_}
+use Rattle.plain.specs.Coding.{edition1}
+use Rattle.plain.specs.Requests.{Request, Result, call, answer, finish, next, load, instance, counts}
+use Rattle.plain.specs.Table.{Table, fresh, step}
+use Rattle.space.specs.Layout.{sizes}
+use Rattle.space.specs.Fresh.{freshAnswer, freshSpace}
+use Rattle.space.specs.declared.FreshAnswer.the-variants.{Done}
+use Rattle.store.specs.Calls.{cellStep}
+use Rattle.session.specs.Lines.{Meaning, bad, asks, means}
+use Rattle.session.specs.Texts.{newline, textBad, replyText}
+
+-- the text printed, the table and out
+pub record Said (S : Type 0) : Type 0 where
+  pub text : List ℕ
+  pub state : S
+  pub out : List ℕ
+
+-- only load and instance are lent out; the other calls leave it
+abbrev pub outLeft : Request → List ℕ → List ℕ → List ℕ
+outLeft (call cs) out after = out
+outLeft (answer s cs) out after = out
+outLeft (finish s) out after = out
+outLeft (next s a) out after = out
+outLeft (load a o) out after = after
+outLeft (instance a o) out after = after
+outLeft counts out after = out
+
+-- a line that means nothing prints bad and changes nothing
+unfoldable pub says : {S : Type 0} → (S → Request → Result S) → Meaning → S → List ℕ → Said S
+says calls bad s out = record { text = textBad ++ (newline ∷ []); state = s; out = out }
+says calls (asks q) s out =
+    let r = calls s q in
+    record { text = replyText (r .reply) (r .out) ++ (newline ∷ []); state = r .state; out = outLeft q out (r .out) }
+
+-- the lines, their newlines not counted, one after another
+unfoldable pub session : {S : Type 0} → (S → Request → Result S) → List (List ℕ) → S → List ℕ → List ℕ
+session calls [] s out = []
+session calls (line ∷ lines) s out =
+    let r = says calls (means line out) s out in
+    r .text ++ session calls lines (r .state) (r .out)
+
+-- over a space, and over the plain table
+abbrev pub cellSession : List (List ℕ) → List ℕ → List ℕ → List ℕ
+cellSession = session (cellStep sizes edition1)
+
+abbrev pub plainSession : List (List ℕ) → Table → List ℕ → List ℕ
+plainSession = session (step edition1)
+
+-- whatever the lines are, a session from a fresh space prints what the plain table would
+abbrev pub Printed : Type 0
+Printed =
+    (n f a : ℕ) (s : List ℕ) (lines : List (List ℕ)) (out : List ℕ) → freshAnswer sizes n f a s ≡ Done
+    → cellSession lines (freshSpace sizes n f a s) out ≡ plainSession lines (fresh n f a) out
