@@ -27,15 +27,15 @@ module _ (n f a : ℕ) (s : List ℕ) (d : freshAnswer sizes n f a s ≡ Done) w
   -- a line, where the lines behind it print alike after any calls
   line-alike : (m : Meaning) (lines : List (List ℕ)) (qs : List Request) (out : List ℕ)
       → ((ps : List Request) (out′ : List ℕ) → session (cellStep sizes edition1) lines (cells-left ps) out′ ≡ session (step edition1) lines (left (step edition1) (fresh n f a) ps) out′)
-      → (let r = says (cellStep sizes edition1) m (cells-left qs) out in r .text ++ session (cellStep sizes edition1) lines (r .state) (r .out))
-      ≡ (let r = says (step edition1) m (left (step edition1) (fresh n f a) qs) out in r .text ++ session (step edition1) lines (r .state) (r .out))
+      → (let r = says (cellStep sizes edition1) m (cells-left qs) out in r .text ++ (newline ∷ session (cellStep sizes edition1) lines (r .state) (r .out)))
+      ≡ (let r = says (step edition1) m (left (step edition1) (fresh n f a) qs) out in r .text ++ (newline ∷ session (step edition1) lines (r .state) (r .out)))
   unfolding says
-  line-alike bad lines qs out k = ap (λ (t : List ℕ). (textBad ++ (newline ∷ [])) ++ t) (k qs out)
+  line-alike bad lines qs out k = ap (λ (t : List ℕ). textBad ++ (newline ∷ t)) (k qs out)
   line-alike (asks q) lines qs out k =
       let e = following n f a s qs q d in
       let r = step edition1 (left (step edition1) (fresh n f a) qs) q in
       rw (left-more (cellStep sizes edition1) (freshSpace sizes n f a s) qs q, left-more (step edition1) (fresh n f a) qs q, e .0, e .1)
-      (ap (λ (t : List ℕ). (replyText (r .reply) (r .out) ++ (newline ∷ [])) ++ t) (k (qs ++ (q ∷ [])) (outLeft q out (r .out))))
+      (ap (λ (t : List ℕ). replyText (r .reply) (r .out) ++ (newline ∷ t)) (k (qs ++ (q ∷ [])) (outLeft q out (r .out))))
 
   lines-alike : (lines : List (List ℕ)) (qs : List Request) (out : List ℕ) → session (cellStep sizes edition1) lines (cells-left qs) out ≡ session (step edition1) lines (left (step edition1) (fresh n f a) qs) out
   unfolding session

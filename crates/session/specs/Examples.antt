@@ -23,8 +23,10 @@ use Rattle.store.specs.Changes.{subgoalEntered, answerEntered, change}
 use Rattle.store.specs.Calls.{reply, outAfter, under, cellStep, cellTrace}
 use Rattle.plain.specs.Requests.{Open, Request, call, answer, finish, next, load, instance, counts, Reply, new, oldSubgoal, cells, used, refused, short, lent}
 use Rattle.plain.specs.Examples.{var, atom, fun}
-use Rattle.session.specs.Lines.{fields, decimal, decimalFrom, hexCell, hexFrom, hexCells, wordMeans, means, bad, asks, wordCall, wordAnswer, wordFinish, wordNext, wordInstance, wordCounts}
-use Rattle.session.specs.Texts.{newline, digitsBefore, hexDigits, cellTexts, replyText, numbered as with-number, textNew, textOld, textOpen, textDone, textAt, textNone, textCells, textCounts, textRefused}
+use Rattle.text.specs.Fields.{fields, valueFrom, numeral, hexCells}
+use Rattle.text.specs.Digits.{digitsBefore, cellTexts, numbered as with-number}
+use Rattle.session.specs.Lines.{wordMeans, means, bad, asks, wordCall, wordAnswer, wordFinish, wordNext, wordInstance, wordCounts}
+use Rattle.session.specs.Texts.{newline, replyText, textNew, textOld, textOpen, textDone, textAt, textNone, textCells, textCounts, textRefused}
 use Rattle.session.specs.Session.{says, session, cellSession}
 
 -- "20000005"
@@ -48,7 +50,7 @@ pub examples :
     × (replyText (cells 1) (536870917 ∷ 7 ∷ []) ≡ textCells ++ (32 ∷ atom5))
     × (replyText (used (record { nodes = 11; subgoals = 1; answers = 2 })) [] ≡ textCounts ++ (32 ∷ 49 ∷ 49 ∷ 32 ∷ 49 ∷ 32 ∷ 50 ∷ []))
     × (replyText (short 9) [] ≡ textRefused ++ (32 ∷ 49 ∷ 50 ∷ []))
-unfolding means wordMeans fields decimal decimalFrom hexCell hexFrom hexCells same replyText digitsBefore hexDigits cellTexts
+unfolding means wordMeans fields valueFrom numeral hexCells same replyText digitsBefore cellTexts
 examples = (refl, refl, refl, refl, refl, refl, refl, refl, refl, refl, refl, refl, refl)
 
 -- a word, numbers and cells, each behind a space
@@ -93,5 +95,5 @@ sessionText =
 
 -- over a space that it fills, and an out of 7 cells
 pub worked : cellSession sessionLines (freshCells sizes 11 1 2 []) (replicate 7 0) ≡ sessionText
-unfolding session says means wordMeans fields decimal decimalFrom hexCell hexFrom hexCells replyText digitsBefore hexDigits cellTexts lent inRange capacity counted headerOf freshCells follows nodeSound bothOrNeither subgoalSound answerSound searchSiblings searchChildren walkFrom walk gather leadCell appendNode appendPath calledOld calledNew calledAt called answeredNew answeredOld answeredAt answered starting handed onward onPath loaded instanced decide subgoalEntered answerEntered change reply outAfter under cellStep areForms legalForm judged handedOn reading callable predicate compacted substituted compactForm areTerms pairForm formTerms front symbolic tokenOf items entered filled lastOf tailOf into inside collected reads begun applied paired shapeOf every compact elements pairs numbered renamed met seen rank same whole
+unfolding session says means wordMeans fields valueFrom numeral hexCells replyText digitsBefore cellTexts lent inRange capacity counted headerOf freshCells follows nodeSound bothOrNeither subgoalSound answerSound searchSiblings searchChildren walkFrom walk gather leadCell appendNode appendPath calledOld calledNew calledAt called answeredNew answeredOld answeredAt answered starting handed onward onPath loaded instanced decide subgoalEntered answerEntered change reply outAfter under cellStep areForms legalForm judged handedOn reading callable predicate compacted substituted compactForm areTerms pairForm formTerms front symbolic tokenOf items entered filled lastOf tailOf into inside collected reads begun applied paired shapeOf every compact elements pairs numbered renamed met seen rank same whole
 worked = refl

@@ -1,27 +1,12 @@
 -- What a line of a session means: one of the seven calls with its fields, or nothing (bad).
-use Prim.Native.Nat.{ℕ, suc, zero, _+_, _*_, _-_}
-use mathlib.Core.Bool.{Bool, true, false, _&&_, _||_}
-use mathlib.Core.List.{List, [], _∷_, _++_}
-use lib.Dec.{eqb, leb}
+use Prim.Native.Nat.{ℕ}
+use mathlib.Core.List.{List, [], _∷_}
+use lib.Dec.{leb}
 use lib.ListN.{length}
 use Rattle.basis.specs.Choice.{pick}
 use Rattle.forms.specs.Compact.{same}
 use Rattle.plain.specs.Requests.{Request, call, answer, finish, next, load, instance, counts}
-
--- ---- bytes
-
-abbrev pub space : ℕ
-space = 32
-
--- a decimal digit, and a hexadecimal one in lower case
-abbrev pub isDigit : ℕ → Bool
-isDigit b = leb 48 b && leb b 57
-
-abbrev pub isHex : ℕ → Bool
-isHex b = isDigit b || (leb 97 b && leb b 102)
-
-abbrev pub hexValue : ℕ → ℕ
-hexValue b = pick (isDigit b) (b - 48) (b - 87)
+use Rattle.text.specs.Fields.{Number, noNumber, number, Cells, noCells, cellsOf, Fields, fields, firstNumber, behind, hexCells, onlyNumber}
 
 -- the seven words
 abbrev pub wordCall : List ℕ
@@ -45,54 +30,6 @@ wordInstance = 105 ∷ 110 ∷ 115 ∷ 116 ∷ 97 ∷ 110 ∷ 99 ∷ 101 ∷ []
 abbrev pub wordCounts : List ℕ
 wordCounts = 99 ∷ 111 ∷ 117 ∷ 110 ∷ 116 ∷ 115 ∷ []
 
--- ---- fields
-
--- the first field and the others, where each space ends a field
-pub record Fields : Type 0 where
-  pub first : List ℕ
-  pub others : List (List ℕ)
-
-unfoldable pub fields : List ℕ → Fields
-fields [] = record { first = []; others = [] }
-fields (b ∷ bs) =
-    let r = fields bs in
-    pick (eqb b space) (record { first = []; others = r .first ∷ r .others }) (record { first = b ∷ r .first; others = r .others })
-
--- a number or a list of cells, or none
-pub data Number : Type 0 where
-  noNumber : Number
-  number : ℕ → Number
-
-pub data Cells : Type 0 where
-  noCells : Cells
-  cellsOf : List ℕ → Cells
-
--- digits behind a value
-unfoldable pub decimalFrom : ℕ → List ℕ → Number
-decimalFrom n [] = number n
-decimalFrom n (b ∷ bs) = pick (isDigit b) (decimalFrom (10 * n + (b - 48)) bs) noNumber
-
--- 1 to 7 decimal digits
-unfoldable pub decimal : List ℕ → Number
-decimal bs = pick (leb 1 (length bs) && leb (length bs) 7) (decimalFrom 0 bs) noNumber
-
-unfoldable pub hexFrom : ℕ → List ℕ → Number
-hexFrom n [] = number n
-hexFrom n (b ∷ bs) = pick (isHex b) (hexFrom (16 * n + hexValue b) bs) noNumber
-
--- a cell: 8 hexadecimal digits
-unfoldable pub hexCell : List ℕ → Number
-hexCell bs = pick (eqb (length bs) 8) (hexFrom 0 bs) noNumber
-
-abbrev pub before : Number → Cells → Cells
-before noNumber cs = noCells
-before (number n) noCells = noCells
-before (number n) (cellsOf cs) = cellsOf (n ∷ cs)
-
-unfoldable pub hexCells : List (List ℕ) → Cells
-hexCells [] = cellsOf []
-hexCells (f ∷ fs) = before (hexCell f) (hexCells fs)
-
 -- ---- meaning
 
 pub data Meaning : Type 0 where
@@ -107,22 +44,18 @@ abbrev pub withNumber : Number → (ℕ → Meaning) → Meaning
 withNumber noNumber m = bad
 withNumber (number n) m = m n
 
--- exactly one number; a number and cells; two numbers; no field
 abbrev pub oneNumber : List (List ℕ) → (ℕ → Request) → Meaning
-oneNumber [] q = bad
-oneNumber (f ∷ []) q = withNumber (decimal f) (λ n. asks (q n))
-oneNumber (f ∷ g ∷ fs) q = bad
+oneNumber fs q = withNumber (onlyNumber fs) (λ n. asks (q n))
 
-abbrev pub numberAndCells : List (List ℕ) → (ℕ → List ℕ → Request) → Meaning
-numberAndCells [] q = bad
-numberAndCells (f ∷ fs) q = withNumber (decimal f) (λ n. withCells (hexCells fs) (q n))
-
+-- a number, and exactly one behind it
 abbrev pub twoNumbers : List (List ℕ) → (ℕ → ℕ → Request) → Meaning
-twoNumbers [] q = bad
-twoNumbers (f ∷ []) q = bad
-twoNumbers (f ∷ g ∷ []) q = withNumber (decimal f) (λ n. withNumber (decimal g) (λ m. asks (q n m)))
-twoNumbers (f ∷ g ∷ h ∷ fs) q = bad
+twoNumbers fs q = withNumber (firstNumber fs) (λ n. withNumber (onlyNumber (behind fs)) (λ m. asks (q n m)))
 
+-- a number, and cells behind it
+abbrev pub numberAndCells : List (List ℕ) → (ℕ → List ℕ → Request) → Meaning
+numberAndCells fs q = withNumber (firstNumber fs) (λ n. withCells (hexCells (behind fs)) (q n))
+
+-- no field at all
 abbrev pub noField : List (List ℕ) → Request → Meaning
 noField [] q = asks q
 noField (f ∷ fs) q = bad

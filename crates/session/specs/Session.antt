@@ -2,6 +2,9 @@
 use Prim.Native.Nat.{ℕ}
 use mathlib.Core.List.{List, [], _∷_, _++_}
 use mathlib.Core.Path.{_≡_}
+use lib.Dec.{leb}
+use lib.ListN.{length, drop}
+use Rattle.basis.specs.Choice.{pick}
 use Rattle.plain.specs.Coding.{edition1}
 use Rattle.plain.specs.Requests.{Request, Result, call, answer, finish, next, load, instance, counts}
 use Rattle.plain.specs.Table.{Table, fresh, step}
@@ -9,10 +12,11 @@ use Rattle.space.specs.Layout.{sizes}
 use Rattle.space.specs.Fresh.{freshAnswer, freshSpace}
 use Rattle.space.specs.declared.FreshAnswer.the-variants.{Done}
 use Rattle.store.specs.Calls.{cellStep}
+use Rattle.text.specs.Digits.{Puts}
 use Rattle.session.specs.Lines.{Meaning, bad, asks, means}
-use Rattle.session.specs.Texts.{newline, textBad, replyText}
+use Rattle.session.specs.Texts.{newline, textBad, replyText, textRoom}
 
--- the text printed, the table and out
+-- the line printed, its newline not counted, the table and out
 pub record Said (S : Type 0) : Type 0 where
   pub text : List ℕ
   pub state : S
@@ -30,17 +34,42 @@ outLeft counts out after = out
 
 -- a line that means nothing prints bad and changes nothing
 unfoldable pub says : {S : Type 0} → (S → Request → Result S) → Meaning → S → List ℕ → Said S
-says calls bad s out = record { text = textBad ++ (newline ∷ []); state = s; out = out }
+says calls bad s out = record { text = textBad; state = s; out = out }
 says calls (asks q) s out =
     let r = calls s q in
-    record { text = replyText (r .reply) (r .out) ++ (newline ∷ []); state = r .state; out = outLeft q out (r .out) }
+    record { text = replyText (r .reply) (r .out); state = r .state; out = outLeft q out (r .out) }
 
--- the lines, their newlines not counted, one after another
+-- line after line, their newlines not counted; each one printed ends with a newline
 unfoldable pub session : {S : Type 0} → (S → Request → Result S) → List (List ℕ) → S → List ℕ → List ℕ
 session calls [] s out = []
 session calls (line ∷ lines) s out =
     let r = says calls (means line out) s out in
-    r .text ++ session calls lines (r .state) (r .out)
+    r .text ++ (newline ∷ session calls lines (r .state) (r .out))
+
+-- ---- the function that answers a line
+
+-- the text with a line put at its start, the place behind the line, and the space
+abbrev pub Leaves : Said (List ℕ) → List ℕ → ℕ → List ℕ → List ℕ → Type 0
+Leaves r text end after space = Puts 0 (r .text) text end after × (space ≡ r .state)
+
+-- how many bytes of the text are to be printed, and the text, the space and out after it
+pub record Response : Type 0 where
+  pub printed : ℕ
+  pub text : List ℕ
+  pub space : List ℕ
+  pub out : List ℕ
+
+abbrev pub response : ℕ → List ℕ → List ℕ → List ℕ → Response
+response n text space out = record { printed = n; text = text; space = space; out = out }
+
+-- a text that might be too short for the reply stays as it is, and so does all else
+unfoldable pub responding : List ℕ → List ℕ → List ℕ → List ℕ → Response
+responding line text space out =
+    let r = says (cellStep sizes edition1) (means line out) space out in
+    let bytes = r .text ++ (newline ∷ []) in
+    pick (leb (textRoom (length out)) (length text))
+    (response (length bytes) (bytes ++ drop (length bytes) text) (r .state) (r .out))
+    (response 0 text space out)
 
 -- over a space, and over the plain table
 abbrev pub cellSession : List (List ℕ) → List ℕ → List ℕ → List ℕ

@@ -1,43 +1,12 @@
 -- The line that is printed for each reply.
-use Prim.Native.Nat.{ℕ, suc, zero, _+_, _/_, _%_}
+use Prim.Native.Nat.{ℕ, _+_, _*_}
 use mathlib.Core.List.{List, [], _∷_, _++_}
-use lib.Dec.{ltb, eqb}
 use lib.ListN.{take}
-use Rattle.basis.specs.Choice.{pick}
 use Rattle.plain.specs.Requests.{State, Open, Finished, Counts, Reply, new, oldSubgoal, oldAnswer, done, at, none, cells, used, refused, short}
+use Rattle.text.specs.Digits.{cellTexts, numbered}
 
 abbrev pub newline : ℕ
 newline = 10
-
--- a number's decimal digits before others, with so many steps at most; no number here has over ten
-unfoldable pub digitsBefore : ℕ → ℕ → List ℕ → List ℕ
-digitsBefore zero n rest = rest
-digitsBefore (suc steps) n rest =
-    let more = digitsBefore steps (n / 10) ((48 + n % 10) ∷ rest) in
-    pick (ltb n 10) ((48 + n) ∷ rest) more
-
-abbrev pub decimalText : ℕ → List ℕ
-decimalText n = digitsBefore 20 n []
-
-abbrev pub hexDigit : ℕ → ℕ
-hexDigit d = pick (ltb d 10) (48 + d) (87 + d)
-
--- 8 hexadecimal digits
-unfoldable pub hexDigits : ℕ → ℕ → List ℕ → List ℕ
-hexDigits zero n rest = rest
-hexDigits (suc k) n rest = hexDigits k (n / 16) (hexDigit (n % 16) ∷ rest)
-
-abbrev pub cellText : ℕ → List ℕ
-cellText c = hexDigits 8 c []
-
--- each cell behind a space
-unfoldable pub cellTexts : List ℕ → List ℕ
-cellTexts [] = []
-cellTexts (c ∷ cs) = 32 ∷ (cellText c ++ cellTexts cs)
-
--- a word and a number behind a space
-abbrev pub numbered : List ℕ → ℕ → List ℕ
-numbered word n = word ++ (32 ∷ decimalText n)
 
 abbrev pub textNew : List ℕ
 textNew = 110 ∷ 101 ∷ 119 ∷ []
@@ -88,3 +57,7 @@ replyText (cells n) out = textCells ++ cellTexts (take n out)
 replyText (used y) out = numbered (numbered (numbered textCounts (y .nodes)) (y .subgoals)) (y .answers)
 replyText (refused r) out = numbered textRefused r
 replyText (short n) out = numbered textRefused 12
+
+-- a reply has at most 9 bytes for each cell of out, and 64 besides
+abbrev pub textRoom : ℕ → ℕ
+textRoom n = 9 * n + 64

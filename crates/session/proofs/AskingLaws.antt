@@ -1,0 +1,215 @@
+-- What a line's fields mean, case by case, and what a call or a bad line leaves.
+use Prim.Native.Nat.{ℕ, _+_, _*_, _-_, _/_, _≤_, _<_}
+use mathlib.Core.List.{List, [], _∷_, _++_}
+use mathlib.Core.Bool.{true, false}
+use mathlib.Core.Path.{_≡_, refl, sym, ap, _∙_}
+use native.Mathlib.Omega.{arith}
+use lib.ListN.{length, drop, set, length-append, length-set}
+use lib.Seq.{sets, sets-eq, length-sets}
+use lib.Dec.{leb}
+use borrow.Author.Tests.{le-leb, lt-leb, leb-true, leb-false}
+use Rattle.basis.proofs.Cases.{by-cases}
+use Rattle.forms.specs.Compact.{same}
+use Rattle.text.specs.Fields.{Fields, fields, Number, noNumber, number, Cells, noCells, cellsOf, firstNumber, behind, onlyNumber, hexCells}
+use Rattle.text.specs.Digits.{Puts}
+use Rattle.text.proofs.DigitsLaws.{sets-append}
+use Rattle.plain.specs.Coding.{edition1}
+use Rattle.plain.specs.Requests.{Request, Reply, call, answer, finish, next, load, instance, counts}
+use Rattle.space.specs.Layout.{sizes}
+use Rattle.store.specs.Calls.{cellStep}
+use Rattle.session.specs.Lines.{Meaning, bad, asks, withCells, withNumber, oneNumber, twoNumbers, numberAndCells, noField, wordCall, wordAnswer, wordFinish, wordNext, wordLoad, wordInstance, wordCounts, wordMeans, means}
+use Rattle.session.specs.Texts.{newline, textBad, replyText, textRoom}
+use Rattle.session.specs.Session.{Said, outLeft, says, Leaves, response, responding}
+
+-- ---- meanings
+
+module _ (fs : List (List ℕ)) (q : List ℕ → Request) where
+  pub cells-ask : (ks : List ℕ) → hexCells fs ≡ cellsOf ks → withCells (hexCells fs) q ≡ asks (q ks)
+  cells-ask ks e = ap (λ (cs : Cells). withCells cs q) e
+
+  pub cells-bad : hexCells fs ≡ noCells → withCells (hexCells fs) q ≡ bad
+  cells-bad e = ap (λ (cs : Cells). withCells cs q) e
+
+module _ (fs : List (List ℕ)) (q : ℕ → Request) where
+  pub one-asks : (n : ℕ) → onlyNumber fs ≡ number n → oneNumber fs q ≡ asks (q n)
+  one-asks n e = ap (λ (m : Number). withNumber m (λ k. asks (q k))) e
+
+  pub one-bad : onlyNumber fs ≡ noNumber → oneNumber fs q ≡ bad
+  one-bad e = ap (λ (m : Number). withNumber m (λ k. asks (q k))) e
+
+-- a number, and what comes behind it
+module _ (fs : List (List ℕ)) (m : List (List ℕ) → ℕ → Meaning) where
+  pub first-means : (n : ℕ) (gs : List (List ℕ)) → firstNumber fs ≡ number n → gs ≡ behind fs → withNumber (firstNumber fs) (m (behind fs)) ≡ m gs n
+  first-means n gs e g = ap (λ (k : Number). withNumber k (m (behind fs))) e ∙ ap (λ (hs : List (List ℕ)). m hs n) (sym g)
+
+  pub first-bad : firstNumber fs ≡ noNumber → withNumber (firstNumber fs) (m (behind fs)) ≡ bad
+  first-bad e = ap (λ (k : Number). withNumber k (m (behind fs))) e
+
+pub none-asks : (fs : List (List ℕ)) (q : Request) → fs ≡ [] → noField fs q ≡ asks q
+none-asks fs q e = ap (λ (gs : List (List ℕ)). noField gs q) e
+
+pub some-bad : (fs gs : List (List ℕ)) (g : List ℕ) (q : Request) → fs ≡ g ∷ gs → noField fs q ≡ bad
+some-bad fs gs g q e = ap (λ (hs : List (List ℕ)). noField hs q) e
+
+-- ---- what is left
+
+module _ (space out text after : List ℕ) (end : ℕ) (m : Meaning) where
+  pub bad-leaves : m ≡ bad → Puts 0 textBad text end after → Leaves (says (cellStep sizes edition1) m space out) text end after space
+  unfolding says
+  bad-leaves e p = rw e (p, refl)
+
+  pub asks-leaves : (q : Request) (x : Reply) (space′ : List ℕ) → m ≡ asks q → x ≡ cellStep sizes edition1 space q .reply → space′ ≡ cellStep sizes edition1 space q .state
+      → Puts 0 (replyText x (cellStep sizes edition1 space q .out)) text end after → Leaves (says (cellStep sizes edition1) m space out) text end after space′
+  unfolding says
+  asks-leaves q x space′ e r s p = rw e (rw (← r) p, s)
+
+module _ (space out : List ℕ) (m : Meaning) where
+  pub bad-out : m ≡ bad → out ≡ says (cellStep sizes edition1) m space out .out
+  unfolding says
+  bad-out e = rw e refl
+
+  pub asks-out : (q : Request) → m ≡ asks q → outLeft q out (cellStep sizes edition1 space q .out) ≡ says (cellStep sizes edition1) m space out .out
+  unfolding says
+  asks-out q e = rw e refl
+
+pub leaves-alike : (space out text after space′ : List ℕ) (end : ℕ) (m n : Meaning) → m ≡ n
+    → Leaves (says (cellStep sizes edition1) n space out) text end after space′ → Leaves (says (cellStep sizes edition1) m space out) text end after space′
+leaves-alike space out text after space′ end m n e p = rw e p
+
+-- ---- the calls that leave out
+
+module _ (space out : List ℕ) where
+  abbrev Keeps : Meaning → Type 0
+  Keeps m = out ≡ says (cellStep sizes edition1) m space out .out
+
+  pub keeps-alike : (m n : Meaning) → m ≡ n → Keeps n → Keeps m
+  keeps-alike m n e k = rw e k
+
+  bad-keeps : Keeps bad
+  bad-keeps = bad-out space out bad refl
+
+  asks-keeps : (q : Request) → ((o : List ℕ) → outLeft q out o ≡ out) → Keeps (asks q)
+  asks-keeps q k = sym (k _) ∙ asks-out space out (asks q) q refl
+
+  cells-keep : (q : List ℕ → Request) → ((ks o : List ℕ) → outLeft (q ks) out o ≡ out) → (cs : Cells) → Keeps (withCells cs q)
+  cells-keep q k noCells = bad-keeps
+  cells-keep q k (cellsOf ks) = asks-keeps (q ks) (k ks)
+
+  number-keeps : (m : ℕ → Meaning) → ((n : ℕ) → Keeps (m n)) → (k : Number) → Keeps (withNumber k m)
+  number-keeps m k noNumber = bad-keeps
+  number-keeps m k (number n) = k n
+
+  pub call-keeps : (fs : List (List ℕ)) → Keeps (withCells (hexCells fs) call)
+  call-keeps fs = cells-keep call (λ ks o. refl) (hexCells fs)
+
+  pub answer-keeps : (fs : List (List ℕ)) → Keeps (numberAndCells fs answer)
+  answer-keeps fs = number-keeps (λ n. withCells (hexCells (behind fs)) (answer n)) (λ n. cells-keep (answer n) (λ ks o. refl) (hexCells (behind fs))) (firstNumber fs)
+
+  pub finish-keeps : (fs : List (List ℕ)) → Keeps (oneNumber fs finish)
+  finish-keeps fs = number-keeps (λ n. asks (finish n)) (λ n. asks-keeps (finish n) (λ o. refl)) (onlyNumber fs)
+
+  pub next-keeps : (fs : List (List ℕ)) → Keeps (twoNumbers fs next)
+  next-keeps fs =
+      number-keeps (λ n. withNumber (onlyNumber (behind fs)) (λ k. asks (next n k)))
+      (λ n. number-keeps (λ k. asks (next n k)) (λ k. asks-keeps (next n k) (λ o. refl)) (onlyNumber (behind fs)))
+      (firstNumber fs)
+
+  pub counts-keeps : (fs : List (List ℕ)) → Keeps (noField fs counts)
+  counts-keeps [] = asks-keeps counts (λ o. refl)
+  counts-keeps (f ∷ fs) = bad-keeps
+
+-- ---- the first word
+
+module _ (r : Fields) (w : List ℕ) (rest : List (List ℕ)) (out : List ℕ) (e : r .first ≡ w) (f : rest ≡ r .others) where
+  abbrev Is : List ℕ → Type 0
+  Is word = same w word ≡ true
+
+  abbrev Isnt : List ℕ → Type 0
+  Isnt word = same w word ≡ false
+
+  pub word-call : Is wordCall → wordMeans r out ≡ withCells (hexCells rest) call
+  unfolding wordMeans
+  word-call t = rw (e, t, f)
+
+  module _ (n1 : Isnt wordCall) where
+    pub word-answer : Is wordAnswer → wordMeans r out ≡ numberAndCells rest answer
+    unfolding wordMeans
+    word-answer t = rw (e, n1, t, f)
+
+    module _ (n2 : Isnt wordAnswer) where
+      pub word-finish : Is wordFinish → wordMeans r out ≡ oneNumber rest finish
+      unfolding wordMeans
+      word-finish t = rw (e, n1, n2, t, f)
+
+      module _ (n3 : Isnt wordFinish) where
+        pub word-next : Is wordNext → wordMeans r out ≡ twoNumbers rest next
+        unfolding wordMeans
+        word-next t = rw (e, n1, n2, n3, t, f)
+
+        module _ (n4 : Isnt wordNext) where
+          pub word-load : Is wordLoad → wordMeans r out ≡ oneNumber rest (λ a. load a out)
+          unfolding wordMeans
+          word-load t = rw (e, n1, n2, n3, n4, t, f)
+
+          module _ (n5 : Isnt wordLoad) where
+            pub word-instance : Is wordInstance → wordMeans r out ≡ oneNumber rest (λ a. instance a out)
+            unfolding wordMeans
+            word-instance t = rw (e, n1, n2, n3, n4, n5, t, f)
+
+            module _ (n6 : Isnt wordInstance) where
+              pub word-counts : Is wordCounts → wordMeans r out ≡ noField rest counts
+              unfolding wordMeans
+              word-counts t = rw (e, n1, n2, n3, n4, n5, n6, t, f)
+
+              pub word-none : Isnt wordCounts → wordMeans r out ≡ bad
+              unfolding wordMeans
+              word-none t = rw (e, n1, n2, n3, n4, n5, n6, t)
+
+-- ---- the line's length
+
+pub means-short : (line out : List ℕ) → length line ≤ 4096 → means line out ≡ wordMeans (fields line) out
+unfolding means
+means-short line out h = rw (le-leb _ _ h)
+
+pub means-long : (line out : List ℕ) → 4096 < length line → means line out ≡ bad
+unfolding means
+means-long line out h = rw (lt-leb _ _ h)
+
+-- ---- the response
+
+module _ (line text space out after : List ℕ) (end : ℕ) where
+  abbrev answered : Said (List ℕ)
+  answered = says (cellStep sizes edition1) (means line out) space out
+
+  pub response-none : length text < textRoom (length out) → response 0 text space out ≡ responding line text space out
+  unfolding responding
+  response-none h = rw (lt-leb _ _ h)
+
+  -- a line put at the start of the text, and a newline behind it
+  line-put : (bytes : List ℕ) → Puts 0 bytes text end after
+      → (end + 1 ≡ length (bytes ++ (newline ∷ []))) × (set after end newline ≡ (bytes ++ (newline ∷ [])) ++ drop (length (bytes ++ (newline ∷ []))) text)
+  line-put bytes p =
+      let n : length (bytes ++ (newline ∷ [])) ≡ end + 1 = omega (arith, length-append bytes (newline ∷ []), p .0) in
+      let whole : set after end newline ≡ sets text 0 (bytes ++ (newline ∷ [])) =
+      ap (λ (w : List ℕ). set w end newline) (p .1) ∙ ap (λ (j : ℕ). set (sets text 0 bytes) j newline) (p .0) ∙ sym (sets-append bytes (newline ∷ []) text 0) in
+      let zero-add : 0 + length (bytes ++ (newline ∷ [])) ≡ length (bytes ++ (newline ∷ [])) = omega arith in
+      (sym n, whole ∙ sets-eq (bytes ++ (newline ∷ [])) text 0 (omega (arith, p .2)) ∙ ap (λ (j : ℕ). (bytes ++ (newline ∷ [])) ++ drop j text) zero-add)
+
+  pub response-line : (space′ out′ : List ℕ) → textRoom (length out) ≤ length text → Leaves answered text end after space′ → out′ ≡ answered .out
+      → response (end + 1) (set after end newline) space′ out′ ≡ responding line text space out
+  unfolding responding
+  response-line space′ out′ h l o = rw (le-leb _ _ h, line-put (answered .text) (l .0) .0, line-put (answered .text) (l .0) .1, l .1, o)
+
+-- ---- room
+
+pub room-short : (cells bytes : ℕ) → bytes < 64 → false ≡ leb (textRoom cells) bytes
+room-short cells bytes h = sym (lt-leb (textRoom cells) bytes (omega arith))
+
+pub room-left : (cells bytes : ℕ) → 64 ≤ bytes → leb cells ((bytes - 64) / 9) ≡ leb (textRoom cells) bytes
+room-left cells bytes h =
+    by-cases (leb cells ((bytes - 64) / 9))
+    (λ t. t ∙ sym (le-leb (textRoom cells) bytes (omega (arith, leb-true cells ((bytes - 64) / 9) t))))
+    (λ t. t ∙ sym (lt-leb (textRoom cells) bytes (omega (arith, leb-false cells ((bytes - 64) / 9) t))))
+
+pub line-within : (bytes text after : List ℕ) (end : ℕ) → Puts 0 bytes text end after → end + 1 ≤ length (set after end newline)
+line-within bytes text after end p = omega (arith, p .2, length-set after end newline, ap length (p .1) ∙ length-sets text 0 bytes)

@@ -1,0 +1,22 @@
+-- `has_room` meets its contract.
+use mathlib.Core.Path.{_≡_, refl, sym, ap, _∙_}
+use native.Mathlib.Omega.{arith}
+use borrow.Author.Needs.{needs}
+use lib.Dec.{leb}
+use Rattle.session.proofs.AskingLaws.{room-short, room-left}
+use Rattle.session.proofs.has_room.Statement.{statement}
+use Rattle.session.proofs.has_room.Tie as tie
+use Rattle.session.proofs.has_room.Reads as reads
+use Rattle.session.proofs.has_room.Lts as lts
+
+returns : tie.Need-returns
+returns c = room-short _ _ (c .if1 .taken)
+
+sub-result : tie.Need-sub-result
+sub-result c = search needs
+
+returns-2 : tie.Need-returns-2
+returns-2 c = room-left _ _ (c .if1 .left)
+
+pub has-room-spec : {M : Type 1} → statement M
+has-room-spec = tie.close (tie.spec returns sub-result returns-2)

@@ -1,0 +1,68 @@
+-- `respond` meets its contract.
+use mathlib.Core.Path.{_≡_, refl, sym, ap, _∙_}
+use native.Mathlib.Omega.{arith}
+use lib.Dec.{leb}
+use borrow.Author.Tests.{leb-true, leb-false}
+use borrow.Author.Needs.{needs}
+use Rattle.basis.proofs.Tests.{told}
+use Rattle.plain.specs.Coding.{edition1}
+use Rattle.space.specs.Layout.{sizes}
+use Rattle.store.specs.Calls.{cellStep}
+use Rattle.session.specs.Lines.{means}
+use Rattle.session.specs.Session.{says}
+use Rattle.session.proofs.AskingLaws.{response-none, response-line, line-within}
+use Rattle.session.proofs.respond.Statement.{statement}
+use Rattle.session.proofs.respond.Tie as tie
+use Rattle.session.proofs.respond.Reads as reads
+use Rattle.session.proofs.respond.Lts as lts
+use Rattle.session.proofs.has_room.Reads as has-room-reads
+use Rattle.session.proofs.reply_or_bad.Reads as reply-or-bad-reads
+
+has-room-requires : tie.Need-has-room-requires
+has-room-requires c κs = search needs
+
+reply-or-bad-requires : tie.Need-reply-or-bad-requires
+reply-or-bad-requires c κs = leb-true _ _ (told (c .before .before .before .before .has-room .ensures) (c .before .before .before .if1 .taken))
+
+slice-write-text : tie.Need-slice-write-text
+slice-write-text c = omega (arith, c .before .before .before .before .before .before .reply-or-bad .ensures .0 .0 .2)
+
+add-result : tie.Need-add-result
+add-result c = omega (arith, c .before .before .before .before .before .before .reply-or-bad .ensures .0 .0 .2)
+
+same-length : tie.Need-same-length
+same-length c = search needs
+
+same-length-2 : tie.Need-same-length-2
+same-length-2 c = search needs
+
+same-length-3 : tie.Need-same-length-3
+same-length-3 c = search needs
+
+returns : tie.Need-returns
+returns c = (response-line (c .before .before .before .before .before .before .before .before .before .before .before .before .before .before .before .before .before .before .args .line .now) (c .before .before .before .before .before .before .before .before .before .before .before .before .before .before .before .before .before .before .args .text .now) (c .before .before .before .before .before .before .before .before .before .before .before .before .before .before .before .before .before .before .args .space .now) (c .before .before .before .before .before .before .before .before .before .before .before .before .before .before .before .before .before .before .args .out .now) _ _ _ _ (leb-true _ _ (told (c .before .before .before .before .before .before .before .before .before .before .before .has-room .ensures) (c .before .before .before .before .before .before .before .before .before .before .if1 .taken))) (c .before .before .before .before .before .before .reply-or-bad .ensures .0) (c .before .before .before .before .before .before .reply-or-bad .ensures .1), line-within (says (cellStep sizes edition1) (means (c .before .before .before .before .before .before .before .before .before .before .before .before .before .before .before .before .before .before .args .line .now) (c .before .before .before .before .before .before .before .before .before .before .before .before .before .before .before .before .before .before .args .out .now)) (c .before .before .before .before .before .before .before .before .before .before .before .before .before .before .before .before .before .before .args .space .now) (c .before .before .before .before .before .before .before .before .before .before .before .before .before .before .before .before .before .before .args .out .now) .text) (c .before .before .before .before .before .before .before .before .before .before .before .before .before .before .before .before .before .before .args .text .now) _ _ (c .before .before .before .before .before .before .reply-or-bad .ensures .0 .0))
+
+same-length-4 : tie.Need-same-length-4
+same-length-4 c = search needs
+
+same-length-5 : tie.Need-same-length-5
+same-length-5 c = search needs
+
+returns-2 : tie.Need-returns-2
+returns-2 c = (response-none (c .before .before .before .before .before .before .before .before .args .line .now) (c .before .before .before .before .before .before .before .before .args .text .now) (c .before .before .before .before .before .before .before .before .args .space .now) (c .before .before .before .before .before .before .before .before .args .out .now) (c .before .before .before .before .before .before .before .before .args .text .now) 0 (leb-false _ _ (told (c .before .has-room .ensures) (c .if1 .left))), omega arith)
+
+pub respond-spec : {M : Type 1} → statement M
+respond-spec =
+    tie.close
+    (tie.spec
+    has-room-requires
+    reply-or-bad-requires
+    slice-write-text
+    add-result
+    same-length
+    same-length-2
+    same-length-3
+    returns
+    same-length-4
+    same-length-5
+    returns-2)

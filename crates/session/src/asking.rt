@@ -1,0 +1,131 @@
+// Each call of a session: its fields are read, the call is made, and its answer is put into a text.
+use crate::replies::print_answer;
+use crate::replies::print_bad;
+use crate::replies::print_call;
+use crate::replies::print_cells;
+use crate::replies::print_counts;
+use crate::replies::print_finish;
+use crate::replies::print_next;
+use store::calls::answer;
+use store::calls::call;
+use store::calls::finish;
+use store::reads::counts;
+use store::reads::instance;
+use store::reads::load;
+use store::reads::next;
+use text::CellsRead;
+use text::Numeral;
+use text::fields::first_number;
+use text::fields::only_number;
+use text::fields::read_cells;
+ghost use mathlib.Core.Path.{_≡_};
+ghost use mathlib.Core.List.{List};
+ghost use Prim.Native.Nat.{ℕ, _≤_};
+ghost use lib.ListN.{length};
+ghost use Rattle.text.specs.Fields.{hexCells};
+ghost use Rattle.text.specs.Places.{restAt, Ends};
+ghost use Rattle.plain.specs.Coding.{edition1};
+ghost use Rattle.plain.specs.Requests as request;
+ghost use Rattle.space.specs.Layout.{sizes};
+ghost use Rattle.store.specs.Calls.{cellStep};
+ghost use Rattle.session.specs.Lines.{withCells, oneNumber, twoNumbers, numberAndCells, noField};
+ghost use Rattle.session.specs.Texts.{textRoom};
+ghost use Rattle.session.specs.Session.{says, Leaves};
+
+// call, with cells. A line of 4,096 bytes has room for 454.
+pub fn ask_call(line: &[u8], at: usize, space: &mut [u32], text: &mut [u8]) -> usize
+    requires { ⌜ Ends (now line) at × (length (now line) ≤ 4096) × (64 ≤ length (now text)) ⌝ }
+    ensures { λ r. ⌜ ((out : List ℕ) → Leaves (says (cellStep sizes edition1) (withCells (hexCells (restAt (now (line .entry)) at)) request.call) (now (space .entry)) out) (now (text .entry)) r (now (text .exit)) (now (space .exit))) ⌝ }
+{
+    let mut cells = [0u32; 456];
+    let CellsRead::Cells(n) = read_cells(line, at, &mut cells) else {
+        return print_bad(text);
+    };
+    let answered = call(space, &cells[..n]);
+    print_call(answered, text)
+}
+
+// answer, with a number and cells.
+pub fn ask_answer(line: &[u8], at: usize, space: &mut [u32], text: &mut [u8]) -> usize
+    requires { ⌜ Ends (now line) at × (length (now line) ≤ 4096) × (64 ≤ length (now text)) ⌝ }
+    ensures { λ r. ⌜ ((out : List ℕ) → Leaves (says (cellStep sizes edition1) (numberAndCells (restAt (now (line .entry)) at) request.answer) (now (space .entry)) out) (now (text .entry)) r (now (text .exit)) (now (space .exit))) ⌝ }
+{
+    let Numeral::Value(subgoal, end) = first_number(line, at) else {
+        return print_bad(text);
+    };
+    let mut cells = [0u32; 456];
+    let CellsRead::Cells(n) = read_cells(line, end, &mut cells) else {
+        return print_bad(text);
+    };
+    let answered = answer(space, subgoal, &cells[..n]);
+    print_answer(answered, text)
+}
+
+// finish, with a number.
+pub fn ask_finish(line: &[u8], at: usize, space: &mut [u32], text: &mut [u8]) -> usize
+    requires { ⌜ Ends (now line) at × (64 ≤ length (now text)) ⌝ }
+    ensures { λ r. ⌜ ((out : List ℕ) → Leaves (says (cellStep sizes edition1) (oneNumber (restAt (now (line .entry)) at) request.finish) (now (space .entry)) out) (now (text .entry)) r (now (text .exit)) (now (space .exit))) ⌝ }
+{
+    let Numeral::Value(subgoal, _) = only_number(line, at) else {
+        return print_bad(text);
+    };
+    let finished = finish(space, subgoal);
+    print_finish(finished, text)
+}
+
+// next, with two numbers.
+pub fn ask_next(line: &[u8], at: usize, space: &[u32], text: &mut [u8]) -> usize
+    requires { ⌜ Ends (now line) at × (64 ≤ length (now text)) ⌝ }
+    ensures { λ r. ⌜ ((out : List ℕ) → Leaves (says (cellStep sizes edition1) (twoNumbers (restAt (now (line .entry)) at) request.next) (now (space .entry)) out) (now (text .entry)) r (now (text .exit)) (now (space .entry))) ⌝ }
+{
+    let Numeral::Value(subgoal, end) = first_number(line, at) else {
+        return print_bad(text);
+    };
+    let Numeral::Value(after, _) = only_number(line, end) else {
+        return print_bad(text);
+    };
+    let handed = next(space, subgoal, after);
+    print_next(handed, text)
+}
+
+// load, with a number. What was written to out is printed.
+pub fn ask_load(line: &[u8], at: usize, space: &[u32], out: &mut [u32], text: &mut [u8]) -> usize
+    requires { ⌜ Ends (now line) at × (textRoom (length (now out)) ≤ length (now text)) ⌝ }
+    ensures { λ r. ⌜ Leaves (says (cellStep sizes edition1) (oneNumber (restAt (now (line .entry)) at) (λ a. request.load a (now (out .entry)))) (now (space .entry)) (now (out .entry))) (now (text .entry)) r (now (text .exit)) (now (space .entry)) × (now (out .exit) ≡ says (cellStep sizes edition1) (oneNumber (restAt (now (line .entry)) at) (λ a. request.load a (now (out .entry)))) (now (space .entry)) (now (out .entry)) .out) ⌝ }
+{
+    let Numeral::Value(number, _) = only_number(line, at) else {
+        return print_bad(text);
+    };
+    let loaded = load(space, number, out);
+    print_cells(loaded, out, text)
+}
+
+// instance, with a number. What was written to out is printed.
+pub fn ask_instance(
+    line: &[u8],
+    at: usize,
+    space: &[u32],
+    out: &mut [u32],
+    text: &mut [u8],
+) -> usize
+    requires { ⌜ Ends (now line) at × (textRoom (length (now out)) ≤ length (now text)) ⌝ }
+    ensures { λ r. ⌜ Leaves (says (cellStep sizes edition1) (oneNumber (restAt (now (line .entry)) at) (λ a. request.instance a (now (out .entry)))) (now (space .entry)) (now (out .entry))) (now (text .entry)) r (now (text .exit)) (now (space .entry)) × (now (out .exit) ≡ says (cellStep sizes edition1) (oneNumber (restAt (now (line .entry)) at) (λ a. request.instance a (now (out .entry)))) (now (space .entry)) (now (out .entry)) .out) ⌝ }
+{
+    let Numeral::Value(number, _) = only_number(line, at) else {
+        return print_bad(text);
+    };
+    let made = instance(space, number, out);
+    print_cells(made, out, text)
+}
+
+// counts, with no field: the line ends behind the word.
+pub fn ask_counts(line: &[u8], at: usize, space: &[u32], text: &mut [u8]) -> usize
+    requires { ⌜ Ends (now line) at × (64 ≤ length (now text)) ⌝ }
+    ensures { λ r. ⌜ ((out : List ℕ) → Leaves (says (cellStep sizes edition1) (noField (restAt (now (line .entry)) at) request.counts) (now (space .entry)) out) (now (text .entry)) r (now (text .exit)) (now (space .entry))) ⌝ }
+{
+    if at < line.len() {
+        return print_bad(text);
+    }
+    let used = counts(space);
+    print_counts(used, text)
+}

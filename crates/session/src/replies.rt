@@ -1,0 +1,136 @@
+// The line printed for what each call answers, put at the start of a text, without its newline.
+use forms::Answer;
+use store::AnswerAnswer;
+use store::CallAnswer;
+use store::Counts;
+use store::CountsAnswer;
+use store::FinishAnswer;
+use store::NextAnswer;
+use store::State;
+use text::digits::put;
+use text::digits::put_cells;
+use text::digits::put_field;
+use text::digits::put_numbered;
+ghost use mathlib.Core.Path.{_≡_};
+ghost use mathlib.Core.List.{List, _∷_};
+ghost use Prim.Native.Nat.{ℕ, _+_, _≤_, _<_};
+ghost use lib.ListN.{length};
+ghost use Rattle.plain.specs.Requests.{cells};
+ghost use Rattle.store.specs.Replies.{saidState, saidCall, saidAnswer, saidFinish, saidNext, saidCells, saidCounts};
+ghost use Rattle.text.specs.Digits.{numbered, Puts};
+ghost use Rattle.session.specs.Texts.{textBad, textCounts, textRefused, stateText, replyText, textRoom};
+
+// For a line that means nothing.
+pub fn print_bad(text: &mut [u8]) -> usize
+    requires { ⌜ 64 ≤ length (now text) ⌝ }
+    ensures { λ r. ⌜ Puts 0 textBad (now (text .entry)) r (now (text .exit)) ⌝ }
+{
+    put(b"bad", text, 0)
+}
+
+// A refusal prints its number alone, so one function serves every call.
+fn print_refused(number: u32, text: &mut [u8]) -> usize
+    requires { ⌜ 64 ≤ length (now text) ⌝ }
+    ensures { λ r. ⌜ Puts 0 (numbered textRefused number) (now (text .entry)) r (now (text .exit)) ⌝ }
+{
+    put_numbered(b"refused", number, text, 0)
+}
+
+// The state stands behind the number of an old subgoal, with its space.
+fn put_state(state: State, text: &mut [u8], at: usize) -> usize
+    requires { ⌜ at + 9 < length (now text) ⌝ }
+    ensures { λ r. ⌜ Puts at (32 ∷ stateText (saidState state)) (now (text .entry)) r (now (text .exit)) ⌝ }
+{
+    match state {
+        State::Open => return put(b" open", text, at),
+        State::Finished => return put(b" finished", text, at),
+    }
+}
+
+// Only an old subgoal has its state printed.
+pub fn print_call(answer: CallAnswer, text: &mut [u8]) -> usize
+    requires { ⌜ 64 ≤ length (now text) ⌝ }
+    ensures { λ r. ⌜ ((out : List ℕ) → Puts 0 (replyText (saidCall answer) out) (now (text .entry)) r (now (text .exit))) ⌝ }
+{
+    match answer {
+        CallAnswer::New(n) => return put_numbered(b"new", n, text, 0),
+        CallAnswer::Old(n, state) => {
+            let end = put_numbered(b"old", n, text, 0);
+            return put_state(state, text, end);
+        }
+        CallAnswer::Refused(r) => return print_refused(r, text),
+    }
+}
+
+// An old answer has no state.
+pub fn print_answer(answer: AnswerAnswer, text: &mut [u8]) -> usize
+    requires { ⌜ 64 ≤ length (now text) ⌝ }
+    ensures { λ r. ⌜ ((out : List ℕ) → Puts 0 (replyText (saidAnswer answer) out) (now (text .entry)) r (now (text .exit))) ⌝ }
+{
+    match answer {
+        AnswerAnswer::New(n) => return put_numbered(b"new", n, text, 0),
+        AnswerAnswer::Old(n) => return put_numbered(b"old", n, text, 0),
+        AnswerAnswer::Refused(r) => return print_refused(r, text),
+    }
+}
+
+// A subgoal that was finished before prints the same.
+pub fn print_finish(answer: FinishAnswer, text: &mut [u8]) -> usize
+    requires { ⌜ 64 ≤ length (now text) ⌝ }
+    ensures { λ r. ⌜ ((out : List ℕ) → Puts 0 (replyText (saidFinish answer) out) (now (text .entry)) r (now (text .exit))) ⌝ }
+{
+    match answer {
+        FinishAnswer::Done => return put(b"done", text, 0),
+        FinishAnswer::Refused(r) => return print_refused(r, text),
+    }
+}
+
+// The number of the answer, or none where there are no more.
+pub fn print_next(answer: NextAnswer, text: &mut [u8]) -> usize
+    requires { ⌜ 64 ≤ length (now text) ⌝ }
+    ensures { λ r. ⌜ ((out : List ℕ) → Puts 0 (replyText (saidNext answer) out) (now (text .entry)) r (now (text .exit))) ⌝ }
+{
+    match answer {
+        NextAnswer::At(n) => return put_numbered(b"at", n, text, 0),
+        NextAnswer::NoMore => return put(b"none", text, 0),
+        NextAnswer::Refused(r) => return print_refused(r, text),
+    }
+}
+
+// Nodes, subgoals and answers used, in this order.
+fn print_used(used: Counts, text: &mut [u8]) -> usize
+    requires { ⌜ 64 ≤ length (now text) ⌝ }
+    ensures { λ r. ⌜ Puts 0 (numbered (numbered (numbered textCounts (used .nodes)) (used .subgoals)) (used .answers)) (now (text .entry)) r (now (text .exit)) ⌝ }
+{
+    let nodes_end = put_numbered(b"counts", used.nodes, text, 0);
+    let subgoals_end = put_field(used.subgoals, 10, 1, text, nodes_end);
+    put_field(used.answers, 10, 1, text, subgoals_end)
+}
+
+// What is used is printed, no capacity.
+pub fn print_counts(answer: CountsAnswer, text: &mut [u8]) -> usize
+    requires { ⌜ 64 ≤ length (now text) ⌝ }
+    ensures { λ r. ⌜ ((out : List ℕ) → Puts 0 (replyText (saidCounts answer) out) (now (text .entry)) r (now (text .exit))) ⌝ }
+{
+    match answer {
+        CountsAnswer::Used(used) => return print_used(used, text),
+        CountsAnswer::Refused(r) => return print_refused(r, text),
+    }
+}
+
+// The cells printed are those written to out; where out is too short the cells that it would need
+// are not printed.
+pub fn print_cells(answer: Answer, out: &[u32], text: &mut [u8]) -> usize
+    requires { ⌜ textRoom (length (now out)) ≤ length (now text) ⌝ }
+    requires { ⌜ ((n : ℕ) → saidCells answer ≡ cells n → n ≤ length (now out)) ⌝ }
+    ensures { λ r. ⌜ Puts 0 (replyText (saidCells answer) (now (out .entry))) (now (text .entry)) r (now (text .exit)) ⌝ }
+{
+    match answer {
+        Answer::Cells(n) => {
+            let end = put(b"cells", text, 0);
+            return put_cells(out, n, text, end);
+        }
+        Answer::Refused(r) => return print_refused(r, text),
+        Answer::Short(_) => return print_refused(12, text),
+    }
+}

@@ -1,0 +1,29 @@
+-- `digit_text` meets its contract: a digit, or a letter.
+use borrow.Author.Tests.{lt-ltb, le-ltb}
+use borrow.Author.Needs.{needs}
+use Rattle.text.proofs.digits.digit_text.Statement.{statement}
+use Rattle.text.proofs.digits.digit_text.Tie as tie
+use Rattle.text.proofs.digits.digit_text.Reads as reads
+use Rattle.text.proofs.digits.digit_text.Lts as lts
+
+add-result : tie.Need-add-result
+add-result c = search needs
+
+cast-result : tie.Need-cast-result
+cast-result c = search needs
+
+returns : tie.Need-returns
+returns c = rw (lt-ltb _ _ (c .if1 .taken))
+
+add-result-2 : tie.Need-add-result-2
+add-result-2 c = search needs
+
+cast-result-2 : tie.Need-cast-result-2
+cast-result-2 c = search needs
+
+returns-2 : tie.Need-returns-2
+returns-2 c = rw (le-ltb _ _ (c .if1 .left))
+
+pub digit-text-spec : {M : Type 1} → statement M
+digit-text-spec =
+    tie.close (tie.spec add-result cast-result returns add-result-2 cast-result-2 returns-2)

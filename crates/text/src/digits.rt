@@ -1,0 +1,94 @@
+// Words, numbers and cells put into a text as bytes, each behind what was put before it.
+ghost use mathlib.Core.Path.{_≡_};
+ghost use mathlib.Core.Bool.{_&&_};
+ghost use mathlib.Core.List.{_∷_};
+ghost use Prim.Native.Nat.{_+_, _*_, _-_, _≤_, _<_};
+ghost use lib.Dec.{eqb};
+ghost use lib.ListN.{length, take, drop};
+ghost use Rattle.text.specs.Digits.{digitText, digits, cellTexts, numbered, Puts};
+
+// Puts bytes at a place of the text and answers the place behind them. There always remains room for a
+// byte more.
+pub fn put(bytes: &[u8], text: &mut [u8], at: usize) -> usize
+    requires { ⌜ at + length (now bytes) < length (now text) ⌝ }
+    ensures { λ r. ⌜ Puts at (now (bytes .entry)) (now (text .entry)) r (now (text .exit)) ⌝ }
+{
+    let mut i = 0;
+    while i < bytes.len() {
+        text[at + i] = bytes[i];
+        i += 1;
+    }
+    at + i
+}
+
+// A digit's byte: letters stand for ten and above, and 87 more than ten is 'a'.
+fn digit_text(d: u32) -> u8
+    requires { ⌜ d < 16 ⌝ }
+    ensures { λ r. ⌜ r ≡ digitText d ⌝ }
+{
+    if d < 10 {
+        return (48 + d) as u8;
+    }
+    (87 + d) as u8
+}
+
+// Nothing is left of the number, and as many digits are made as the width asks for.
+fn all_made(left: u32, made: usize, width: usize) -> bool
+    ensures { λ r. ⌜ r ≡ (eqb left 0 && eqb (width - made) 0) ⌝ }
+{
+    if left == 0 {
+        return width <= made;
+    }
+    false
+}
+
+// The number's digits, from the lowest on, fill the buffer from its end; the answer is where they
+// start. Ten places are enough, since a 32-bit number is below 10^10.
+fn fill(n: u32, base: u32, width: usize, buffer: &mut [u8]) -> usize
+    requires { ⌜ (10 ≤ base) × (base ≤ 16) × (width ≤ 10) × (length (now buffer) ≡ 10) ⌝ }
+    ensures { λ r. ⌜ (r ≤ 10) × (drop r (now (buffer .exit)) ≡ digits base width n) ⌝ }
+{
+    let mut left = n;
+    let mut i: usize = 10;
+    while !all_made(left, 10 - i, width) {
+        i -= 1;
+        buffer[i] = digit_text(left % base);
+        left /= base;
+    }
+    i
+}
+
+// Puts a space and the number's digits, and answers the place behind them.
+pub fn put_field(n: u32, base: u32, width: usize, text: &mut [u8], at: usize) -> usize
+    requires { ⌜ (10 ≤ base) × (base ≤ 16) × (width ≤ 10) × (at + 11 < length (now text)) ⌝ }
+    ensures { λ r. ⌜ Puts at (32 ∷ digits base width n) (now (text .entry)) r (now (text .exit)) ⌝ }
+{
+    let mut buffer = [0u8; 10];
+    let first = fill(n, base, width, &mut buffer);
+    text[at] = b' ';
+    put(&buffer[first..], text, at + 1)
+}
+
+// Puts a word and the decimal digits of a number behind a space.
+pub fn put_numbered(word: &[u8], n: u32, text: &mut [u8], at: usize) -> usize
+    requires { ⌜ at + length (now word) + 11 < length (now text) ⌝ }
+    ensures { λ r. ⌜ Puts at (numbered (now (word .entry)) n) (now (text .entry)) r (now (text .exit)) ⌝ }
+{
+    let end = put(word, text, at);
+    put_field(n, 10, 1, text, end)
+}
+
+// Puts the first n cells, each as 8 hexadecimal digits behind a space. Two bytes of room are over,
+// since put_field asks for room for ten digits.
+pub fn put_cells(cells: &[u32], n: usize, text: &mut [u8], at: usize) -> usize
+    requires { ⌜ (n ≤ length (now cells)) × (at + 9 * n + 2 < length (now text)) ⌝ }
+    ensures { λ r. ⌜ Puts at (cellTexts (take n (now (cells .entry)))) (now (text .entry)) r (now (text .exit)) ⌝ }
+{
+    let mut end = at;
+    let mut i = 0;
+    while i < n {
+        end = put_field(cells[i], 16, 8, text, end);
+        i += 1;
+    }
+    end
+}
