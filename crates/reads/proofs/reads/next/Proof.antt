@@ -29,7 +29,7 @@ enum-known-header-3 : tie.Need-enum-known-header-3
 enum-known-header-3 c = search needs
 
 returns : tie.Need-returns
-returns c = let e : header.Refused (c .before .header3 .given .0 .0) ≡ headerOf sizes (c .before .before .before .before .before .before .before .before .args .space .now) = cc in step-refused edition1 (c .before .before .before .before .before .before .before .before .args .space .now) (next (c .before .before .before .before .before .before .before .before .args .subgoal) (c .before .before .before .before .before .before .before .before .args .after)) (c .before .header3 .given .0 .0) e
+returns c = let e : header.Refused (c .before .header3 .given .0 .0) ≡ headerOf sizes (c .before .before .before .before .before .before .before .before .args .space .now) = told (c .before .header3 .given .1) (told (c .before .before .before .before .header2 .given .1) (c .before .before .before .before .before .before .read-header .ensures)) in step-refused edition1 (c .before .before .before .before .before .before .before .before .args .space .now) (next (c .before .before .before .before .before .before .before .before .args .subgoal) (c .before .before .before .before .before .before .before .before .args .after)) (c .before .header3 .given .0 .0) e
 
 enum-told : tie.Need-enum-told
 enum-told c = search needs
