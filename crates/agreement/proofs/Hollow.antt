@@ -29,7 +29,8 @@ use Rattle.store.specs.Calls.{reply, outAfter, under, cellStep, cellTrace}
 use Rattle.space.specs.Fresh.{freshFits, freshAnswer, freshSpace}
 use Rattle.space.specs.declared.FreshAnswer.the-variants.{Done}
 use Rattle.store.specs.Calls.{countedCells}
-use Rattle.agreement.specs.Hollow.{Library, KeptWith, calls, onlyFirst, stopping, unfinished, noEmpty, alwaysOld, alwaysRefused, neverEntering, neverWriting, invented, RuledOut}
+use Rattle.agreement.specs.Hollow.{Library, calls, onlyFirst, stopping, unfinished, noEmpty, lastOnce, nodesFirst, alwaysOld, alwaysRefused, neverEntering, neverWriting, invented}
+use Rattle.agreement.specs.RuledOut.{KeptWith, RuledOut}
 use Rattle.agreement.proofs.Theorem.{promise}
 
 -- answers handed out by next
@@ -54,7 +55,7 @@ abbrev blank : List ℕ
 blank = replicate 70 0
 
 abbrev cells-of : ℕ → List ℕ
-cells-of n = freshSpace sizes n 1 2 blank
+cells-of n = freshSpace sizes n 1 3 blank
 
 -- p(X), and p(a), which has no variable
 abbrev open-call : Request
@@ -69,18 +70,23 @@ first = answer 1 (atom 1 ∷ [])
 abbrev second : Request
 second = answer 1 (atom 2 ∷ [])
 
+abbrev third : Request
+third = answer 1 (atom 3 ∷ [])
+
 -- a library that keeps the promise weighs as the calls do
-weighs : (step : Library) (counted : List ℕ → Counts) (room : ℕ → ℕ) (n : ℕ) (qs : List Request) → KeptWith step counted room → freshAnswer sizes n 1 2 blank ≡ Done → freshAnswer sizes (room n) 1 2 blank ≡ Done
+weighs : (step : Library) (counted : List ℕ → Counts) (room : ℕ → ℕ) (n : ℕ) (qs : List Request) → KeptWith step counted room → freshAnswer sizes n 1 3 blank ≡ Done → freshAnswer sizes (room n) 1 3 blank ≡ Done
     → weight (trace step counted (cells-of n) qs) ≡ weight (trace calls countedCells (cells-of (room n)) qs)
-weighs step counted room n qs k d e = ap weight (k n 1 2 blank qs d ∙ sym (promise (room n) 1 2 blank qs e))
+weighs step counted room n qs k d e = ap weight (k n 1 3 blank qs d ∙ sym (promise (room n) 1 3 blank qs e))
 
 pub ruled-out : RuledOut
-unfolding weight stopping unfinished noEmpty freshFits freshAnswer freshSpace trace lent inRange capacity counted headerOf freshCells follows nodeSound bothOrNeither subgoalSound answerSound searchSiblings searchChildren walkFrom walk gather leadCell appendNode appendPath calledOld calledNew calledAt called answeredNew answeredOld answeredAt answered starting handed onward onPath loaded instanced decide subgoalEntered answerEntered change reply outAfter under cellStep areForms legalForm judged handedOn reading callable predicate compacted substituted compactForm areTerms pairForm formTerms front symbolic tokenOf items entered filled lastOf tailOf into inside collected reads begun applied paired shapeOf every compact elements pairs numbered renamed met seen rank same whole
+unfolding weight stopping unfinished noEmpty lastOnce freshFits freshAnswer freshSpace trace lent inRange capacity counted headerOf freshCells follows nodeSound bothOrNeither subgoalSound answerSound searchSiblings searchChildren walkFrom walk gather leadCell appendNode appendPath calledOld calledNew calledAt called answeredNew answeredOld answeredAt answered starting handed onward onPath loaded instanced decide subgoalEntered answerEntered change reply outAfter under cellStep areForms legalForm judged handedOn reading callable predicate compacted substituted compactForm areTerms pairForm formTerms front symbolic tokenOf items entered filled lastOf tailOf into inside collected reads begun applied paired shapeOf every compact elements pairs numbered renamed met seen rank same whole
 ruled-out = (
   λ k. let z : _≡_ {A = ℕ} 16 18 = weighs onlyFirst countedCells (λ n. n) 8 (open-call ∷ first ∷ second ∷ []) k refl refl in omega arith,
   λ k. let z : _≡_ {A = ℕ} 16 17 = weighs stopping countedCells (λ n. n) 8 (open-call ∷ first ∷ next 1 0 ∷ []) k refl refl in omega arith,
   λ k. let z : _≡_ {A = ℕ} 14 12 = weighs unfinished countedCells (λ n. n) 8 (open-call ∷ finish 1 ∷ first ∷ []) k refl refl in omega arith,
   λ k. let z : _≡_ {A = ℕ} 8 9 = weighs noEmpty countedCells (λ n. n) 8 (closed-call ∷ answer 1 [] ∷ []) k refl refl in omega arith,
+  λ k. let z : _≡_ {A = ℕ} 34 39 = weighs lastOnce countedCells (λ n. n) 8 (open-call ∷ first ∷ second ∷ third ∷ next 1 2 ∷ []) k refl refl in omega arith,
+  λ k. let z : _≡_ {A = ℕ} 3 1 = weighs nodesFirst countedCells (λ n. n) 3 (open-call ∷ []) k refl refl in omega arith,
   λ k. let z : _≡_ {A = ℕ} 1 4 = weighs alwaysOld countedCells (λ n. n) 8 (open-call ∷ []) k refl refl in omega arith,
   λ k. let z : _≡_ {A = ℕ} 1 4 = weighs alwaysRefused countedCells (λ n. n) 8 (open-call ∷ []) k refl refl in omega arith,
   λ k. let z : _≡_ {A = ℕ} 1 4 = weighs neverEntering countedCells (λ n. n) 8 (open-call ∷ []) k refl refl in omega arith,

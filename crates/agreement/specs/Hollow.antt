@@ -1,28 +1,19 @@
--- Libraries that keep a part of the promise: with any of them in the place of the calls the promise is false.
-use Prim.Native.Nat.{ℕ, _+_, _-_}
+-- Libraries that keep a part of the promise.
+use Prim.Native.Nat.{ℕ, _+_, _-_, _/_}
+use mathlib.Core.Bool.{Bool, true, false}
 use mathlib.Core.List.{List, [], _∷_}
-use mathlib.Core.Path.{_≡_}
-use lib.Dec.{ltb}
+use lib.Dec.{eqb, ltb}
+use lib.ListN.{getD}
 use Rattle.basis.specs.Choice.{pick}
+use Rattle.basis.specs.Writes.{put, writes}
 use Rattle.plain.specs.Coding.{edition1}
-use Rattle.plain.specs.Requests.{Request, call, answer, finish, next, load, instance, counts, State, Open, Counts, Reply, oldSubgoal, none, done, refused, Result, Seen, lent, trace}
-use Rattle.plain.specs.Table.{fresh, tableTrace}
-use Rattle.space.specs.Layout.{sizes}
-use Rattle.space.specs.Fresh.{freshAnswer, freshSpace}
-use Rattle.space.specs.declared.FreshAnswer.the-variants.{Done}
+use Rattle.plain.specs.Requests.{Request, call, answer, finish, next, load, instance, counts, Open, Counts, Reply, new, oldSubgoal, oldAnswer, done, at, none, cells, used, refused, short, Result, lent}
+use Rattle.space.specs.Layout.{sizes, subgoalAt}
+use Rattle.store.specs.Changes.{nodesCell}
 use Rattle.store.specs.Calls.{cellStep, countedCells}
 
 abbrev pub Library : Type 0
 Library = List ℕ → Request → Result (List ℕ)
-
--- the promise of a library whose counts are read so, the plain table having this room where the cells have n, f and a
-abbrev pub KeptWith : Library → (List ℕ → Counts) → (ℕ → ℕ) → Type 0
-KeptWith step counted room =
-    (n f a : ℕ) (s : List ℕ) (qs : List Request) → freshAnswer sizes n f a s ≡ Done
-    → trace step counted (freshSpace sizes n f a s) qs ≡ tableTrace edition1 (fresh (room n) f a) qs
-
-abbrev pub Kept : Library → Type 0
-Kept step = KeptWith step countedCells (λ n. n)
 
 -- the calls as they are
 abbrev pub calls : Library
@@ -65,6 +56,37 @@ noEmpty cs (load a out) = calls cs (load a out)
 noEmpty cs (instance a out) = calls cs (instance a out)
 noEmpty cs counts = calls cs counts
 
+-- the subgoal's last answer is set with its first and not again: the third would follow the first, which has one behind it
+unfoldable pub lastOnce : Library
+lastOnce cs (call t) = calls cs (call t)
+lastOnce cs (answer s t) =
+    let r = calls cs (answer s t) in
+    let k = subgoalAt sizes (getD cs 5 0) s + 5 in
+    record { reply = r .reply; out = r .out; state = pick (eqb (getD cs k 0) 0) (r .state) (writes (put k (getD cs k 0) ∷ []) (r .state)) }
+lastOnce cs (finish s) = calls cs (finish s)
+lastOnce cs (next s a) = calls cs (next s a)
+lastOnce cs (load a out) = calls cs (load a out)
+lastOnce cs (instance a out) = calls cs (instance a out)
+lastOnce cs counts = calls cs counts
+
+abbrev isTen : Reply → Bool
+isTen (new n) = false
+isTen (oldSubgoal n s) = false
+isTen (oldAnswer n) = false
+isTen done = false
+isTen (at n) = false
+isTen none = false
+isTen (cells n) = false
+isTen (used n) = false
+isTen (refused n) = eqb n 10
+isTen (short n) = false
+
+-- nodes are taken as far as they go, and only then found too few: 10 leaves none free
+abbrev pub nodesFirst : Library
+nodesFirst cs q =
+    let r = calls cs q in
+    record { reply = r .reply; out = r .out; state = pick (isTen (r .reply)) (writes (put nodesCell ((getD cs 5 0 - 8) / 5) ∷ []) cs) (r .state) }
+
 -- every call is old 1
 abbrev pub alwaysOld : Library
 alwaysOld cs q = record { reply = oldSubgoal 1 Open; out = lent q; state = cs }
@@ -83,18 +105,3 @@ neverWriting cs q = record { reply = calls cs q .reply; out = lent q; state = ca
 
 abbrev pub invented : List ℕ → Counts
 invented cs = record { nodes = 0; subgoals = 0; answers = 0 }
-
--- each is ruled out; the last two are 10 with a node to spare, and 10 one node too late
-abbrev pub RuledOut : Type 0
-RuledOut =
-    (Kept onlyFirst → ⊥)
-    × (Kept stopping → ⊥)
-    × (Kept unfinished → ⊥)
-    × (Kept noEmpty → ⊥)
-    × (Kept alwaysOld → ⊥)
-    × (Kept alwaysRefused → ⊥)
-    × (Kept neverEntering → ⊥)
-    × (Kept neverWriting → ⊥)
-    × (KeptWith calls invented (λ n. n) → ⊥)
-    × (KeptWith calls countedCells (λ n. n - 1) → ⊥)
-    × (KeptWith calls countedCells (λ n. n + 1) → ⊥)

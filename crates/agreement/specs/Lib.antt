@@ -2,3 +2,4 @@ pub mod Records
 pub mod Promise
 pub mod Consequences
 pub mod Hollow
+pub mod RuledOut

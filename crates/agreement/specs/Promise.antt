@@ -5,20 +5,24 @@ use mathlib.Core.Path.{_≡_}
 use Rattle.forms.specs.Marked.{MarkedTerms}
 use Rattle.plain.specs.Examples.{MarkedTables}
 use Rattle.plain.specs.Coding.{Coding, edition1}
-use Rattle.plain.specs.Requests.{Request}
+use Rattle.plain.specs.Requests.{Request, Result, trace}
 use Rattle.plain.specs.Table.{fresh, tableTrace}
 use Rattle.space.specs.Layout.{Sizes, sizes}
 use Rattle.space.specs.Fresh.{freshAnswer, freshSpace}
 use Rattle.space.specs.declared.FreshAnswer.the-variants.{Done}
-use Rattle.store.specs.Calls.{cellTrace}
+use Rattle.store.specs.Calls.{cellStep, countedCells}
 
--- For every N, F and A, every content of a space for which fresh answers done, and every list of calls with
--- all that is lent to them: after each call the same answer with its numbers, the same refusal (12 with its need),
--- the same three counts and the same cells of out.
-abbrev pub Agreement : Sizes → Coding → Type 0
-Agreement z c =
+-- A library keeps the promise: for every N, F and A, every content of a space for which fresh answers done, and every
+-- list of calls with all that is lent to them, after each call the same answer with its numbers, the same refusal (12 with
+-- its need), the same three counts and the same cells of out as on the plain table.
+abbrev pub Kept : Sizes → Coding → (List ℕ → Request → Result (List ℕ)) → Type 0
+Kept z c step =
     (n f a : ℕ) (s : List ℕ) (qs : List Request) → freshAnswer z n f a s ≡ Done
-    → cellTrace z c (freshSpace z n f a s) qs ≡ tableTrace c (fresh n f a) qs
+    → trace step countedCells (freshSpace z n f a s) qs ≡ tableTrace c (fresh n f a) qs
+
+-- the calls on cells, which the contracts of the code name
+abbrev pub Agreement : Sizes → Coding → Type 0
+Agreement z c = Kept z c (cellStep z c)
 
 -- of edition 1
 abbrev pub Promise : Type 0

@@ -1,2 +1,4 @@
 pub mod BytesLaws
 pub mod ExportLaws
+pub mod ReplyBounds
+pub mod WordLaws

@@ -1,4 +1,6 @@
-// The converters as C functions over little-endian bytes, four to a cell.
+// The converters as C functions over little-endian bytes, four to a cell; the calls over cells in a module.
+pub mod calls;
+
 use forms::Loading;
 use forms::Reading;
 ghost use mathlib.Core.Path.{_≡_};

@@ -3,9 +3,3 @@ pub mod CallsWalks
 pub mod CallsReading
 pub mod CallsCases
 pub mod CallsAnswers
-pub mod ReadsCases
-pub mod ReadsForms
-pub mod ReadsInstance
-pub mod ReadsLaws
-pub mod InstanceLaws
-pub mod InstanceTerms

@@ -4,4 +4,3 @@ pub mod Changes
 pub mod Calls
 pub mod Replies
 pub mod Examples
-pub mod Instances

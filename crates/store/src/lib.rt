@@ -1,7 +1,5 @@
-// The seven calls on a space that the caller lends: what they answer.
+// The calls on a space that the caller lends: what the seven answer, and those that write.
 pub mod calls;
-pub mod instances;
-pub mod reads;
 
 // A subgoal is open or finished.
 pub enum State {

@@ -8,7 +8,7 @@ use Rattle.text.proofs.FieldsLaws.{rest-next, place-end}
 use Rattle.plain.specs.Coding.{edition1}
 use Rattle.space.specs.Layout.{sizes}
 use Rattle.store.specs.Calls.{cellStep}
-use Rattle.store.proofs.ReadsLaws.{counts-stays}
+use Rattle.reads.proofs.ReadsLaws.{counts-stays}
 use Rattle.session.specs.Lines.{noField}
 use Rattle.session.proofs.AskingLaws.{none-asks, some-bad, bad-leaves, asks-leaves}
 use Rattle.session.proofs.asking.ask_counts.Statement.{statement}
@@ -17,7 +17,7 @@ use Rattle.session.proofs.asking.ask_counts.Reads as reads
 use Rattle.session.proofs.asking.ask_counts.Lts as lts
 use Rattle.session.proofs.replies.print_bad.Reads as print-bad-reads
 use Rattle.session.proofs.replies.print_counts.Reads as print-counts-reads
-use Rattle.store.proofs.reads.counts.Reads as counts-reads
+use Rattle.reads.proofs.reads.counts.Reads as counts-reads
 
 print-bad-requires : tie.Need-print-bad-requires
 print-bad-requires c κs = search needs

@@ -10,7 +10,7 @@ use Rattle.plain.specs.Coding.{edition1}
 use Rattle.space.specs.Layout.{sizes}
 use Rattle.store.specs.Calls.{cellStep}
 use Rattle.store.specs.Replies.{saidCells}
-use Rattle.store.proofs.ReadsLaws.{load-stays, load-fits}
+use Rattle.reads.proofs.ReadsLaws.{load-stays, load-fits}
 use Rattle.session.specs.Lines.{oneNumber}
 use Rattle.session.specs.Texts.{replyText}
 use Rattle.text.specs.Digits.{Puts}
@@ -21,7 +21,7 @@ use Rattle.session.proofs.asking.ask_load.Reads as reads
 use Rattle.session.proofs.asking.ask_load.Lts as lts
 use Rattle.session.proofs.replies.print_bad.Reads as print-bad-reads
 use Rattle.session.proofs.replies.print_cells.Reads as print-cells-reads
-use Rattle.store.proofs.reads.load.Reads as load-reads
+use Rattle.reads.proofs.reads.load.Reads as load-reads
 use Rattle.text.proofs.fields.only_number.Reads as only-number-reads
 
 only-number-requires : tie.Need-only-number-requires

@@ -9,7 +9,7 @@ use Rattle.plain.specs.Requests as request
 use Rattle.plain.specs.Coding.{edition1}
 use Rattle.space.specs.Layout.{sizes}
 use Rattle.store.specs.Calls.{cellStep}
-use Rattle.store.proofs.ReadsLaws.{next-stays}
+use Rattle.reads.proofs.ReadsLaws.{next-stays}
 use Rattle.session.specs.Lines.{asks, withNumber, twoNumbers}
 use Rattle.session.proofs.AskingLaws.{first-means, first-bad, one-asks, one-bad, bad-leaves, asks-leaves}
 use Rattle.session.proofs.asking.ask_next.Statement.{statement}
@@ -18,7 +18,7 @@ use Rattle.session.proofs.asking.ask_next.Reads as reads
 use Rattle.session.proofs.asking.ask_next.Lts as lts
 use Rattle.session.proofs.replies.print_bad.Reads as print-bad-reads
 use Rattle.session.proofs.replies.print_next.Reads as print-next-reads
-use Rattle.store.proofs.reads.next.Reads as next-reads
+use Rattle.reads.proofs.reads.next.Reads as next-reads
 use Rattle.text.proofs.fields.first_number.Reads as first-number-reads
 use Rattle.text.proofs.fields.only_number.Reads as only-number-reads
 

@@ -7,6 +7,7 @@ use Rattle.space.specs.declared.NodeRead.the-variants as node-read
 use Rattle.space.specs.declared.SubgoalRead.the-variants as subgoal-read
 use Rattle.space.proofs.HeaderLaws.{bounds-nodes}
 use Rattle.space.proofs.JudgingLaws.{SubgoalBounds, subgoal-bounds}
+use Rattle.basis.proofs.Tests.{told}
 use Rattle.store.proofs.CallsAnswers.{answer-zero, answer-above, answer-damaged, answer-root-damaged, answer-root-other, answer-finished, answer-open, subgoal-is, subgoal-sound}
 use borrow.Author.Needs.{needs}
 use Rattle.store.proofs.calls.answer_in.Statement.{statement}
@@ -42,7 +43,7 @@ same-length : tie.Need-same-length
 same-length c = search needs
 
 returns-3 : tie.Need-returns-3
-returns-3 c = answer-damaged _ _ _ _ (search needs) (search needs) (cc)
+returns-3 c = answer-damaged _ _ _ _ (search needs) (search needs) (told (c .enum-told .given .1) (c .before .before .read-subgoal .ensures))
 
 read-node-requires : tie.Need-read-node-requires
 read-node-requires c κs = (bounds-nodes _ _ (c .before .before .before .before .before .before .before .before .before .before .before .pre), within (c .before .before) .root-below)

@@ -29,7 +29,7 @@ sub-enter-answer : tie.Need-sub-enter-answer
 sub-enter-answer c = search needs
 
 enter-answer-requires : tie.Need-enter-answer-requires
-enter-answer-requires c κs = ((bounds-appended _ _ _ (c .before .before .before .before .before .before .before .before .before .before .before .pre .0 .0) _ _ _ (search needs) (search needs) (c .before .before .before .append-path .ensures), search needs, search needs, search needs), (omega (arith, room (c .before .before .before .before .before .before)), room (c .before .before .before .before .before .before), one-more (c .before .before .before .before .before .before)))
+enter-answer-requires c κs = ((bounds-appended _ _ _ (c .before .before .before .before .before .before .before .before .before .before .before .pre .0 .0) _ _ _ (search needs) (search needs) (c .before .before .before .append-path .ensures), search needs, search needs, search needs), (omega (arith, room (c .before .before .before .before .before .before)), omega (arith, room (c .before .before .before .before .before .before)), one-more (c .before .before .before .before .before .before)))
 
 add-a : tie.Need-add-a
 add-a c = search needs

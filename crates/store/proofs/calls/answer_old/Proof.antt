@@ -1,5 +1,6 @@
 -- `store::calls::answer_old` meets its contract.
 use mathlib.Core.Path.{sym, _∙_}
+use Rattle.basis.proofs.Tests.{told}
 use Rattle.store.proofs.CallsAnswers.{old-empty, old-unlinked, old-damaged, old-other, old-found}
 use borrow.Author.Needs.{needs}
 use Rattle.store.proofs.calls.answer_old.Statement.{statement}
@@ -30,7 +31,7 @@ same-length-2 : tie.Need-same-length-2
 same-length-2 c = search needs
 
 returns-3 : tie.Need-returns-3
-returns-3 c = old-damaged (c .before .before .before .before .before .before .before .args .space .now) (c .before .before .before .before .before .before .before .args .h) (c .before .before .before .before .before .before .before .args .s) (c .before .before .before .before .before .before .before .args .tokens .now) (c .before .before .before .before .before .before .before .args .leaf) (c .before .before .before .before .before .before .before .args .a) (search needs) (cc)
+returns-3 c = old-damaged (c .before .before .before .before .before .before .before .args .space .now) (c .before .before .before .before .before .before .before .args .h) (c .before .before .before .before .before .before .before .args .s) (c .before .before .before .before .before .before .before .args .tokens .now) (c .before .before .before .before .before .before .before .args .leaf) (c .before .before .before .before .before .before .before .args .a) (search needs) (told (c .enum-told .given .1) (c .before .before .read-answer .ensures))
 
 cast-t17 : tie.Need-cast-t17
 cast-t17 c = search needs

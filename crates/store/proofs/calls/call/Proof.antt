@@ -1,4 +1,5 @@
 -- `store::calls::call` meets its contract.
+use Rattle.basis.proofs.Tests.{told}
 use Rattle.space.proofs.HeaderLaws.{header-bounds}
 use Rattle.store.proofs.CallsCases.{steps-refused, steps-sound}
 use borrow.Author.Needs.{needs}
@@ -21,7 +22,7 @@ same-length : tie.Need-same-length
 same-length c = search needs
 
 returns : tie.Need-returns
-returns c = steps-refused _ _ _ (cc)
+returns c = steps-refused _ _ _ (told (c .before .read3 .given .1) (told (c .before .before .before .before .read2 .given .1) (c .before .before .before .before .before .before .read-header .ensures)))
 
 enum-told : tie.Need-enum-told
 enum-told c = search needs
@@ -39,13 +40,13 @@ slice-aggregate-call-with-2 : tie.Need-slice-aggregate-call-with-2
 slice-aggregate-call-with-2 c = search needs
 
 call-with-requires : tie.Need-call-with-requires
-call-with-requires c κs = (header-bounds _ _ (cc), search needs)
+call-with-requires c κs = (header-bounds _ _ (told (c .before .before .before .before .before .read .given .1) (c .before .before .before .before .before .before .before .read-header .ensures)), search needs)
 
 same-length-3 : tie.Need-same-length-3
 same-length-3 c = search needs
 
 returns-3 : tie.Need-returns-3
-returns-3 c = steps-sound _ _ _ _ _ (cc) (c .before .before .before .before .call-with .ensures)
+returns-3 c = steps-sound _ _ _ _ _ (told (c .before .before .before .before .before .before .before .before .before .before .read .given .1) (c .before .before .before .before .before .before .before .before .before .before .before .before .read-header .ensures)) (c .before .before .before .before .call-with .ensures)
 
 slice-aggregate-call-with-3 : tie.Need-slice-aggregate-call-with-3
 slice-aggregate-call-with-3 c = search needs
@@ -54,13 +55,13 @@ slice-aggregate-call-with-4 : tie.Need-slice-aggregate-call-with-4
 slice-aggregate-call-with-4 c = search needs
 
 call-with-requires-2 : tie.Need-call-with-requires-2
-call-with-requires-2 c κs = (header-bounds _ _ (cc), search needs)
+call-with-requires-2 c κs = (header-bounds _ _ (told (c .before .before .before .before .before .read .given .1) (c .before .before .before .before .before .before .before .read-header .ensures)), search needs)
 
 same-length-4 : tie.Need-same-length-4
 same-length-4 c = search needs
 
 returns-4 : tie.Need-returns-4
-returns-4 c = steps-sound _ _ _ _ _ (cc) (c .before .before .before .before .call-with2 .ensures)
+returns-4 c = steps-sound _ _ _ _ _ (told (c .before .before .before .before .before .before .before .before .before .before .read .given .1) (c .before .before .before .before .before .before .before .before .before .before .before .before .read-header .ensures)) (c .before .before .before .before .call-with2 .ensures)
 
 pub call-spec : {M : Type 1} → statement M
 call-spec =

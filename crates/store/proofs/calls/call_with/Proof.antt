@@ -2,6 +2,7 @@
 use mathlib.Core.Path.{_≡_, sym, _∙_}
 use lib.ListN.{take}
 use native.Mathlib.Omega.{arith}
+use Rattle.basis.proofs.Tests.{told}
 use Rattle.forms.specs.Cells.{arity16}
 use Rattle.forms.specs.Compact.{compactForm}
 use Rattle.forms.specs.Converting.{reading}
@@ -38,7 +39,7 @@ same-length-2 : tie.Need-same-length-2
 same-length-2 c = search needs
 
 returns : tie.Need-returns
-returns c = call-refused (c .before .before .before .before .before .before .before .before .before .before .before .before .before .before .before .before .before .args .space .now) (c .before .before .before .before .before .before .before .before .before .before .before .before .before .before .before .before .before .args .h) (c .before .before .before .before .before .before .before .before .before .before .before .before .before .before .before .before .before .args .term .now) _ (cc)
+returns c = call-refused (c .before .before .before .before .before .before .before .before .before .before .before .before .before .before .before .before .before .args .space .now) (c .before .before .before .before .before .before .before .before .before .before .before .before .before .before .before .before .before .args .h) (c .before .before .before .before .before .before .before .before .before .before .before .before .before .before .before .before .before .args .term .now) _ (told (c .before .read3 .given .1) (told (c .before .before .before .before .read2 .given .1) (c .before .before .before .before .before .before .before .before .before .before .read-terms .ensures .0)))
 
 enum-told : tie.Need-enum-told
 enum-told c = search needs

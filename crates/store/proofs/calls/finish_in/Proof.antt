@@ -1,4 +1,5 @@
 -- `store::calls::finish_in` meets its contract.
+use Rattle.basis.proofs.Tests.{told}
 use Rattle.store.proofs.CallsCases.{finish-zero, finish-above, finish-damaged, finish-done}
 use mathlib.Core.Path.{refl, sym, _∙_}
 use borrow.Author.Needs.{needs}
@@ -24,7 +25,7 @@ same-length : tie.Need-same-length
 same-length c = search needs
 
 returns-3 : tie.Need-returns-3
-returns-3 c = finish-damaged _ _ _ (search needs) (search needs) (cc)
+returns-3 c = finish-damaged _ _ _ (search needs) (search needs) (told (c .enum-told2 .given .1) (c .before .before .read-subgoal .ensures))
 
 sub-at : tie.Need-sub-at
 sub-at c = search needs

@@ -1,5 +1,6 @@
 -- `store::calls::last_sound` meets its contract.
 use mathlib.Core.Path.{sym, _∙_}
+use Rattle.basis.proofs.Tests.{told}
 use Rattle.store.proofs.CallsAnswers.{last-none, last-damaged, last-other, last-ends}
 use borrow.Author.Needs.{needs}
 use Rattle.store.proofs.calls.last_sound.Statement.{statement}
@@ -18,7 +19,7 @@ enum-told : tie.Need-enum-told
 enum-told c = search needs
 
 returns-2 : tie.Need-returns-2
-returns-2 c = last-damaged (c .before .before .before .before .before .args .space .now) (c .before .before .before .before .before .args .h) (c .before .before .before .before .before .args .s) (c .before .before .before .before .before .args .last) (c .before .before .before .before .before .pre .2) (search needs) (cc)
+returns-2 c = last-damaged (c .before .before .before .before .before .args .space .now) (c .before .before .before .before .before .args .h) (c .before .before .before .before .before .args .s) (c .before .before .before .before .before .args .last) (c .before .before .before .before .before .pre .2) (search needs) (told (c .enum-told .given .1) (c .before .before .read-answer .ensures))
 
 returns-3 : tie.Need-returns-3
 returns-3 c = last-ends (c .before .before .before .before .before .before .before .before .before .args .space .now) (c .before .before .before .before .before .before .before .before .before .args .h) (c .before .before .before .before .before .before .before .before .before .args .s) (c .before .before .before .before .before .before .before .before .before .args .last) (c .before .before .before .before .before .before .before .before .before .pre .2) (search needs) (c .before .before .before .before .y .given .0 .0) (sym (c .before .before .before .before .y .given .1) ∙ c .before .before .before .before .before .before .read-answer .ensures) (search needs)

@@ -1,0 +1,284 @@
+-- Every answer of the seven calls and of fresh is one that a result word holds: no refusal above 11 but 12, and at most 256 * 257 cells.
+use Prim.Native.Nat.{ℕ, zero, suc, _+_, _*_, _^_, _≤_, _<_}
+use mathlib.Core.Bool.{Bool, true, false, _&&_}
+use mathlib.Core.List.{List, [], _∷_, map}
+use mathlib.Core.Path.{_≡_, refl}
+use native.Mathlib.Omega.{arith}
+use lib.Dec.{eqb, leb, ltb}
+use lib.ListN.{length, getD, length-append}
+use Rattle.basis.specs.Choice.{pick}
+use Rattle.basis.proofs.Cases.{by-cases}
+use Rattle.forms.specs.Cells.{variable, payload, arity16}
+use Rattle.forms.specs.Terms.{Term, cell, arg, pair, pairs, every}
+use Rattle.forms.specs.Numbering.{met}
+use Rattle.forms.specs.Compact.{formTerms, pairForm, legalForm}
+use Rattle.forms.specs.Converting.{reading}
+use Rattle.forms.specs.declared.Reading as forms
+use Rattle.forms.specs.declared.Reading.the-variants.{Form, Refusal}
+use Rattle.forms.proofs.RoundTrip.{legal-parts}
+use Rattle.plain.specs.Coding.{Reading, refused, accepted, handedOn, judged, predicate, compacted, substituted, edition1}
+use Rattle.plain.specs.Requests.{State, Open, Finished, Request, call, answer, finish, next, load, instance, counts, lent, oldSubgoal, oldAnswer, at, none, refused}
+use Rattle.plain.specs.Words.{Word}
+use Rattle.space.specs.Layout.{sizes}
+use Rattle.space.specs.Heading.{headerOf, capacity, counted}
+use Rattle.space.specs.Heading as heading
+use Rattle.space.specs.Fresh.{freshFits, freshAnswer}
+use Rattle.space.specs.declared.Header.{Header}
+use Rattle.space.specs.declared.Header.the-variants as header
+use Rattle.space.specs.declared.Capacity.{Capacity}
+use Rattle.space.specs.declared.Capacity.the-variants.{Whole, Broken}
+use Rattle.trie.specs.Walks.{Walk, whole, stopped, damaged, rootSound, walk}
+use Rattle.trie.specs.Paths.{Path, tokens, gather, longest}
+use Rattle.trie.specs.Paths as path
+use Rattle.store.specs.Views.{View, viewOf, subgoalTrie, answerTrie}
+use Rattle.store.specs.Decisions.{Decision, says, gives, entersSubgoal, entersAnswer, entersEmpty, finishes, refuses, soundSubgoal, soundAnswer, soundAnswerOf, sound, known, stateOf, soundLast, whileOpen, calledOld, calledNew, calledAt, called, answeredNew, answeredOld, answeredAt, answered, starting, handed, onward, onPath, loaded, instanced, soundPair, decide}
+use Rattle.store.specs.Calls.{reply, under, cellStep}
+use Rattle.engine.specs.Words.{saidFresh}
+use Rattle.engine.specs.Bounded.{Bounded}
+use Rattle.engine.proofs.ExportLaws.{refusal-small}
+
+-- ---- the cells of an instance
+
+got-cells : (us : List Term) (i c : ℕ) → length (pairs (getD us i (cell c))) ≤ 1 + length (every pairs us)
+unfolding pairs every
+got-cells [] i c = omega arith
+got-cells (u ∷ us) zero c = simp length-append (omega arith)
+got-cells (u ∷ us) (suc i) c = simp length-append (omega (arith, got-cells us i c))
+
+module _ (us : List Term) (few : length (every pairs us) ≤ 256) where
+  term-cells : (t : Term) → length (pairs (substituted us t)) ≤ 257 * length (pairs t)
+  unfolding pairs substituted
+  term-cells (cell c) = by-cases (variable c) (λ q. rw q (omega (arith, got-cells us (payload c) c))) (λ q. rw q (omega arith))
+  term-cells (arg f a) = simp length-append (omega (arith, term-cells f, term-cells a))
+  term-cells (pair h t) = simp length-append (omega (arith, term-cells h, term-cells t))
+
+  all-cells : (ts : List Term) → length (every pairs (map (substituted us) ts)) ≤ 257 * length (every pairs ts)
+  unfolding every
+  all-cells [] = omega arith
+  all-cells (t ∷ ts) = simp length-append (omega (arith, term-cells t, all-cells ts))
+
+legal-cells : (m : ℕ) (w : Word) → legalForm arity16 m w ≡ true → length (every pairs (formTerms arity16 w)) ≤ 256
+unfolding pairForm
+legal-cells m w h = legal-parts arity16 m w h .cells
+
+and-first : (a b : Bool) → (a && b) ≡ true → a ≡ true
+and-first true b e = refl
+and-first false b e = e
+
+-- ---- decisions
+
+abbrev Small : Decision → Type 0
+Small (says r) = Bounded r
+Small (gives ks) = length ks < 2 ^ 32
+Small (entersSubgoal parent last left m) = Unit {0}
+Small (entersAnswer s parent last left) = Unit {0}
+Small (entersEmpty s) = Unit {0}
+Small (finishes s) = Unit {0}
+
+-- a test and its refusal
+small-pick : (b : Bool) (d : Decision) (r : ℕ) → r ≤ 13 → (b ≡ true → Small d) → Small (pick b d (refuses r))
+small-pick true d r h f = f refl
+small-pick false d r h f = h
+
+-- two tests, each with its refusal
+small-tests : (a b : Bool) (d : Decision) (i j : ℕ) → i ≤ 13 → j ≤ 13 → Small d → Small (pick a (pick b d (refuses i)) (refuses j))
+small-tests true b d i j h k f = small-pick b d i h (λ q. f)
+small-tests false b d i j h k f = k
+
+small-either : (b : Bool) (d e : Decision) → Small d → Small e → Small (pick b d e)
+small-either true d e f g = f
+small-either false d e f g = g
+
+module _ (d : Decision) where
+  small-sound : (b : Bool) → (b ≡ true → Small d) → Small (sound b d)
+  small-sound b f = small-pick b d 9 (omega arith) f
+
+  small-known : (n s : ℕ) → Small d → Small (known n s d)
+  small-known n s f = small-tests (ltb 0 s) (leb s n) d 7 7 (omega arith) (omega arith) f
+
+  small-while : (x : State) → Small d → Small (whileOpen x d)
+  small-while Open f = f
+  small-while Finished f = omega arith
+
+module _ (v : View) where
+  small-called-old : (leaf s : ℕ) → Small (calledOld v leaf s)
+  unfolding calledOld
+  small-called-old leaf s =
+      small-sound (says (oldSubgoal s (stateOf (v .subgoal s .state)))) (ltb 0 s && soundSubgoal v s && eqb (v .subgoal s .leaf) leaf) (λ q. tt)
+
+  small-called-at : (w : Walk) (m : ℕ) → Small (calledAt v w m)
+  unfolding calledAt calledNew
+  small-called-at (whole leaf) m = small-called-old leaf (v .node leaf .link)
+  small-called-at (stopped parent last left) m =
+      small-tests (leb (v .nodes + length left + 1) (v .N)) (ltb (v .subgoals) (v .F)) (entersSubgoal parent last left m) 11 10 (omega arith) (omega arith) tt
+  small-called-at damaged m = omega arith
+
+  small-answered-new : (s more : ℕ) (d : Decision) → Small d → Small (answeredNew v s more d)
+  unfolding answeredNew
+  small-answered-new s more d f =
+      small-sound (pick (leb (v .nodes + more) (v .N)) (pick (ltb (v .answers) (v .A)) d (refuses 11)) (refuses 10)) (soundLast v s)
+      (λ q. small-tests (leb (v .nodes + more) (v .N)) (ltb (v .answers) (v .A)) d 11 10 (omega arith) (omega arith) f)
+
+  small-answered-old : (s : ℕ) (w : Word) (leaf a : ℕ) → Small (answeredOld v s w leaf a)
+  unfolding answeredOld
+  small-answered-old s w leaf a =
+      small-either (eqb a 0) (pick (eqb (length w) 0) (answeredNew v s 0 (entersEmpty s)) (refuses 9)) (sound (soundAnswer v a && eqb (v .answer a .leaf) leaf) (says (oldAnswer a)))
+      (small-pick (eqb (length w) 0) (answeredNew v s 0 (entersEmpty s)) 9 (omega arith) (λ q. small-answered-new s 0 (entersEmpty s) tt))
+      (small-sound (says (oldAnswer a)) (soundAnswer v a && eqb (v .answer a .leaf) leaf) (λ q. tt))
+
+  small-answered-at : (s : ℕ) (w : Word) (x : Walk) → Small (answeredAt v s w x)
+  unfolding answeredAt
+  small-answered-at s w (whole leaf) = small-answered-old s w leaf (v .node leaf .link)
+  small-answered-at s w (stopped parent last left) = small-answered-new s (length left) (entersAnswer s parent last left) tt
+  small-answered-at s w damaged = omega arith
+
+  small-handed : (s a : ℕ) → Small (handed v s a)
+  unfolding handed
+  small-handed s a =
+      small-either (eqb a 0) (says none) (sound (soundAnswerOf v s a) (says (at a))) tt (small-sound (says (at a)) (soundAnswerOf v s a) (λ q. tt))
+
+  small-onward : (s a : ℕ) → Small (onward v s a)
+  unfolding onward
+  small-onward s a =
+      let first = handed v s (v .subgoal s .first) in
+      let after = handed v s (v .answer a .next) in
+      small-sound (pick (eqb a 0) first (sound (soundAnswer v a) after)) (soundSubgoal v s)
+      (λ q. small-either (eqb a 0) first (sound (soundAnswer v a) after)
+      (small-handed s (v .subgoal s .first)) (small-sound after (soundAnswer v a) (λ z. small-handed s (v .answer a .next))))
+
+small-path : (p : Path) (test : Word → Bool) (d : Word → Decision) → ((w : Word) → test w ≡ true → Small (d w)) → Small (onPath p test d)
+unfolding onPath
+small-path path.none test d f = omega arith
+small-path (tokens w) test d f = small-sound (d w) (test w) (f w)
+
+-- ---- readings
+
+abbrev SmallReading : Reading → Type 0
+SmallReading (refused r) = r ≤ 13
+SmallReading (accepted w m) = Unit {0}
+
+handed-on-small : (m : ℕ) (cs : List ℕ) (x : forms.Reading) (legal : Reading) → x ≡ reading arity16 m cs → SmallReading legal → SmallReading (handedOn x legal)
+unfolding handedOn
+handed-on-small m cs (Form n v) legal e f = f
+handed-on-small m cs (Refusal r) legal e f = omega (arith, refusal-small m r cs e)
+
+judged-small : (m : ℕ) (cs : List ℕ) (legal : Reading) → SmallReading legal → SmallReading (judged arity16 m cs legal)
+unfolding judged
+judged-small m cs legal f = handed-on-small m cs (reading arity16 m cs) legal refl f
+
+compacted-small : (cs : List ℕ) → SmallReading (compacted arity16 cs)
+unfolding compacted
+compacted-small cs = tt
+
+callable-small : (b : Bool) (cs : List ℕ) → SmallReading (pick b (compacted arity16 cs) (refused 6))
+callable-small true cs = compacted-small cs
+callable-small false cs = omega arith
+
+small-called : (v : View) (r : Reading) → SmallReading r → Small (called v r)
+unfolding called
+small-called v (refused r) f = f
+small-called v (accepted w m) f = small-called-at v (walk (subgoalTrie v) 0 w) m
+
+small-answered : (v : View) (s : ℕ) (r : Reading) → SmallReading r → Small (answered v s r)
+unfolding answered
+small-answered v s (refused r) f = f
+small-answered v s (accepted w m) f = small-answered-at v s w (walk (answerTrie v) (v .subgoal s .root) w)
+
+-- ---- the header
+
+abbrev SmallHeader : Header → Type 0
+SmallHeader (header.Sound h) = Unit {0}
+SmallHeader (header.Refused r) = r ≤ 13
+
+header-whole : (k : Capacity) (f : ℕ → Header) → ((n : ℕ) → SmallHeader (f n)) → SmallHeader (heading.whole k f)
+unfolding heading.whole
+header-whole (Whole n) f g = g n
+header-whole Broken f g = omega arith
+
+header-counted : (s : List ℕ) (n f a : ℕ) → SmallHeader (counted s n f a)
+unfolding counted
+header-counted s n f a = by-cases (ltb (length s) (getD s 7 0)) (λ q. rw q (omega arith))
+    (λ q. rw q (by-cases (eqb (getD s 1 0) 0) (λ q. rw q (omega arith))
+    (λ q. rw q (by-cases (ltb n (getD s 1 0)) (λ q. rw q (omega arith))
+    (λ q. rw q (by-cases (ltb f (getD s 2 0)) (λ q. rw q (omega arith))
+    (λ q. rw q (by-cases (ltb a (getD s 3 0)) (λ q. rw q (omega arith)) (λ q. rw q tt)))))))))
+
+header-small : (s : List ℕ) → SmallHeader (headerOf sizes s)
+unfolding headerOf
+header-small s = by-cases (ltb (length s) 8) (λ q. rw q (omega arith))
+    (λ q. rw q (by-cases (eqb (getD s 0 0) 1)
+    (λ q. rw q (by-cases (eqb (getD s 4 0) 8)
+    (λ q. rw q (header-whole (capacity 1 (sizes .node) 8 (getD s 5 0)) (λ n. heading.whole (capacity 0 (sizes .subgoal) (getD s 5 0) (getD s 6 0)) (λ f. heading.whole (capacity 0 (sizes .answer) (getD s 6 0) (getD s 7 0)) (λ a. counted s n f a)))
+    (λ n. header-whole (capacity 0 (sizes .subgoal) (getD s 5 0) (getD s 6 0)) (λ f. heading.whole (capacity 0 (sizes .answer) (getD s 6 0) (getD s 7 0)) (λ a. counted s n f a))
+    (λ f. header-whole (capacity 0 (sizes .answer) (getD s 6 0) (getD s 7 0)) (λ a. counted s n f a) (header-counted s n f)))))
+    (λ q. rw q (omega arith))))
+    (λ q. rw q (omega arith))))
+
+-- ---- the seven calls
+
+small-load : (v : View) (a : ℕ) → Small (loaded edition1 v a (λ w. gives (pairForm arity16 w)))
+unfolding loaded pairForm
+small-load v a =
+    let g = v .subgoal (v .answer a .subgoal) in
+    small-path (gather longest (answerTrie v) (g .root) (v .answer a .leaf)) (legalForm arity16 (g .variables)) (λ w. gives (every pairs (formTerms arity16 w)))
+    (λ w l. omega (arith, legal-cells (g .variables) w l))
+
+small-instanced : (v : View) (s : ℕ) (w : Word) → length (every pairs (formTerms arity16 w)) ≤ 256 → Small (instanced edition1 v s (λ u. gives (edition1 .instanceOf u w)))
+unfolding instanced
+small-instanced v s w l =
+    let g = v .subgoal s in
+    small-path (gather longest (subgoalTrie v) 0 (g .leaf)) (λ u. legalForm arity16 1 u && eqb (length (met [] u)) (g .variables)) (λ u. gives (edition1 .instanceOf u w))
+    (λ u k. omega (arith, all-cells (formTerms arity16 w) l (formTerms arity16 u), legal-cells 1 u (and-first (legalForm arity16 1 u) (eqb (length (met [] u)) (g .variables)) k)))
+
+small-instance : (v : View) (a : ℕ) → Small (loaded edition1 v a (λ w. instanced edition1 v (v .answer a .subgoal) (λ u. gives (edition1 .instanceOf u w))))
+unfolding loaded
+small-instance v a =
+    let s = v .answer a .subgoal in
+    let g = v .subgoal s in
+    small-path (gather longest (answerTrie v) (g .root) (v .answer a .leaf)) (legalForm arity16 (g .variables)) (λ w. instanced edition1 v s (λ u. gives (edition1 .instanceOf u w)))
+    (λ w l. small-instanced v s w (legal-cells (g .variables) w l))
+
+decide-small : (v : View) (q : Request) → Small (decide edition1 v q)
+unfolding decide
+decide-small v (call cs) =
+    small-called v (edition1 .called cs) (judged-small 1 cs (pick (predicate cs) (compacted arity16 cs) (refused 6)) (callable-small (predicate cs) cs))
+decide-small v (answer s cs) =
+    let g = v .subgoal s in
+    let r = edition1 .answered (g .variables) cs in
+    small-known (sound (soundSubgoal v s && rootSound (answerTrie v) (g .root)) (whileOpen (stateOf (g .state)) (answered v s r))) (v .subgoals) s
+    (small-sound (whileOpen (stateOf (g .state)) (answered v s r)) (soundSubgoal v s && rootSound (answerTrie v) (g .root))
+    (λ q. small-while (answered v s r) (stateOf (g .state)) (small-answered v s r (judged-small (g .variables) cs (compacted arity16 cs) (compacted-small cs)))))
+decide-small v (finish s) =
+    small-known (sound (soundSubgoal v s) (finishes s)) (v .subgoals) s (small-sound (finishes s) (soundSubgoal v s) (λ q. tt))
+decide-small v (next s a) =
+    small-known (pick (starting v s a) (onward v s a) (refuses 7)) (v .subgoals) s
+    (small-pick (starting v s a) (onward v s a) 7 (omega arith) (λ q. small-onward v s a))
+decide-small v (load a out) =
+    let d = loaded edition1 v a (λ w. gives (pairForm arity16 w)) in
+    small-known (sound (soundPair v a) d) (v .answers) a (small-sound d (soundPair v a) (λ q. small-load v a))
+decide-small v (instance a out) =
+    let d = loaded edition1 v a (λ w. instanced edition1 v (v .answer a .subgoal) (λ u. gives (edition1 .instanceOf u w))) in
+    small-known (sound (soundPair v a) d) (v .answers) a (small-sound d (soundPair v a) (λ q. small-instance v a))
+decide-small v counts = tt
+
+reply-bounded : (v : View) (d : Decision) (room : ℕ) → Small d → Bounded (reply v d room)
+unfolding reply
+reply-bounded v (says r) room f = f
+reply-bounded v (gives ks) room f = by-cases (leb (length ks) room) (λ q. rw q f) (λ q. rw q f)
+reply-bounded v (entersSubgoal parent last left m) room f = tt
+reply-bounded v (entersAnswer s parent last left) room f = tt
+reply-bounded v (entersEmpty s) room f = tt
+reply-bounded v (finishes s) room f = tt
+
+under-bounded : (s : List ℕ) (q : Request) (h : Header) → SmallHeader h → Bounded (under sizes edition1 s q h .reply)
+unfolding under
+under-bounded s q (header.Sound h) f = reply-bounded (viewOf sizes s h) (decide edition1 (viewOf sizes s h) q) (length (lent q)) (decide-small (viewOf sizes s h) q)
+under-bounded s q (header.Refused r) f = f
+
+pub step-bounded : (s : List ℕ) (q : Request) → Bounded (cellStep sizes edition1 s q .reply)
+unfolding cellStep
+step-bounded s q = under-bounded s q (headerOf sizes s) (header-small s)
+
+pub fresh-bounded : (n f a : ℕ) (s : List ℕ) → Bounded (saidFresh (freshAnswer sizes n f a s))
+unfolding freshAnswer
+fresh-bounded n f a s = by-cases (freshFits sizes n f a s) (λ q. rw q tt) (λ q. rw q (omega arith))

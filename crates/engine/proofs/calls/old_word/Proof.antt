@@ -1,0 +1,33 @@
+-- `engine::calls::old_word` meets its contract: each state by its word.
+use Rattle.plain.specs.Requests.{oldSubgoal}
+use Rattle.store.specs.Replies.{saidState}
+use Rattle.engine.specs.Words.{word}
+use Rattle.engine.proofs.WordLaws.{said-word}
+use borrow.Author.Needs.{needs}
+use Rattle.engine.proofs.calls.old_word.Statement.{statement}
+use Rattle.engine.proofs.calls.old_word.Tie as tie
+
+enum-told : tie.Need-enum-told
+enum-told c = search needs
+
+result-word-requires : tie.Need-result-word-requires
+result-word-requires c κs = search needs
+
+returns : tie.Need-returns
+unfolding word
+returns c = said-word (λ s. oldSubgoal (c .before .before .before .args .n) (saidState s)) (c .before .enum-told .given .1) _ (c .result-word .ensures)
+
+enum-told-2 : tie.Need-enum-told-2
+enum-told-2 c = search needs
+
+result-word-requires-2 : tie.Need-result-word-requires-2
+result-word-requires-2 c κs = search needs
+
+returns-2 : tie.Need-returns-2
+unfolding word
+returns-2 c = said-word (λ s. oldSubgoal (c .before .before .before .args .n) (saidState s)) (c .before .enum-told2 .given .1) _ (c .result-word2 .ensures)
+
+pub old-word-spec : {M : Type 1} → statement M
+old-word-spec =
+    tie.close
+    (tie.spec enum-told result-word-requires returns enum-told-2 result-word-requires-2 returns-2)

@@ -1,0 +1,21 @@
+-- `engine::calls::tables_answer` meets its contract: the word of what `answer` gives.
+use Rattle.engine.proofs.WordLaws.{given-word, given-bounded}
+use Rattle.engine.proofs.ReplyBounds.{step-bounded}
+use borrow.Author.Needs.{needs}
+use Rattle.engine.proofs.calls.tables_answer.Statement.{statement}
+use Rattle.engine.proofs.calls.tables_answer.Tie as tie
+
+answer-requires : tie.Need-answer-requires
+answer-requires c κs = search needs
+
+answer-word-requires : tie.Need-answer-word-requires
+answer-word-requires c κs = given-bounded (c .before .before .answer .ensures .0) (step-bounded _ _)
+
+same-length : tie.Need-same-length
+same-length c = search needs
+
+returns : tie.Need-returns
+returns c = (given-word (c .before .before .before .answer .ensures .0) _ (c .answer-word .ensures), c .before .before .before .answer .ensures .1)
+
+pub tables-answer-spec : {M : Type 1} → statement M
+tables-answer-spec = tie.close (tie.spec answer-requires answer-word-requires same-length returns)

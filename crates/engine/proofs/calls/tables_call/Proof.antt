@@ -1,0 +1,21 @@
+-- `engine::calls::tables_call` meets its contract: the word of what `call` gives.
+use Rattle.engine.proofs.WordLaws.{given-word, given-bounded}
+use Rattle.engine.proofs.ReplyBounds.{step-bounded}
+use borrow.Author.Needs.{needs}
+use Rattle.engine.proofs.calls.tables_call.Statement.{statement}
+use Rattle.engine.proofs.calls.tables_call.Tie as tie
+
+call-requires : tie.Need-call-requires
+call-requires c κs = search needs
+
+call-word-requires : tie.Need-call-word-requires
+call-word-requires c κs = given-bounded (c .before .before .call .ensures .0) (step-bounded _ _)
+
+same-length : tie.Need-same-length
+same-length c = search needs
+
+returns : tie.Need-returns
+returns c = (given-word (c .before .before .before .call .ensures .0) _ (c .call-word .ensures), c .before .before .before .call .ensures .1)
+
+pub tables-call-spec : {M : Type 1} → statement M
+tables-call-spec = tie.close (tie.spec call-requires call-word-requires same-length returns)

@@ -1,0 +1,22 @@
+-- `engine::calls::tables_instance` meets its contract: the word of what `instance` gives.
+use Rattle.engine.proofs.WordLaws.{given-word, given-bounded}
+use Rattle.engine.proofs.ReplyBounds.{step-bounded}
+use borrow.Author.Needs.{needs}
+use Rattle.engine.proofs.calls.tables_instance.Statement.{statement}
+use Rattle.engine.proofs.calls.tables_instance.Tie as tie
+
+instance-requires : tie.Need-instance-requires
+instance-requires c κs = search needs
+
+cells-word-requires : tie.Need-cells-word-requires
+cells-word-requires c κs = given-bounded (c .before .before .instance .ensures .0) (step-bounded _ _)
+
+same-length : tie.Need-same-length
+same-length c = search needs
+
+returns : tie.Need-returns
+returns c = (given-word (c .before .before .before .instance .ensures .0) _ (c .cells-word .ensures), c .before .before .before .instance .ensures .1)
+
+pub tables-instance-spec : {M : Type 1} → statement M
+tables-instance-spec =
+    tie.close (tie.spec instance-requires cells-word-requires same-length returns)

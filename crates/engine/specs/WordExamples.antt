@@ -1,0 +1,54 @@
+-- Examples of the result words and of `tables_counts`, computed.
+use Prim.Native.Nat.{ℕ, _+_, _*_, _^_}
+use mathlib.Core.List.{List, [], _∷_}
+use mathlib.Core.Path.{_≡_, refl}
+use Rattle.plain.specs.Requests.{Open, Finished, finish, next, new, oldSubgoal, oldAnswer, done, at, none, cells, refused, short}
+use Rattle.plain.specs.Coding.{edition1}
+use Rattle.space.specs.Layout.{sizes}
+use Rattle.space.specs.Heading.{inRange, capacity, whole, counted, headerOf}
+use Rattle.space.specs.Fresh.{freshCells, freshFits, freshAnswer}
+use Rattle.store.specs.Decisions.{decide}
+use Rattle.store.specs.Calls.{reply, under, cellStep}
+use Rattle.engine.specs.Words.{word, saidFresh, counting, countsReply, countsOut, countsOf}
+
+-- a fresh space for four nodes, two subgoals and one answer: 43 cells
+abbrev space : List ℕ
+space = freshCells sizes 4 2 1 []
+
+pub words :
+    (word done ≡ 0)
+    × (word (new 5) ≡ 4294967301)
+    × (word (oldAnswer 5) ≡ 8589934597)
+    × (word (oldSubgoal 5 Open) ≡ 12884901893)
+    × (word (oldSubgoal 5 Finished) ≡ 17179869189)
+    × (word (at 5) ≡ 21474836485)
+    × (word none ≡ 25769803776)
+    × (word (cells 5) ≡ 30064771077)
+    -- 256 + 9, and 256 + 12 with the cells that out would need
+    × (word (refused 9) ≡ 265 * 2 ^ 32)
+    × (word (short 383) ≡ 268 * 2 ^ 32 + 383)
+unfolding word
+words = (refl, refl, refl, refl, refl, refl, refl, refl, refl, refl)
+
+pub calls :
+    -- its cells are room for a space like it, and not for one with an answer more
+    (word (saidFresh (freshAnswer sizes 4 2 1 space)) ≡ 0)
+    × (word (saidFresh (freshAnswer sizes 4 2 2 space)) ≡ 258 * 2 ^ 32)
+    -- no subgoal has number 1 yet; no space has no cells
+    × (word (cellStep sizes edition1 space (finish 1) .reply) ≡ 263 * 2 ^ 32)
+    × (word (cellStep sizes edition1 [] (next 1 0) .reply) ≡ 257 * 2 ^ 32)
+unfolding word freshAnswer freshFits freshCells inRange capacity whole counted headerOf decide reply under cellStep
+calls = (refl, refl, refl, refl)
+
+pub counts :
+    -- one node is used; the cell behind the three stays
+    (word (countsReply (countsOf space) (9 ∷ 9 ∷ 9 ∷ 7 ∷ [])) ≡ 8 * 2 ^ 32 + 3)
+    × (countsOut (countsOf space) (9 ∷ 9 ∷ 9 ∷ 7 ∷ []) ≡ 1 ∷ 0 ∷ 0 ∷ 7 ∷ [])
+    -- two cells are too few, and stay
+    × (word (countsReply (countsOf space) (9 ∷ 9 ∷ [])) ≡ 268 * 2 ^ 32 + 3)
+    × (countsOut (countsOf space) (9 ∷ 9 ∷ []) ≡ 9 ∷ 9 ∷ [])
+    -- the header is refused first, whether or not out is long enough
+    × (word (countsReply (countsOf []) (9 ∷ 9 ∷ [])) ≡ 257 * 2 ^ 32)
+    × (countsOut (countsOf []) (9 ∷ 9 ∷ 9 ∷ []) ≡ 9 ∷ 9 ∷ 9 ∷ [])
+unfolding word countsReply countsOut counting freshCells inRange capacity whole counted headerOf decide reply under cellStep
+counts = (refl, refl, refl, refl, refl, refl)

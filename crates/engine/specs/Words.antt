@@ -1,0 +1,63 @@
+-- The result words of the calls over cells: an answer as one number, and what `tables_counts` does.
+use Prim.Native.Nat.{ℕ, _+_, _*_, _^_}
+use mathlib.Core.List.{List, _∷_}
+use lib.Dec.{leb}
+use lib.ListN.{length, drop}
+use Rattle.basis.specs.Choice.{pick}
+use Rattle.plain.specs.Coding.{edition1}
+use Rattle.plain.specs.Requests.{Open, Finished, counts, Counts, Reply, new, oldSubgoal, oldAnswer, done, at, none, cells, used, refused, short}
+use Rattle.space.specs.Layout.{sizes}
+use Rattle.space.specs.declared.FreshAnswer.{FreshAnswer}
+use Rattle.space.specs.declared.FreshAnswer.the-variants as fresh
+use Rattle.store.specs.Calls.{cellStep}
+
+-- what was answered in the upper half, its value in the lower
+abbrev pub worded : ℕ → ℕ → ℕ
+worded what value = what * 2 ^ 32 + value
+
+-- the value is a number, the cells written, or for 12 the cells that out would need
+unfoldable pub word : Reply → ℕ
+word done = worded 0 0
+word (new n) = worded 1 n
+word (oldAnswer n) = worded 2 n
+word (oldSubgoal n Open) = worded 3 n
+word (oldSubgoal n Finished) = worded 4 n
+word (at n) = worded 5 n
+word none = worded 6 0
+word (cells n) = worded 7 n
+word (used c) = worded 8 3
+word (refused r) = worded (256 + r) 0
+word (short n) = worded (256 + 12) n
+
+-- what fresh answers, as the calls do
+abbrev pub saidFresh : FreshAnswer → Reply
+saidFresh fresh.Done = done
+saidFresh (fresh.Refused r) = refused r
+
+-- ---- `tables_counts`
+
+-- the first where the answer gives counts, else the second
+unfoldable pub counting : {A : Type 0} → Reply → (Counts → A) → A → A
+counting (used c) f x = f c
+counting (new n) f x = x
+counting (oldSubgoal n s) f x = x
+counting (oldAnswer n) f x = x
+counting done f x = x
+counting (at n) f x = x
+counting none f x = x
+counting (cells n) f x = x
+counting (refused r) f x = x
+counting (short n) f x = x
+
+-- what counts answers; an out of fewer than three cells is 12
+unfoldable pub countsReply : Reply → List ℕ → Reply
+countsReply reply out = counting reply (λ c. pick (leb 3 (length out)) reply (short 3)) reply
+
+-- the three counts stand before what was behind them; refused, out is as it was
+unfoldable pub countsOut : Reply → List ℕ → List ℕ
+countsOut reply out =
+    counting reply (λ c. pick (leb 3 (length out)) (c .nodes ∷ c .subgoals ∷ c .answers ∷ drop 3 out) out) out
+
+-- what counts answers on the cells of a space
+abbrev pub countsOf : List ℕ → Reply
+countsOf space = cellStep sizes edition1 space counts .reply

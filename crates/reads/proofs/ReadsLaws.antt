@@ -1,0 +1,160 @@
+-- Counts, next, load and instance leave the space as it is, and say no more cells written than were lent.
+use Prim.Native.Nat.{ℕ, _≤_}
+use mathlib.Core.Path.{_≡_, refl}
+use mathlib.Core.Bool.{Bool, true, false}
+use mathlib.Core.List.{List}
+use native.Mathlib.Omega.{arith}
+use lib.Dec.{eqb, leb, ltb}
+use lib.ListN.{length}
+use borrow.Author.Tests.{leb-true}
+use Rattle.basis.specs.Choice.{pick}
+use Rattle.basis.proofs.Cases.{by-cases}
+use Rattle.plain.specs.Words.{Word}
+use Rattle.plain.specs.Coding.{Coding}
+use Rattle.plain.specs.Requests.{Reply, Request, next, load, instance, counts, lent, none, at, cells, refused, short}
+use Rattle.space.specs.Layout.{Sizes}
+use Rattle.space.specs.Heading.{headerOf}
+use Rattle.space.specs.declared.Head.{Head}
+use Rattle.space.specs.declared.Header.{Header}
+use Rattle.space.specs.declared.Header.the-variants as header
+use Rattle.trie.specs.Paths.{Path, gather, longest}
+use Rattle.trie.specs.Paths as path
+use Rattle.store.specs.Views.{View, viewOf, subgoalTrie, answerTrie}
+use Rattle.store.specs.Decisions.{Decision, says, gives, refuses, soundSubgoal, soundAnswer, soundAnswerOf, soundPair, starting, handed, onward, onPath, loaded, instanced, decide}
+use Rattle.store.specs.Changes.{change}
+use Rattle.store.specs.Calls.{reply, under, cellStep}
+
+-- ---- what the decisions of a reading call have in common, if refusals have it
+
+module _ (P : Decision → Type 0) (refusing : (r : ℕ) → P (refuses r)) where
+  pick-comes : (b : Bool) (d f : Decision) → P d → P f → P (pick b d f)
+  pick-comes true d f x y = x
+  pick-comes false d f x y = y
+
+  sound-comes : (b : Bool) (d : Decision) → P d → P (pick b d (refuses 9))
+  sound-comes b d x = pick-comes b d (refuses 9) x (refusing 9)
+
+  known-comes : (n s : ℕ) (d : Decision) → P d → P (pick (ltb 0 s) (pick (leb s n) d (refuses 7)) (refuses 7))
+  known-comes n s d x = pick-comes (ltb 0 s) _ _ (pick-comes (leb s n) d (refuses 7) x (refusing 7)) (refusing 7)
+
+  handed-comes : (v : View) (s a : ℕ) → P (says none) → P (says (at a)) → P (handed v s a)
+  unfolding handed
+  handed-comes v s a x y = pick-comes (eqb a 0) _ _ x (sound-comes (soundAnswerOf v s a) _ y)
+
+  onward-comes : (v : View) (s a : ℕ) → P (says none) → ((n : ℕ) → P (says (at n))) → P (onward v s a)
+  unfolding onward
+  onward-comes v s a x y =
+      sound-comes (soundSubgoal v s) _
+      (pick-comes (eqb a 0) _ _ (handed-comes v s (v .subgoal s .first) x (y _)) (sound-comes (soundAnswer v a) _ (handed-comes v s (v .answer a .next) x (y _))))
+
+  path-comes : (p : Path) (test : Word → Bool) (d : Word → Decision) → ((w : Word) → P (d w)) → P (onPath p test d)
+  unfolding onPath
+  path-comes path.none test d x = refusing 9
+  path-comes (path.tokens w) test d x = sound-comes (test w) (d w) (x w)
+
+  loaded-comes : (c : Coding) (v : View) (a : ℕ) (d : Word → Decision) → ((w : Word) → P (d w)) → P (loaded c v a d)
+  unfolding loaded
+  loaded-comes c v a d x = path-comes (gather longest (answerTrie v) (v .subgoal (v .answer a .subgoal) .root) (v .answer a .leaf)) _ d x
+
+  instanced-comes : (c : Coding) (v : View) (s : ℕ) (d : Word → Decision) → ((w : Word) → P (d w)) → P (instanced c v s d)
+  unfolding instanced
+  instanced-comes c v s d x = path-comes (gather longest (subgoalTrie v) 0 (v .subgoal s .leaf)) _ d x
+
+  module _ (c : Coding) (v : View) where
+    next-comes : (s a : ℕ) → P (says none) → ((n : ℕ) → P (says (at n))) → P (decide c v (next s a))
+    unfolding decide
+    next-comes s a x y = known-comes (v .subgoals) s _ (pick-comes (starting v s a) _ _ (onward-comes v s a x y) (refusing 7))
+
+    load-comes : (a : ℕ) (out : List ℕ) → ((ks : List ℕ) → P (gives ks)) → P (decide c v (load a out))
+    unfolding decide
+    load-comes a out x = known-comes (v .answers) a _ (sound-comes (soundPair v a) _ (loaded-comes c v a _ (λ w. x (c .expand w))))
+
+    instance-comes : (a : ℕ) (out : List ℕ) → ((ks : List ℕ) → P (gives ks)) → P (decide c v (instance a out))
+    unfolding decide
+    instance-comes a out x =
+        known-comes (v .answers) a _ (sound-comes (soundPair v a) _ (loaded-comes c v a _ (λ w. instanced-comes c v (v .answer a .subgoal) _ (λ u. x (c .instanceOf u w)))))
+
+-- ---- no reading call writes into the space
+
+abbrev pub Reads : Decision → Type 0
+Reads d = (z : Sizes) (cs : List ℕ) (h : Head) → change z cs h d ≡ cs
+
+says-reads : (r : Reply) → Reads (says r)
+unfolding change
+says-reads r z cs h = refl
+
+gives-reads : (ks : List ℕ) → Reads (gives ks)
+unfolding change
+gives-reads ks z cs h = refl
+
+abbrev refuses-reads : (r : ℕ) → Reads (refuses r)
+refuses-reads r = says-reads (refused r)
+
+module _ (c : Coding) (v : View) where
+  pub counts-reads : Reads (decide c v counts)
+  unfolding decide
+  counts-reads = says-reads _
+
+  pub next-reads : (s a : ℕ) → Reads (decide c v (next s a))
+  next-reads s a = next-comes Reads refuses-reads c v s a (says-reads none) (λ n. says-reads (at n))
+
+  pub load-reads : (a : ℕ) (out : List ℕ) → Reads (decide c v (load a out))
+  load-reads a out = load-comes Reads refuses-reads c v a out gives-reads
+
+  pub instance-reads : (a : ℕ) (out : List ℕ) → Reads (decide c v (instance a out))
+  instance-reads a out = instance-comes Reads refuses-reads c v a out gives-reads
+
+-- a call whose decision writes nothing leaves the space, under any header
+module _ (z : Sizes) (c : Coding) (cs : List ℕ) (q : Request) where
+  under-stays : (e : Header) → ((v : View) → Reads (decide c v q)) → under z c cs q e .state ≡ cs
+  unfolding under
+  under-stays (header.Sound h) x = x (viewOf z cs h) z cs h
+  under-stays (header.Refused r) x = refl
+
+  pub step-stays : ((v : View) → Reads (decide c v q)) → cellStep z c cs q .state ≡ cs
+  unfolding cellStep
+  step-stays x = under-stays (headerOf z cs) x
+
+module _ (z : Sizes) (c : Coding) (cs : List ℕ) where
+  pub counts-stays : cellStep z c cs counts .state ≡ cs
+  counts-stays = step-stays z c cs counts (λ v. counts-reads c v)
+
+  pub next-stays : (s a : ℕ) → cellStep z c cs (next s a) .state ≡ cs
+  next-stays s a = step-stays z c cs (next s a) (λ v. next-reads c v s a)
+
+  pub load-stays : (a : ℕ) (out : List ℕ) → cellStep z c cs (load a out) .state ≡ cs
+  load-stays a out = step-stays z c cs (load a out) (λ v. load-reads c v a out)
+
+  pub instance-stays : (a : ℕ) (out : List ℕ) → cellStep z c cs (instance a out) .state ≡ cs
+  instance-stays a out = step-stays z c cs (instance a out) (λ v. instance-reads c v a out)
+
+-- ---- the cells that are said to be written were lent
+
+abbrev Fits : Decision → Type 0
+Fits d = (v : View) (room n : ℕ) → reply v d room ≡ cells n → n ≤ room
+
+refuses-fits : (r : ℕ) → Fits (refuses r)
+unfolding reply
+refuses-fits r v room n e = let z : _≡_ {A = ℕ} 0 1 = cc in absurd (omega arith)
+
+gives-fits : (ks : List ℕ) → Fits (gives ks)
+unfolding reply
+gives-fits ks v room n e =
+    by-cases (leb (length ks) room)
+    (λ t. let l = leb-true (length ks) room t in let f : cells (length ks) ≡ cells n = rw t at e in let q : length ks ≡ n = cc in omega arith)
+    (λ t. let f : short (length ks) ≡ cells n = rw t at e in let z : _≡_ {A = ℕ} 0 1 = cc in absurd (omega arith))
+
+module _ (z : Sizes) (c : Coding) (cs : List ℕ) where
+  under-fits : (q : Request) (e : Header) → ((v : View) → Fits (decide c v q)) → (n : ℕ) → under z c cs q e .reply ≡ cells n → n ≤ length (lent q)
+  unfolding under
+  under-fits q (header.Sound h) x n e = x (viewOf z cs h) (viewOf z cs h) (length (lent q)) n e
+  under-fits q (header.Refused r) x n e = let z : _≡_ {A = ℕ} 0 1 = cc in absurd (omega arith)
+
+  module _ (a : ℕ) (out : List ℕ) (n : ℕ) where
+    pub load-fits : cellStep z c cs (load a out) .reply ≡ cells n → n ≤ length out
+    unfolding cellStep lent
+    load-fits e = under-fits (load a out) (headerOf z cs) (λ v. load-comes Fits refuses-fits c v a out gives-fits) n e
+
+    pub instance-fits : cellStep z c cs (instance a out) .reply ≡ cells n → n ≤ length out
+    unfolding cellStep lent
+    instance-fits e = under-fits (instance a out) (headerOf z cs) (λ v. instance-comes Fits refuses-fits c v a out gives-fits) n e

@@ -1,0 +1,56 @@
+-- `reads::reads::instance_in` meets its contract.
+use Rattle.reads.proofs.ReadsCases.{leaves-says, leaves-same}
+use Rattle.reads.proofs.ReadsInstance.{instance-zero, instance-above, instance-damaged, instance-sound}
+use Rattle.store.specs.Views.{viewOf}
+use Rattle.space.specs.Layout.{sizes}
+use Rattle.plain.specs.Coding.{edition1}
+use native.Mathlib.Omega.{arith}
+use Rattle.basis.proofs.Tests.{told}
+use borrow.Author.Needs.{needs}
+use Rattle.reads.proofs.reads.instance_in.Statement.{statement}
+use Rattle.reads.proofs.reads.instance_in.Tie as tie
+use Rattle.reads.proofs.reads.instance_in.Reads as reads
+use Rattle.reads.proofs.reads.instance_in.Lts as lts
+use Rattle.reads.proofs.reads.instance_with.Reads as instance-with-reads
+use Rattle.reads.proofs.reads.pair_sound.Reads as pair-sound-reads
+
+returns : tie.Need-returns
+returns c = leaves-says (viewOf sizes (c .before .before .before .args .space .now) (c .before .before .before .args .h)) _ (c .before .before .before .args .out .now) _ (instance-zero edition1 (viewOf sizes (c .before .before .before .args .space .now) (c .before .before .before .args .h)) (c .before .before .before .args .a) (c .before .before .before .args .out .now) (search needs))
+
+returns-2 : tie.Need-returns-2
+returns-2 c = leaves-says (viewOf sizes (c .before .before .before .before .before .args .space .now) (c .before .before .before .before .before .args .h)) _ (c .before .before .before .before .before .args .out .now) _ (instance-above edition1 (viewOf sizes (c .before .before .before .before .before .args .space .now) (c .before .before .before .before .before .args .h)) (c .before .before .before .before .before .args .a) (c .before .before .before .before .before .args .out .now) (search needs) (search needs))
+
+pair-sound-requires : tie.Need-pair-sound-requires
+pair-sound-requires c κs = search needs
+
+slice-aggregate-instance-with : tie.Need-slice-aggregate-instance-with
+slice-aggregate-instance-with c = search needs
+
+slice-aggregate-instance-with-2 : tie.Need-slice-aggregate-instance-with-2
+slice-aggregate-instance-with-2 c = search needs
+
+instance-with-requires : tie.Need-instance-with-requires
+instance-with-requires c κs = ((search needs, omega arith, search needs, search needs, search needs), told (c .before .before .before .before .pair-sound .ensures) (c .before .before .before .if3 .taken))
+
+same-length : tie.Need-same-length
+same-length c = search needs
+
+returns-3 : tie.Need-returns-3
+returns-3 c = leaves-same (viewOf sizes (c .before .before .before .before .before .before .before .before .before .before .before .before .before .before .before .args .space .now) (c .before .before .before .before .before .before .before .before .before .before .before .before .before .before .before .args .h)) _ _ (c .before .before .before .before .before .before .before .before .before .before .before .before .before .before .before .args .out .now) _ _ (instance-sound edition1 (viewOf sizes (c .before .before .before .before .before .before .before .before .before .before .before .before .before .before .before .args .space .now) (c .before .before .before .before .before .before .before .before .before .before .before .before .before .before .before .args .h)) (c .before .before .before .before .before .before .before .before .before .before .before .before .before .before .before .args .a) (c .before .before .before .before .before .before .before .before .before .before .before .before .before .before .before .args .out .now) (search needs) (search needs) (told (c .before .before .before .before .before .before .before .before .before .pair-sound .ensures) (c .before .before .before .before .before .before .before .before .if3 .taken))) (c .before .before .before .before .instance-with .ensures)
+
+returns-4 : tie.Need-returns-4
+returns-4 c = leaves-says (viewOf sizes (c .before .before .before .before .before .before .before .args .space .now) (c .before .before .before .before .before .before .before .args .h)) _ (c .before .before .before .before .before .before .before .args .out .now) _ (instance-damaged edition1 (viewOf sizes (c .before .before .before .before .before .before .before .args .space .now) (c .before .before .before .before .before .before .before .args .h)) (c .before .before .before .before .before .before .before .args .a) (c .before .before .before .before .before .before .before .args .out .now) (search needs) (search needs) (told (c .before .pair-sound .ensures) (c .if3 .left)))
+
+pub instance-in-spec : {M : Type 1} → statement M
+instance-in-spec =
+    tie.close
+    (tie.spec
+    returns
+    returns-2
+    pair-sound-requires
+    slice-aggregate-instance-with
+    slice-aggregate-instance-with-2
+    instance-with-requires
+    same-length
+    returns-3
+    returns-4)

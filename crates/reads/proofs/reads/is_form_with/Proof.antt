@@ -1,0 +1,40 @@
+-- `reads::reads::is_form_with` meets its contract.
+use Rattle.reads.proofs.ReadsForms.{form-refused, form-loaded}
+use Rattle.forms.specs.Cells.{arity16}
+use Rattle.basis.proofs.Tests.{told}
+use borrow.Author.Needs.{needs}
+use Rattle.reads.proofs.reads.is_form_with.Statement.{statement}
+use Rattle.reads.proofs.reads.is_form_with.Tie as tie
+
+load-terms-requires : tie.Need-load-terms-requires
+load-terms-requires c κs = search needs
+
+enum-told : tie.Need-enum-told
+enum-told c = search needs
+
+enum-told-2 : tie.Need-enum-told-2
+enum-told-2 c = search needs
+
+same-length : tie.Need-same-length
+same-length c = search needs
+
+returns : tie.Need-returns
+returns c = form-refused arity16 _ _ (told (c .enum-told2 .given .1) (c .before .before .before .before .load-terms .ensures .0))
+
+same-length-2 : tie.Need-same-length-2
+same-length-2 c = search needs
+
+returns-2 : tie.Need-returns-2
+returns-2 c = form-loaded arity16 _ _ _ (told (c .enum-told .given .1) (c .before .before .before .before .load-terms .ensures .0))
+
+pub is-form-with-spec : {M : Type 1} → statement M
+is-form-with-spec =
+    tie.close
+    (tie.spec
+    load-terms-requires
+    enum-told
+    enum-told-2
+    same-length
+    returns
+    same-length-2
+    returns-2)

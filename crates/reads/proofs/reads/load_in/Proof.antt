@@ -1,0 +1,47 @@
+-- `reads::reads::load_in` meets its contract.
+use Rattle.reads.proofs.ReadsCases.{leaves-says, leaves-same, load-zero, load-above, load-damaged, load-sound}
+use Rattle.store.specs.Views.{viewOf}
+use Rattle.space.specs.Layout.{sizes}
+use Rattle.plain.specs.Coding.{edition1}
+use native.Mathlib.Omega.{arith}
+use Rattle.basis.proofs.Tests.{told}
+use borrow.Author.Needs.{needs}
+use Rattle.reads.proofs.reads.load_in.Statement.{statement}
+use Rattle.reads.proofs.reads.load_in.Tie as tie
+
+returns : tie.Need-returns
+returns c = leaves-says (viewOf sizes (c .before .before .before .args .space .now) (c .before .before .before .args .h)) _ (c .before .before .before .args .out .now) _ (load-zero edition1 (viewOf sizes (c .before .before .before .args .space .now) (c .before .before .before .args .h)) (c .before .before .before .args .a) (c .before .before .before .args .out .now) (search needs))
+
+returns-2 : tie.Need-returns-2
+returns-2 c = leaves-says (viewOf sizes (c .before .before .before .before .before .args .space .now) (c .before .before .before .before .before .args .h)) _ (c .before .before .before .before .before .args .out .now) _ (load-above edition1 (viewOf sizes (c .before .before .before .before .before .args .space .now) (c .before .before .before .before .before .args .h)) (c .before .before .before .before .before .args .a) (c .before .before .before .before .before .args .out .now) (search needs) (search needs))
+
+pair-sound-requires : tie.Need-pair-sound-requires
+pair-sound-requires c κs = search needs
+
+slice-aggregate-load-with : tie.Need-slice-aggregate-load-with
+slice-aggregate-load-with c = search needs
+
+load-with-requires : tie.Need-load-with-requires
+load-with-requires c κs = ((search needs, omega arith, search needs, search needs), told (c .before .before .before .pair-sound .ensures) (c .before .before .if3 .taken))
+
+same-length : tie.Need-same-length
+same-length c = search needs
+
+returns-3 : tie.Need-returns-3
+returns-3 c = leaves-same (viewOf sizes (c .before .before .before .before .before .before .before .before .before .before .before .before .before .args .space .now) (c .before .before .before .before .before .before .before .before .before .before .before .before .before .args .h)) _ _ (c .before .before .before .before .before .before .before .before .before .before .before .before .before .args .out .now) _ _ (load-sound edition1 (viewOf sizes (c .before .before .before .before .before .before .before .before .before .before .before .before .before .args .space .now) (c .before .before .before .before .before .before .before .before .before .before .before .before .before .args .h)) (c .before .before .before .before .before .before .before .before .before .before .before .before .before .args .a) (c .before .before .before .before .before .before .before .before .before .before .before .before .before .args .out .now) (search needs) (search needs) (told (c .before .before .before .before .before .before .before .pair-sound .ensures) (c .before .before .before .before .before .before .if3 .taken))) (c .before .before .before .load-with .ensures)
+
+returns-4 : tie.Need-returns-4
+returns-4 c = leaves-says (viewOf sizes (c .before .before .before .before .before .before .before .args .space .now) (c .before .before .before .before .before .before .before .args .h)) _ (c .before .before .before .before .before .before .before .args .out .now) _ (load-damaged edition1 (viewOf sizes (c .before .before .before .before .before .before .before .args .space .now) (c .before .before .before .before .before .before .before .args .h)) (c .before .before .before .before .before .before .before .args .a) (c .before .before .before .before .before .before .before .args .out .now) (search needs) (search needs) (told (c .before .pair-sound .ensures) (c .if3 .left)))
+
+pub load-in-spec : {M : Type 1} → statement M
+load-in-spec =
+    tie.close
+    (tie.spec
+    returns
+    returns-2
+    pair-sound-requires
+    slice-aggregate-load-with
+    load-with-requires
+    same-length
+    returns-3
+    returns-4)

@@ -1,0 +1,3 @@
+// The calls that only read the space: next, load, instance and counts.
+pub mod instances;
+pub mod reads;

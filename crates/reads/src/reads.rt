@@ -1,0 +1,343 @@
+// Next, load, instance and counts: the calls that only read the space.
+use super::instances::instance_of;
+use basis::wide;
+use convert::expand;
+use convert::load_terms;
+use forms::Answer;
+use forms::Loading;
+use forms::is_variable;
+use forms::payload_of;
+use space::AnswerRead;
+use space::Head;
+use space::Header;
+use space::SubgoalRead;
+use space::heading::read_header;
+use space::records::answer_in;
+use space::records::read_answer;
+use space::records::read_subgoal;
+use space::records::subgoal_in;
+use store::Counts;
+use store::CountsAnswer;
+use store::NextAnswer;
+use trie::Gathered;
+use trie::paths::gather_tokens;
+ghost use mathlib.Core.Path.{_≡_};
+ghost use mathlib.Core.Bool.{true, _&&_};
+ghost use mathlib.Core.List.{[]};
+ghost use Prim.Native.Nat.{_+_, _*_, _^_, _≤_, _<_};
+ghost use lib.Dec.{eqb};
+ghost use lib.ListN.{length};
+ghost use Rattle.forms.specs.Cells.{arity16};
+ghost use Rattle.forms.specs.Numbering.{met, numbered};
+ghost use Rattle.forms.specs.Compact.{pairForm, legalForm};
+ghost use Rattle.convert.specs.Loading.{after};
+ghost use Rattle.plain.specs.Coding.{edition1};
+ghost use Rattle.plain.specs.Requests.{next, load, instance, counts};
+ghost use Rattle.space.specs.Layout.{sizes};
+ghost use Rattle.space.specs.Sound.{Bounds};
+ghost use Rattle.trie.specs.Paths.{tokens, longest};
+ghost use Rattle.store.specs.Views.{View, viewOf};
+ghost use Rattle.store.specs.Decisions.{says, gives, soundPair, starting, handed, onward, onPath, loaded, instanced, decide};
+ghost use Rattle.store.specs.Calls.{reply, outAfter, cellStep};
+ghost use Rattle.store.specs.Replies.{saidNext, saidCells, saidCounts};
+
+// Nodes, subgoals and answers used.
+pub fn counts(space: &[u32]) -> CountsAnswer
+    ensures { λ r. ⌜ saidCounts r ≡ cellStep sizes edition1 (now (space .entry)) counts .reply ⌝ }
+{
+    let header = read_header(space);
+    let Header::Sound(h) = header else {
+        match header {
+            Header::Refused(r) => return CountsAnswer::Refused(r),
+            Header::Sound(_) => return CountsAnswer::Refused(0),
+        }
+    };
+    CountsAnswer::Used(Counts {
+        nodes: h.nodes as u32,
+        subgoals: h.subgoals as u32,
+        answers: h.answers as u32,
+    })
+}
+
+// Answer a, which a record names, is handed out: it is to be the subgoal's.
+fn hand_out(space: &[u32], h: Head, s: usize, a: usize) -> NextAnswer
+    requires { ⌜ Bounds (now space) h × (a ≤ h .answers) ⌝ }
+    ensures { λ r. ⌜ says (saidNext r) ≡ handed (viewOf sizes (now (space .entry)) h) s a ⌝ }
+{
+    if a == 0 {
+        return NextAnswer::NoMore;
+    }
+    let AnswerRead::Sound(y) = read_answer(space, h, a) else {
+        return NextAnswer::Refused(9);
+    };
+    let number = a as u32;
+    if y.subgoal == s {
+        return NextAnswer::At(number);
+    }
+    NextAnswer::Refused(9)
+}
+
+// From answer a on, or from the subgoal's first answer.
+fn go_on(space: &[u32], h: Head, s: usize, a: usize) -> NextAnswer
+    requires { ⌜ Bounds (now space) h × (1 ≤ s) × (s ≤ h .subgoals) × (a ≤ h .answers) ⌝ }
+    ensures { λ r. ⌜ says (saidNext r) ≡ onward (viewOf sizes (now (space .entry)) h) s a ⌝ }
+{
+    let SubgoalRead::Sound(g) = read_subgoal(space, h, s) else {
+        return NextAnswer::Refused(9);
+    };
+    if a == 0 {
+        return hand_out(space, h, s, g.first);
+    }
+    let AnswerRead::Sound(y) = read_answer(space, h, a) else {
+        return NextAnswer::Refused(9);
+    };
+    hand_out(space, h, s, y.next)
+}
+
+// May next start at a? The record of a is taken as it stands.
+fn starts(space: &[u32], h: Head, s: usize, a: usize) -> bool
+    requires { ⌜ Bounds (now space) h ⌝ }
+    ensures { λ r. ⌜ r ≡ starting (viewOf sizes (now (space .entry)) h) s a ⌝ }
+{
+    if a == 0 {
+        return true;
+    }
+    if h.answers < a {
+        return false;
+    }
+    let y = answer_in(space, h, a);
+    y.subgoal == s
+}
+
+// Next, under a sound header.
+fn next_in(space: &[u32], h: Head, s: usize, a: usize) -> NextAnswer
+    requires { ⌜ Bounds (now space) h ⌝ }
+    ensures { λ r. ⌜ says (saidNext r) ≡ decide edition1 (viewOf sizes (now (space .entry)) h) (next s a) ⌝ }
+{
+    if s == 0 {
+        return NextAnswer::Refused(7);
+    }
+    if h.subgoals < s {
+        return NextAnswer::Refused(7);
+    }
+    if starts(space, h, s, a) {
+        return go_on(space, h, s, a);
+    }
+    NextAnswer::Refused(7)
+}
+
+// The subgoal's first answer after a given one, or after none.
+pub fn next(space: &[u32], subgoal: u32, after: u32) -> NextAnswer
+    ensures { λ r. ⌜ saidNext r ≡ cellStep sizes edition1 (now (space .entry)) (next subgoal after) .reply ⌝ }
+{
+    let header = read_header(space);
+    let Header::Sound(h) = header else {
+        match header {
+            Header::Refused(r) => return NextAnswer::Refused(r),
+            Header::Sound(_) => return NextAnswer::Refused(0),
+        }
+    };
+    next_in(space, h, wide(subgoal), wide(after))
+}
+
+// Are answer a and the subgoal that it names sound?
+fn pair_sound(space: &[u32], h: Head, a: usize) -> bool
+    requires { ⌜ Bounds (now space) h × (1 ≤ a) × (a ≤ h .answers) ⌝ }
+    ensures { λ r. ⌜ r ≡ soundPair (viewOf sizes (now (space .entry)) h) a ⌝ }
+{
+    let AnswerRead::Sound(y) = read_answer(space, h, a) else {
+        return false;
+    };
+    let SubgoalRead::Sound(_) = read_subgoal(space, h, y.subgoal) else {
+        return false;
+    };
+    true
+}
+
+// A gathered path in pair form; what is no legal form is damage.
+fn expand_path(path: &[u32], m: usize, out: &mut [u32]) -> Answer
+    ensures { λ r. ⌜ ((v : View) → (saidCells r ≡ reply v (onPath (tokens (now (path .entry))) (legalForm arity16 m) (λ w. gives (pairForm arity16 w))) (length (now (out .entry)))) × (now (out .exit) ≡ outAfter (onPath (tokens (now (path .entry))) (legalForm arity16 m) (λ w. gives (pairForm arity16 w))) (now (out .entry)))) ⌝ }
+{
+    let expanded = expand(path, m, out);
+    match expanded {
+        Answer::Cells(n) => Answer::Cells(n),
+        Answer::Short(n) => Answer::Short(n),
+        Answer::Refused(_) => Answer::Refused(9),
+    }
+}
+
+// Load of an answer whose records are sound, with cells for the tokens of its path.
+fn load_with(space: &[u32], h: Head, a: usize, path: &mut [u32], out: &mut [u32]) -> Answer
+    requires { ⌜ Bounds (now space) h × (1 ≤ a) × (a ≤ h .answers) × (longest ≤ length (now path)) ⌝ }
+    requires { ⌜ soundPair (viewOf sizes (now space) h) a ≡ true ⌝ }
+    ensures { λ r. ⌜ (saidCells r ≡ reply (viewOf sizes (now (space .entry)) h) (loaded edition1 (viewOf sizes (now (space .entry)) h) a (λ w. gives (pairForm arity16 w))) (length (now (out .entry)))) × (now (out .exit) ≡ outAfter (loaded edition1 (viewOf sizes (now (space .entry)) h) a (λ w. gives (pairForm arity16 w))) (now (out .entry))) ⌝ }
+{
+    let y = answer_in(space, h, a);
+    let g = subgoal_in(space, h, y.subgoal);
+    let Gathered::Tokens(n) = gather_tokens(space, h.nodes, h.answers, g.root, y.leaf, 383, path)
+    else {
+        return Answer::Refused(9);
+    };
+    expand_path(&path[..n], g.variables, out)
+}
+
+// Load, under a sound header.
+fn load_in(space: &[u32], h: Head, a: usize, out: &mut [u32]) -> Answer
+    requires { ⌜ Bounds (now space) h ⌝ }
+    ensures { λ r. ⌜ (saidCells r ≡ reply (viewOf sizes (now (space .entry)) h) (decide edition1 (viewOf sizes (now (space .entry)) h) (load a (now (out .entry)))) (length (now (out .entry)))) × (now (out .exit) ≡ outAfter (decide edition1 (viewOf sizes (now (space .entry)) h) (load a (now (out .entry)))) (now (out .entry))) ⌝ }
+{
+    if a == 0 {
+        return Answer::Refused(7);
+    }
+    if h.answers < a {
+        return Answer::Refused(7);
+    }
+    if pair_sound(space, h, a) {
+        let mut path = [0u32; 383];
+        return load_with(space, h, a, &mut path, out);
+    }
+    Answer::Refused(9)
+}
+
+// The terms of an answer in pair form.
+pub fn load(space: &[u32], answer: u32, out: &mut [u32]) -> Answer
+    ensures { λ r. ⌜ (saidCells r ≡ cellStep sizes edition1 (now (space .entry)) (load answer (now (out .entry))) .reply) × (now (out .exit) ≡ cellStep sizes edition1 (now (space .entry)) (load answer (now (out .entry))) .out) ⌝ }
+{
+    let header = read_header(space);
+    let Header::Sound(h) = header else {
+        match header {
+            Header::Refused(r) => return Answer::Refused(r),
+            Header::Sound(_) => return Answer::Refused(0),
+        }
+    };
+    load_in(space, h, wide(answer), out)
+}
+
+// Is the path the form of m legal terms? cells is long enough for their pair form.
+fn is_form_with(path: &[u32], m: usize, cells: &mut [u32]) -> bool
+    requires { ⌜ (length (now path) ≤ 383 → 2 * length (now path) ≤ length (now cells)) ⌝ }
+    ensures { λ r. ⌜ r ≡ legalForm arity16 m (now (path .entry)) ⌝ }
+{
+    let Loading::Terms(_) = load_terms(path, m, cells) else {
+        return false;
+    };
+    true
+}
+
+// Is the path the form of m legal terms? A short path gets a short buffer.
+fn is_form(path: &[u32], m: usize) -> bool
+    ensures { λ r. ⌜ r ≡ legalForm arity16 m (now (path .entry)) ⌝ }
+{
+    if path.len() <= 16 {
+        let mut cells = [0u32; 32];
+        return is_form_with(path, m, &mut cells);
+    }
+    let mut cells = [0u32; 766];
+    is_form_with(path, m, &mut cells)
+}
+
+// How many variables are met after token c, where `count` were met before it.
+fn met_after(c: u32, count: usize) -> usize
+    requires { ⌜ count + 1 < 2 ^ 64 ⌝ }
+    ensures { λ n. ⌜ n ≡ after count c ⌝ }
+{
+    if is_variable(c) {
+        if payload_of(c) == count {
+            return count + 1;
+        }
+    }
+    count
+}
+
+// The distinct variables of a path whose variables are numbered by first meeting.
+fn variables_in(path: &[u32]) -> usize
+    ensures { λ n. ⌜ (now (path .entry) ≡ numbered (now (path .entry)) → n ≡ length (met [] (now (path .entry)))) ⌝ }
+{
+    let mut count = 0;
+    let mut i = 0;
+    while i < path.len() {
+        count = met_after(path[i], count);
+        i += 1;
+    }
+    count
+}
+
+// Is the path the form of one legal term with m variables?
+fn is_subgoal_form(path: &[u32], m: usize) -> bool
+    ensures { λ r. ⌜ r ≡ (legalForm arity16 1 (now (path .entry)) && eqb (length (met [] (now (path .entry)))) m) ⌝ }
+{
+    if is_form(path, 1) {
+        return variables_in(path) == m;
+    }
+    false
+}
+
+// The subgoal's path with the terms of the answer's form for its m variables; what is no legal form is damage.
+fn instance_path(path: &[u32], form: &[u32], m: usize, out: &mut [u32]) -> Answer
+    ensures { λ r. ⌜ ((v : View) → (saidCells r ≡ reply v (onPath (tokens (now (form .entry))) (legalForm arity16 m) (λ y. onPath (tokens (now (path .entry))) (λ u. legalForm arity16 1 u && eqb (length (met [] u)) m) (λ u. gives (edition1 .instanceOf u y)))) (length (now (out .entry)))) × (now (out .exit) ≡ outAfter (onPath (tokens (now (form .entry))) (legalForm arity16 m) (λ y. onPath (tokens (now (path .entry))) (λ u. legalForm arity16 1 u && eqb (length (met [] u)) m) (λ u. gives (edition1 .instanceOf u y)))) (now (out .entry)))) ⌝ }
+{
+    if is_form(form, m) {
+        if is_subgoal_form(path, m) {
+            return instance_of(path, form, m, out);
+        }
+    }
+    Answer::Refused(9)
+}
+
+// Instance of an answer whose records are sound, with cells for the tokens of both paths.
+fn instance_with(
+    space: &[u32],
+    h: Head,
+    a: usize,
+    form: &mut [u32],
+    path: &mut [u32],
+    out: &mut [u32],
+) -> Answer
+    requires { ⌜ Bounds (now space) h × (1 ≤ a) × (a ≤ h .answers) × (longest ≤ length (now form)) × (longest ≤ length (now path)) ⌝ }
+    requires { ⌜ soundPair (viewOf sizes (now space) h) a ≡ true ⌝ }
+    ensures { λ r. ⌜ (saidCells r ≡ reply (viewOf sizes (now (space .entry)) h) (loaded edition1 (viewOf sizes (now (space .entry)) h) a (λ w. instanced edition1 (viewOf sizes (now (space .entry)) h) ((viewOf sizes (now (space .entry)) h) .answer a .subgoal) (λ u. gives (edition1 .instanceOf u w)))) (length (now (out .entry)))) × (now (out .exit) ≡ outAfter (loaded edition1 (viewOf sizes (now (space .entry)) h) a (λ w. instanced edition1 (viewOf sizes (now (space .entry)) h) ((viewOf sizes (now (space .entry)) h) .answer a .subgoal) (λ u. gives (edition1 .instanceOf u w)))) (now (out .entry))) ⌝ }
+{
+    let y = answer_in(space, h, a);
+    let g = subgoal_in(space, h, y.subgoal);
+    let Gathered::Tokens(n) = gather_tokens(space, h.nodes, h.answers, g.root, y.leaf, 383, form)
+    else {
+        return Answer::Refused(9);
+    };
+    let Gathered::Tokens(k) = gather_tokens(space, h.nodes, h.subgoals, 0, g.leaf, 383, path) else {
+        return Answer::Refused(9);
+    };
+    instance_path(&path[..k], &form[..n], g.variables, out)
+}
+
+// Instance, under a sound header.
+fn instance_in(space: &[u32], h: Head, a: usize, out: &mut [u32]) -> Answer
+    requires { ⌜ Bounds (now space) h ⌝ }
+    ensures { λ r. ⌜ (saidCells r ≡ reply (viewOf sizes (now (space .entry)) h) (decide edition1 (viewOf sizes (now (space .entry)) h) (instance a (now (out .entry)))) (length (now (out .entry)))) × (now (out .exit) ≡ outAfter (decide edition1 (viewOf sizes (now (space .entry)) h) (instance a (now (out .entry)))) (now (out .entry))) ⌝ }
+{
+    if a == 0 {
+        return Answer::Refused(7);
+    }
+    if h.answers < a {
+        return Answer::Refused(7);
+    }
+    if pair_sound(space, h, a) {
+        let mut form = [0u32; 383];
+        let mut path = [0u32; 383];
+        return instance_with(space, h, a, &mut form, &mut path, out);
+    }
+    Answer::Refused(9)
+}
+
+// The subgoal of an answer with variable i replaced by the answer's term i, in pair form.
+pub fn instance(space: &[u32], answer: u32, out: &mut [u32]) -> Answer
+    ensures { λ r. ⌜ (saidCells r ≡ cellStep sizes edition1 (now (space .entry)) (instance answer (now (out .entry))) .reply) × (now (out .exit) ≡ cellStep sizes edition1 (now (space .entry)) (instance answer (now (out .entry))) .out) ⌝ }
+{
+    let header = read_header(space);
+    let Header::Sound(h) = header else {
+        match header {
+            Header::Refused(r) => return Answer::Refused(r),
+            Header::Sound(_) => return Answer::Refused(0),
+        }
+    };
+    instance_in(space, h, wide(answer), out)
+}
