@@ -174,7 +174,7 @@ static void open_run(struct run *run)
     size_t end = TABLES_SPACE_CELLS(run->most_nodes, run->most_subgoals, run->most_answers);
     run->space_cells = end + below(4);
     run->space = lend(&space_arena, run->space_cells, chance(50));
-    run->plain = plain_open(run->most_nodes, run->most_subgoals, run->most_answers);
+    run->plain = plain_table_open(run->most_nodes, run->most_subgoals, run->most_answers);
     memset(&run->known, 0, sizeof run->known);
     run->counts[0] = 1;
     run->counts[1] = run->counts[2] = 0;
@@ -197,19 +197,19 @@ static uint64_t ask_plain(struct plain_table *plain, const struct request *reque
     const struct argument *argument = &request->argument;
     switch (request->kind) {
     case CALL:
-        return plain_call(plain, argument->cell, argument->count);
+        return plain_table_call(plain, argument->cell, argument->count);
     case ANSWER:
-        return plain_answer(plain, request->number, argument->cell, argument->count);
+        return plain_table_answer(plain, request->number, argument->cell, argument->count);
     case FINISH:
-        return plain_finish(plain, request->number);
+        return plain_table_finish(plain, request->number);
     case NEXT:
-        return plain_next(plain, request->number, request->after);
+        return plain_table_next(plain, request->number, request->after);
     case LOAD:
-        return plain_load(plain, request->number, out, room);
+        return plain_table_load(plain, request->number, out, room);
     case INSTANCE:
-        return plain_instance(plain, request->number, out, room);
+        return plain_table_instance(plain, request->number, out, room);
     default:
-        return plain_counts(plain, out, room);
+        return plain_table_counts(plain, out, room);
     }
 }
 
@@ -257,7 +257,7 @@ static void compare_counts(struct run *run, const char *name)
 {
     uint32_t got[3] = {0, 0, 0};
     uint64_t word = tables_counts(run->space, run->space_cells, got, 3);
-    plain_counts(run->plain, run->counts, 3);
+    plain_table_counts(run->plain, run->counts, 3);
     if (word != ((uint64_t)TABLES_COUNTS << 32) + 3)
         fail(run, name, "result of counts", word, ((uint64_t)TABLES_COUNTS << 32) + 3);
     for (int i = 0; i < 3; i++)
@@ -354,7 +354,7 @@ static void learn(struct run *run, const struct request *request, uint64_t word)
         return;
     }
     run->known.subgoals = tables_value(word);
-    run->known.variables[tables_value(word) - 1] = plain_variables(run->plain, tables_value(word));
+    run->known.variables[tables_value(word) - 1] = plain_table_variables(run->plain, tables_value(word));
 }
 
 /* The lists */
@@ -387,7 +387,7 @@ static void run_list(unsigned list)
         count_cases(&run, &request, word, room, before);
         learn(&run, &request, word);
     }
-    plain_close(run.plain);
+    plain_table_close(run.plain);
 }
 
 /* The report */

@@ -75,7 +75,7 @@ static struct form kept(const struct row *row)
     return form;
 }
 
-struct plain_table *plain_open(uint32_t nodes, uint32_t subgoals, uint32_t answers)
+struct plain_table *plain_table_open(uint32_t nodes, uint32_t subgoals, uint32_t answers)
 {
     struct plain_table *table = got(calloc(1, sizeof *table));
     table->most_nodes = nodes;
@@ -84,7 +84,7 @@ struct plain_table *plain_open(uint32_t nodes, uint32_t subgoals, uint32_t answe
     return table;
 }
 
-void plain_close(struct plain_table *table)
+void plain_table_close(struct plain_table *table)
 {
     for (uint32_t i = 0; i < table->subgoals; i++)
         free(table->subgoal[i].form.token);
@@ -339,7 +339,7 @@ static uint64_t append_subgoal(struct plain_table *table, const struct row *form
     return refused(refusal);
 }
 
-uint64_t plain_call(struct plain_table *table, const uint32_t *term, size_t term_cells)
+uint64_t plain_table_call(struct plain_table *table, const uint32_t *term, size_t term_cells)
 {
     struct row form;
     uint32_t variables;
@@ -373,7 +373,7 @@ static uint64_t append_answer(struct plain_table *table, uint32_t subgoal, const
     return refused(refusal);
 }
 
-uint64_t plain_answer(struct plain_table *table, uint32_t subgoal, const uint32_t *terms,
+uint64_t plain_table_answer(struct plain_table *table, uint32_t subgoal, const uint32_t *terms,
                       size_t terms_cells)
 {
     struct row form;
@@ -392,7 +392,7 @@ uint64_t plain_answer(struct plain_table *table, uint32_t subgoal, const uint32_
     return append_answer(table, subgoal, &form);
 }
 
-uint64_t plain_finish(struct plain_table *table, uint32_t subgoal)
+uint64_t plain_table_finish(struct plain_table *table, uint32_t subgoal)
 {
     if (subgoal == 0 || subgoal > table->subgoals)
         return refused(7);
@@ -400,7 +400,7 @@ uint64_t plain_finish(struct plain_table *table, uint32_t subgoal)
     return word(DONE, 0);
 }
 
-uint64_t plain_next(const struct plain_table *table, uint32_t subgoal, uint32_t after)
+uint64_t plain_table_next(const struct plain_table *table, uint32_t subgoal, uint32_t after)
 {
     if (subgoal == 0 || subgoal > table->subgoals || after > table->answers)
         return refused(7);
@@ -412,7 +412,7 @@ uint64_t plain_next(const struct plain_table *table, uint32_t subgoal, uint32_t 
     return word(NONE, 0);
 }
 
-uint64_t plain_load(const struct plain_table *table, uint32_t answer, uint32_t *out,
+uint64_t plain_table_load(const struct plain_table *table, uint32_t answer, uint32_t *out,
                     size_t out_cells)
 {
     struct row terms;
@@ -451,7 +451,7 @@ static size_t replace_variables(const struct row *pattern, const struct row *ter
     return written;
 }
 
-uint64_t plain_instance(const struct plain_table *table, uint32_t answer, uint32_t *out,
+uint64_t plain_table_instance(const struct plain_table *table, uint32_t answer, uint32_t *out,
                         size_t out_cells)
 {
     struct row pattern, terms;
@@ -466,7 +466,7 @@ uint64_t plain_instance(const struct plain_table *table, uint32_t answer, uint32
     return word(CELLS, need);
 }
 
-uint64_t plain_counts(const struct plain_table *table, uint32_t *out, size_t out_cells)
+uint64_t plain_table_counts(const struct plain_table *table, uint32_t *out, size_t out_cells)
 {
     if (out_cells < 3)
         return word(REFUSED + 12, 3);
@@ -476,7 +476,7 @@ uint64_t plain_counts(const struct plain_table *table, uint32_t *out, size_t out
     return word(COUNTS, 3);
 }
 
-uint32_t plain_variables(const struct plain_table *table, uint32_t subgoal)
+uint32_t plain_table_variables(const struct plain_table *table, uint32_t subgoal)
 {
     return table->subgoal[subgoal - 1].variables;
 }
