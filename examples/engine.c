@@ -1,4 +1,4 @@
-/* A small engine over the table store: which places of an airport's belts a bag can reach, and by which stops. */
+/* A small engine over the table store: where an airport's belts bring a bag, and by which stops. */
 #include "../include/tables.h"
 
 #include <stdbool.h>
@@ -17,7 +17,9 @@
  */
 
 /* The layout. Places are atoms, numbered from 1, since atom 0 is the empty list. */
-enum place { CHECK_IN_1 = 1, CHECK_IN_2, MERGE, SCREENING, INSPECTION, SORTER, STORE, PIER_A, PIER_B, PLACES };
+enum place {
+    CHECK_IN_1 = 1, CHECK_IN_2, MERGE, SCREENING, INSPECTION, SORTER, STORE, PIER_A, PIER_B, PLACES
+};
 
 static const char *const place_names[PLACES] = {
     [CHECK_IN_1] = "check-in 1", [CHECK_IN_2] = "check-in 2", [MERGE] = "merge",
@@ -31,10 +33,10 @@ struct belt {
 };
 
 static const struct belt belts[] = {
-    {CHECK_IN_1, MERGE, false},     {CHECK_IN_2, MERGE, true},       {CHECK_IN_2, SCREENING, false},
-    {MERGE, SCREENING, false},      {SCREENING, SORTER, false},      {SCREENING, INSPECTION, false},
-    {INSPECTION, SORTER, false},    {SORTER, STORE, false},          {STORE, SORTER, false},
-    {SORTER, PIER_A, false},        {SORTER, PIER_B, true},          {STORE, PIER_B, false},
+    {CHECK_IN_1, MERGE, false},  {CHECK_IN_2, MERGE, true},  {CHECK_IN_2, SCREENING, false},
+    {MERGE, SCREENING, false},   {SCREENING, SORTER, false}, {SCREENING, INSPECTION, false},
+    {INSPECTION, SORTER, false}, {SORTER, STORE, false},     {STORE, SORTER, false},
+    {SORTER, PIER_A, false},     {SORTER, PIER_B, true},     {STORE, PIER_B, false},
 };
 
 enum { BELTS = sizeof belts / sizeof *belts };
@@ -83,8 +85,8 @@ static uint32_t atom(enum place place)
 /* Calls reach(P, X, S), and if that is new, the subgoals that its second rule needs. */
 static void call_reach(enum place place)
 {
-    const uint32_t term[] = {TABLES_FUNCTOR_CELL(1, 3), atom(place), TABLES_CELL(TABLES_VARIABLE, 0),
-                             TABLES_CELL(TABLES_VARIABLE, 1)};
+    const uint32_t term[] = {TABLES_FUNCTOR_CELL(1, 3), atom(place),
+                             TABLES_CELL(TABLES_VARIABLE, 0), TABLES_CELL(TABLES_VARIABLE, 1)};
     uint64_t word = checked("tables_call", tables_call(space, SPACE_CELLS, term, 4));
     if (tables_what(word) != TABLES_NEW)
         return;
@@ -165,7 +167,7 @@ static void finish_all(void)
 
 /* Reading back */
 
-/* Prints reach(P, Y, [stop, .., Y]), as tables_instance writes it: functor, P, Y, then a pair for each stop. */
+/* Prints an instance of reach(P, Y, [stop, .., Y]): functor, P, Y, then a pair for each stop. */
 static void print_route(const uint32_t *cells, size_t count)
 {
     printf("  to %s by", place_names[TABLES_PAYLOAD(cells[2])]);
@@ -208,7 +210,7 @@ int main(void)
     print_routes(CHECK_IN_1);
     print_routes(CHECK_IN_2);
     checked("tables_counts", tables_counts(space, SPACE_CELLS, counts, 3));
-    printf("%d turns; %u nodes, %u subgoals, %u answers\n", turns, (unsigned)counts[0], (unsigned)counts[1],
-           (unsigned)counts[2]);
+    printf("%d turns; %u nodes, %u subgoals, %u answers\n", turns, (unsigned)counts[0],
+           (unsigned)counts[1], (unsigned)counts[2]);
     return 0;
 }

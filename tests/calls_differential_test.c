@@ -5,6 +5,7 @@
 #include "drawing.h"
 #include "lending.h"
 #include "plain_table.h"
+#include "tally.h"
 
 #include <inttypes.h>
 #include <stdio.h>
@@ -20,58 +21,58 @@ static unsigned failures;
 
 /* What happened how often */
 
-/* What came of a call: the whats from TABLES_DONE to TABLES_COUNTS, then the refusals from 1 to 12. */
-enum { WHATS = TABLES_COUNTS + 1, RESULTS = WHATS + 12 };
-
-#define BIT(what) (UINT32_C(1) << (what))
-#define REFUSAL(number) (UINT32_C(1) << (WHATS + (number) - 1))
-#define READER (REFUSAL(3) | REFUSAL(4) | REFUSAL(5))
-#define ROOM (REFUSAL(10) | REFUSAL(11))
-
-/* Fresh stands behind the other calls. */
-enum { FRESH = REQUEST_KINDS, ROWS };
-
 /* All that may come of each call on a space that only the calls wrote; each must come. */
-static const uint32_t possible[ROWS] = {
-    [CALL] = BIT(TABLES_NEW) | BIT(TABLES_OLD_OPEN) | BIT(TABLES_OLD_FINISHED) | READER | REFUSAL(6) | ROOM,
-    [ANSWER] = BIT(TABLES_NEW) | BIT(TABLES_OLD) | REFUSAL(7) | REFUSAL(8) | READER | ROOM,
-    [FINISH] = BIT(TABLES_DONE) | REFUSAL(7),
-    [NEXT] = BIT(TABLES_AT) | BIT(TABLES_NONE) | REFUSAL(7),
-    [LOAD] = BIT(TABLES_CELLS) | REFUSAL(7) | REFUSAL(12),
-    [INSTANCE] = BIT(TABLES_CELLS) | REFUSAL(7) | REFUSAL(12),
-    [COUNTS] = BIT(TABLES_COUNTS) | REFUSAL(12),
-    [FRESH] = BIT(TABLES_DONE) | REFUSAL(2),
+static const uint32_t possible[TALLY_ROWS] = {
+    [CALL] = RESULT(TABLES_NEW) | RESULT(TABLES_OLD_OPEN) | RESULT(TABLES_OLD_FINISHED) |
+             READER_REFUSALS | REFUSAL(6) | ROOM_REFUSALS,
+    [ANSWER] = RESULT(TABLES_NEW) | RESULT(TABLES_OLD) | REFUSAL(7) | REFUSAL(8) | READER_REFUSALS |
+               ROOM_REFUSALS,
+    [FINISH] = RESULT(TABLES_DONE) | REFUSAL(7),
+    [NEXT] = RESULT(TABLES_AT) | RESULT(TABLES_NONE) | REFUSAL(7),
+    [LOAD] = RESULT(TABLES_CELLS) | REFUSAL(7) | REFUSAL(12),
+    [INSTANCE] = RESULT(TABLES_CELLS) | REFUSAL(7) | REFUSAL(12),
+    [COUNTS] = RESULT(TABLES_COUNTS) | REFUSAL(12),
+    [FRESH] = RESULT(TABLES_DONE) | REFUSAL(2),
 };
-
-static uint64_t came[ROWS][RESULTS];
 
 /* Calls for which a later check would have refused too, and other things that a list must contain. */
 enum met_case {
-    NUMBER_AND_LENGTH, NUMBER_AND_TERM, NUMBER_AND_OUT, STATE_AND_LENGTH, STATE_AND_TERM, LENGTH_AND_TERM,
-    LENGTH_AND_VARIABLES, TERM_AND_VARIABLES, TERM_AND_PREDICATE, VARIABLES_AND_PREDICATE, PREDICATE_AND_NODES,
-    NODES_AND_RECORDS, EMPTY_ANSWER_NEW, EMPTY_ANSWER_OLD, CELLS_256, FORM_383, VARIABLES_32, INSTANCE_LONG,
-    LAST_NODE, MET_CASES
+    NUMBER_AND_LENGTH,
+    NUMBER_AND_TERM,
+    NUMBER_AND_OUT,
+    STATE_AND_LENGTH,
+    STATE_AND_TERM,
+    LENGTH_AND_TERM,
+    LENGTH_AND_VARIABLES,
+    TERM_AND_VARIABLES,
+    TERM_AND_PREDICATE,
+    VARIABLES_AND_PREDICATE,
+    PREDICATE_AND_NODES,
+    NODES_AND_RECORDS,
+    EMPTY_ANSWER_NEW,
+    EMPTY_ANSWER_OLD,
+    CELLS_256,
+    FORM_383,
+    VARIABLES_32,
+    INSTANCE_LONG,
+    LAST_NODE,
+    MET_CASES
 };
 
 static const char *const case_names[MET_CASES] = {
-    [NUMBER_AND_LENGTH] = "7, 4 too", [NUMBER_AND_TERM] = "7, 3 too", [NUMBER_AND_OUT] = "7, 12 too",
-    [STATE_AND_LENGTH] = "8, 4 too", [STATE_AND_TERM] = "8, 3 too", [LENGTH_AND_TERM] = "4, 3 too",
-    [LENGTH_AND_VARIABLES] = "4, 5 too", [TERM_AND_VARIABLES] = "3, 5 too", [TERM_AND_PREDICATE] = "3, 6 too",
-    [VARIABLES_AND_PREDICATE] = "5, 6 too", [PREDICATE_AND_NODES] = "6, 10 too", [NODES_AND_RECORDS] = "10, 11 too",
-    [EMPTY_ANSWER_NEW] = "empty answer new", [EMPTY_ANSWER_OLD] = "empty answer old", [CELLS_256] = "256 cells taken",
-    [FORM_383] = "383 tokens entered", [VARIABLES_32] = "32 variables taken",
-    [INSTANCE_LONG] = "instance over 256", [LAST_NODE] = "last node taken",
+    [NUMBER_AND_LENGTH] = "7, 4 too",        [NUMBER_AND_TERM] = "7, 3 too",
+    [NUMBER_AND_OUT] = "7, 12 too",          [STATE_AND_LENGTH] = "8, 4 too",
+    [STATE_AND_TERM] = "8, 3 too",           [LENGTH_AND_TERM] = "4, 3 too",
+    [LENGTH_AND_VARIABLES] = "4, 5 too",     [TERM_AND_VARIABLES] = "3, 5 too",
+    [TERM_AND_PREDICATE] = "3, 6 too",       [VARIABLES_AND_PREDICATE] = "5, 6 too",
+    [PREDICATE_AND_NODES] = "6, 10 too",     [NODES_AND_RECORDS] = "10, 11 too",
+    [EMPTY_ANSWER_NEW] = "empty answer new", [EMPTY_ANSWER_OLD] = "empty answer old",
+    [CELLS_256] = "256 cells taken",         [FORM_383] = "383 tokens entered",
+    [VARIABLES_32] = "32 variables taken",   [INSTANCE_LONG] = "instance over 256",
+    [LAST_NODE] = "last node taken",
 };
 
 static uint64_t met[MET_CASES];
-
-static void count_result(unsigned row, uint64_t word)
-{
-    uint32_t refusal = tables_refused_by(word);
-    uint32_t result = refusal > 0 ? WHATS + refusal - 1 : tables_what(word);
-    if (result < RESULTS)
-        came[row][result]++;
-}
 
 /* One list of calls: the space and the plain table beside it */
 
@@ -90,12 +91,21 @@ static struct arena space_arena, term_arena, out_arena;
 static uint32_t space_before[SPACE_CELLS];
 static uint32_t out_expected[OUT_CELLS];
 
-static void fail(const struct run *run, const char *call, const char *what, uint64_t got, uint64_t expected)
+static void fail(const struct run *run, const char *call, const char *what, uint64_t got,
+                 uint64_t expected)
 {
     if (++failures > MOST_FAILURES)
         return;
-    printf("failed: seed %" PRIu64 ", list %u, call %u, %s: %s: %#" PRIx64 " instead of %#" PRIx64 "\n",
+    printf("failed: seed %" PRIu64 ", list %u, call %u, %s: %s: %#" PRIx64 " instead of %#" PRIx64
+           "\n",
            seed, run->list, run->call, call, what, got, expected);
+}
+
+static void count_result(const struct run *run, unsigned row, uint64_t word)
+{
+    if (!tally_result(possible, row, word))
+        fail(run, row == FRESH ? "fresh" : request_names[row], "no result of this call", word,
+             word);
 }
 
 static bool same_cells(const uint32_t *one, const uint32_t *other, size_t count)
@@ -135,7 +145,8 @@ static void check_fresh_cells(const struct run *run, size_t end)
 static void refuse_fresh(struct run *run)
 {
     uint32_t capacity[3] = {run->most_nodes, run->most_subgoals, run->most_answers};
-    static const uint32_t too_many[] = {TABLES_MOST_RECORDS + 1, UINT32_MAX, UINT32_C(1) << 31, 858993459};
+    static const uint32_t too_many[] = {TABLES_MOST_RECORDS + 1, UINT32_MAX, UINT32_C(1) << 31,
+                                        858993459};
     size_t cells = run->space_cells;
     switch (below(4)) {
     case 0:
@@ -152,10 +163,11 @@ static void refuse_fresh(struct run *run)
     }
     uint64_t word = tables_fresh(run->space, cells, capacity[0], capacity[1], capacity[2]);
     if (word != (uint64_t)(TABLES_REFUSED_BY + TABLES_REFUSED_FRESH) << 32)
-        fail(run, "fresh", "result", word, (uint64_t)(TABLES_REFUSED_BY + TABLES_REFUSED_FRESH) << 32);
+        fail(run, "fresh", "result", word,
+             (uint64_t)(TABLES_REFUSED_BY + TABLES_REFUSED_FRESH) << 32);
     if (!same_cells(run->space, space_before, run->space_cells))
         fail(run, "fresh", "a refused call changed the space", word, 0);
-    count_result(FRESH, word);
+    count_result(run, FRESH, word);
 }
 
 /* Tiny capacities, or now and then enough for long terms. */
@@ -186,13 +198,14 @@ static void open_run(struct run *run)
                                  run->most_answers);
     if (word != TABLES_DONE)
         fail(run, "fresh", "result", word, TABLES_DONE);
-    count_result(FRESH, word);
+    count_result(run, FRESH, word);
     check_fresh_cells(run, end);
 }
 
 /* Comparing */
 
-static uint64_t ask_plain(struct plain_table *plain, const struct request *request, uint32_t *out, size_t room)
+static uint64_t ask_plain(struct plain_table *plain, const struct request *request, uint32_t *out,
+                          size_t room)
 {
     const struct argument *argument = &request->argument;
     switch (request->kind) {
@@ -234,10 +247,12 @@ static size_t draw_room(const struct run *run, const struct request *request)
 /* Must a call that had this result leave every cell of the space? */
 static bool leaves_space(const struct request *request, uint64_t word)
 {
-    return only_reads(request->kind) || (tables_what(word) != TABLES_NEW && tables_what(word) != TABLES_DONE);
+    return only_reads(request->kind) ||
+           (tables_what(word) != TABLES_NEW && tables_what(word) != TABLES_DONE);
 }
 
-static void compare_cells(const struct run *run, const struct request *request, uint64_t word, size_t room)
+static void compare_cells(const struct run *run, const struct request *request, uint64_t word,
+                          size_t room)
 {
     const char *name = request_names[request->kind];
     size_t end = TABLES_SPACE_CELLS(run->most_nodes, run->most_subgoals, run->most_answers);
@@ -262,8 +277,11 @@ static void compare_counts(struct run *run, const char *name)
         fail(run, name, "result of counts", word, ((uint64_t)TABLES_COUNTS << 32) + 3);
     for (int i = 0; i < 3; i++)
         if (got[i] != run->counts[i])
-            fail(run, name, i == 0 ? "nodes used" : i == 1 ? "subgoals used" : "answers used", got[i],
-                 run->counts[i]);
+            fail(run, name,
+                 i == 0   ? "nodes used"
+                 : i == 1 ? "subgoals used"
+                          : "answers used",
+                 got[i], run->counts[i]);
 }
 
 /* Makes one request of both and compares all that is seen. */
@@ -283,7 +301,7 @@ static uint64_t compare_request(struct run *run, const struct request *request, 
     if (word != expected)
         fail(run, request_names[request->kind], "result", word, expected);
     compare_cells(run, request, expected, room);
-    count_result(request->kind, word);
+    count_result(run, request->kind, word);
     return expected;
 }
 
@@ -321,12 +339,13 @@ static void count_argument_cases(const struct request *request, uint32_t refusal
 }
 
 /* With the counts as they were before the call, and after it. */
-static void count_cases(const struct run *run, const struct request *request, uint64_t word, size_t room,
-                        const uint32_t before[3])
+static void count_cases(const struct run *run, const struct request *request, uint64_t word,
+                        size_t room, const uint32_t before[3])
 {
     uint32_t what = tables_what(word), refusal = tables_refused_by(word);
     bool enters = request->kind == CALL || request->kind == ANSWER;
-    bool full = request->kind == CALL ? before[1] == run->most_subgoals : before[2] == run->most_answers;
+    bool full =
+        request->kind == CALL ? before[1] == run->most_subgoals : before[2] == run->most_answers;
     size_t cells = request->argument.count;
     if (enters)
         count_argument_cases(request, refusal);
@@ -340,9 +359,10 @@ static void count_cases(const struct run *run, const struct request *request, ui
                      run->counts[0] - before[0] == TABLES_COMPACT_CELLS + 1;
     met[VARIABLES_32] += what == TABLES_NEW && cells >= TABLES_TERM_VARIABLES &&
                          distinct_variables(&request->argument) == TABLES_TERM_VARIABLES;
-    met[INSTANCE_LONG] += request->kind == INSTANCE && what == TABLES_CELLS &&
-                          tables_value(word) > TABLES_TERM_CELLS;
-    met[LAST_NODE] += what == TABLES_NEW && before[0] < run->most_nodes && run->counts[0] == run->most_nodes;
+    met[INSTANCE_LONG] +=
+        request->kind == INSTANCE && what == TABLES_CELLS && tables_value(word) > TABLES_TERM_CELLS;
+    met[LAST_NODE] +=
+        what == TABLES_NEW && before[0] < run->most_nodes && run->counts[0] == run->most_nodes;
 }
 
 static void learn(struct run *run, const struct request *request, uint64_t word)
@@ -354,15 +374,17 @@ static void learn(struct run *run, const struct request *request, uint64_t word)
         return;
     }
     run->known.subgoals = tables_value(word);
-    run->known.variables[tables_value(word) - 1] = plain_table_variables(run->plain, tables_value(word));
+    run->known.variables[tables_value(word) - 1] =
+        plain_table_variables(run->plain, tables_value(word));
 }
 
 /* The lists */
 
 static enum request_kind draw_kind(const struct known *known)
 {
-    static const enum request_kind kinds[] = {CALL, CALL, CALL, CALL, ANSWER, ANSWER, ANSWER, ANSWER, ANSWER,
-                                              ANSWER, FINISH, NEXT, NEXT, LOAD, INSTANCE, COUNTS};
+    static const enum request_kind kinds[] = {CALL,   CALL,   CALL,     CALL,   ANSWER, ANSWER,
+                                              ANSWER, ANSWER, ANSWER,   ANSWER, FINISH, NEXT,
+                                              NEXT,   LOAD,   INSTANCE, COUNTS};
     if (known->subgoals == 0 && chance(70))
         return CALL;
     return kinds[below(sizeof kinds / sizeof *kinds)];
@@ -380,7 +402,8 @@ static void run_list(unsigned list)
         run.call++;
         memcpy(before, run.counts, sizeof before);
         draw_request(&run.drawer, draw_kind(&run.known), &run.known, &request);
-        bool writes_out = request.kind == LOAD || request.kind == INSTANCE || request.kind == COUNTS;
+        bool writes_out =
+            request.kind == LOAD || request.kind == INSTANCE || request.kind == COUNTS;
         size_t room = writes_out ? draw_room(&run, &request) : 0;
         uint64_t word = compare_request(&run, &request, room);
         compare_counts(&run, request_names[request.kind]);
@@ -391,36 +414,6 @@ static void run_list(unsigned list)
 }
 
 /* The report */
-
-static void print_row(unsigned row)
-{
-    static const char *const whats[WHATS] = {"done", "new", "old", "open", "finished", "at", "none", "cells", "counts"};
-    printf("  %-8s", row == FRESH ? "fresh" : request_names[row]);
-    for (unsigned result = 0; result < RESULTS; result++) {
-        if (came[row][result] == 0)
-            continue;
-        if (result < WHATS)
-            printf(" %s %" PRIu64, whats[result], came[row][result]);
-        else
-            printf(" r%u %" PRIu64, result - WHATS + 1, came[row][result]);
-    }
-    printf("\n");
-}
-
-/* Each result that may come must have come for one list in 200 at least, and no other. */
-static void check_results(void)
-{
-    for (unsigned row = 0; row < ROWS; row++) {
-        print_row(row);
-        for (unsigned result = 0; result < RESULTS; result++) {
-            bool may = (possible[row] >> result & 1) != 0;
-            if (may ? came[row][result] >= lists / 200 : came[row][result] == 0)
-                continue;
-            failures++;
-            printf("failed: result %u of row %u came %" PRIu64 " times\n", result, row, came[row][result]);
-        }
-    }
-}
 
 static void check_cases(void)
 {
@@ -456,9 +449,10 @@ int main(int argc, char **argv)
         run_list(list);
     }
     if (failures == 0) {
-        check_results();
+        failures += check_tally(possible, lists / 200); /* each, one list in 200 at least */
         check_cases();
     }
-    printf("calls_differential_test: seed %" PRIu64 ", %u lists, %u failures\n", seed, lists, failures);
+    printf("calls_differential_test: seed %" PRIu64 ", %u lists, %u failures\n", seed, lists,
+           failures);
     return failures == 0 ? 0 : 1;
 }

@@ -1,4 +1,4 @@
-/* Checks each rule on damaged spaces by itself: a sound space, cells changed, one call, its exact result. */
+/* Checks each rule on damaged spaces by itself: a sound space, a cell changed, one call's result. */
 #include "../include/tables.h"
 
 #include <inttypes.h>
@@ -46,15 +46,17 @@ enum { LEAF, ROOT, VARIABLES, STATE, FIRST, LAST };
 enum { ANSWER_LEAF, ANSWER_SUBGOAL, NEXT_ANSWER };
 
 static const uint32_t sound_nodes[NODES][5] = {
-    {0, 1, 0, 0, 0},   {F2, 2, 7, 0, 0},   {VAR(0), 3, 0, 1, 0}, {A, 0, 5, 2, 1},
-    {0, 10, 0, 4, 0},  {VAR(1), 0, 0, 2, 2}, {0, 14, 0, 6, 0},   {Q1, 8, 0, 0, 0},
-    {A, 0, 0, 7, 3},   {0, 0, 0, 9, 3},    {B, 0, 11, 4, 1},     {C, 0, 12, 4, 2},
-    {G1, 13, 0, 4, 0}, {B, 0, 0, 12, 4},   {B, 15, 16, 6, 0},    {VAR(0), 0, 0, 14, 5},
-    {BLIST, 17, 0, 6, 0}, {B, 18, 0, 16, 0}, {EPAIR, 19, 0, 17, 0}, {C, 20, 0, 18, 0},
+    {0, 1, 0, 0, 0},      {F2, 2, 7, 0, 0},     {VAR(0), 3, 0, 1, 0},  {A, 0, 5, 2, 1},
+    {0, 10, 0, 4, 0},     {VAR(1), 0, 0, 2, 2}, {0, 14, 0, 6, 0},      {Q1, 8, 0, 0, 0},
+    {A, 0, 0, 7, 3},      {0, 0, 0, 9, 3},      {B, 0, 11, 4, 1},      {C, 0, 12, 4, 2},
+    {G1, 13, 0, 4, 0},    {B, 0, 0, 12, 4},     {B, 15, 16, 6, 0},     {VAR(0), 0, 0, 14, 5},
+    {BLIST, 17, 0, 6, 0}, {B, 18, 0, 16, 0},    {EPAIR, 19, 0, 17, 0}, {C, 20, 0, 18, 0},
     {D, 0, 0, 19, 6},
 };
-static const uint32_t sound_subgoals[SUBGOALS][6] = {{3, 4, 1, 0, 1, 4}, {5, 6, 2, 0, 5, 6}, {8, 9, 0, 0, 3, 3}};
-static const uint32_t sound_answers[ANSWERS][3] = {{10, 1, 2}, {11, 1, 4}, {9, 3, 0}, {13, 1, 0}, {15, 2, 6}, {20, 2, 0}};
+static const uint32_t sound_subgoals[SUBGOALS][6] = {
+    {3, 4, 1, 0, 1, 4}, {5, 6, 2, 0, 5, 6}, {8, 9, 0, 0, 3, 3}};
+static const uint32_t sound_answers[ANSWERS][3] = {{10, 1, 2}, {11, 1, 4}, {9, 3, 0},
+                                                   {13, 1, 0}, {15, 2, 6}, {20, 2, 0}};
 
 /* A cell of the space, by sort, number and field. */
 enum sort { NO_CHANGE, NODE_CELL, SUBGOAL_CELL, ANSWER_CELL };
@@ -155,7 +157,8 @@ static void write_sound(struct space *space, enum room room)
     uint32_t subgoals = room == ROOMY ? ROOMY_SUBGOALS : SUBGOALS;
     uint32_t answers = room == ROOMY ? ROOMY_ANSWERS : ANSWERS;
     uint32_t end = (uint32_t)TABLES_SPACE_CELLS(nodes, subgoals, answers);
-    const uint32_t header[8] = {1, NODES, SUBGOALS, ANSWERS, 8, 8 + 5 * nodes, end - 3 * answers, end};
+    const uint32_t header[8] = {1, NODES,         SUBGOALS,          ANSWERS,
+                                8, 8 + 5 * nodes, end - 3 * answers, end};
     memset(space, 0, sizeof *space);
     space->count = end + 2;
     memcpy(space->cell, header, sizeof header);
@@ -190,7 +193,8 @@ static uint64_t make(const struct request *request, struct space *space, uint32_
 }
 
 /* Makes the call and checks its result; a refused or reading call must leave every cell. */
-static void check_call(const char *rule, struct space *space, const struct request *request, uint64_t result)
+static void check_call(const char *rule, struct space *space, const struct request *request,
+                       uint64_t result)
 {
     struct space before = *space;
     uint32_t out[OUT_CELLS], out_before[OUT_CELLS];
@@ -226,8 +230,15 @@ static void check_row(const struct row *row)
 static void check_sound(enum room room)
 {
     static const struct request requests[] = {
-        CALL_FXA, CALL_FXY, CALL_QA, ANSWER_OF(1, B), ANSWER_OF(1, C), EMPTY_ANSWER_OF(3), ANSWER_OF(1, G1, B),
-        ANSWER_OF(2, B, VAR(5)), ANSWER_OF(2, PAIR, B, C, D),
+        CALL_FXA,
+        CALL_FXY,
+        CALL_QA,
+        ANSWER_OF(1, B),
+        ANSWER_OF(1, C),
+        EMPTY_ANSWER_OF(3),
+        ANSWER_OF(1, G1, B),
+        ANSWER_OF(2, B, VAR(5)),
+        ANSWER_OF(2, PAIR, B, C, D),
     };
     struct space sound, made;
     uint32_t out[OUT_CELLS];
@@ -236,9 +247,9 @@ static void check_sound(enum room room)
     made.count = sound.count;
     for (size_t i = 0; i < made.count; i++)
         made.cell[i] = UINT32_C(0xfeedface);
-    uint64_t word = room == ROOMY
-                        ? tables_fresh(made.cell, made.count, ROOMY_NODES, ROOMY_SUBGOALS, ROOMY_ANSWERS)
-                        : tables_fresh(made.cell, made.count, NODES, SUBGOALS, ANSWERS);
+    uint64_t word = room == ROOMY ? tables_fresh(made.cell, made.count, ROOMY_NODES, ROOMY_SUBGOALS,
+                                                 ROOMY_ANSWERS)
+                                  : tables_fresh(made.cell, made.count, NODES, SUBGOALS, ANSWERS);
     check(word == TABLES_DONE, "the sound space", "fresh");
     for (size_t i = 0; i < sizeof requests / sizeof *requests; i++) {
         word = make(&requests[i], &made, out);
@@ -250,7 +261,8 @@ static void check_sound(enum room room)
 /* Cells beyond the counts may hold anything: new records are written whole over them. */
 static void check_beyond(void)
 {
-    static const struct request requests[] = {CALL_NEW, ANSWER_OF(1, D), ANSWER_OF(2, C, D), EMPTY_ANSWER_OF(4)};
+    static const struct request requests[] = {CALL_NEW, ANSWER_OF(1, D), ANSWER_OF(2, C, D),
+                                              EMPTY_ANSWER_OF(4)};
     struct space clean, dirty;
     uint32_t out[OUT_CELLS];
     write_sound(&clean, ROOMY);
@@ -268,7 +280,8 @@ static void check_beyond(void)
     }
     size_t nodes_end = place(&clean, NODE_CELL, clean.cell[1], 0);
     size_t subgoals = place(&clean, SUBGOAL_CELL, 1, 0), answers = place(&clean, ANSWER_CELL, 1, 0);
-    check(memcmp(clean.cell, dirty.cell, nodes_end * sizeof *clean.cell) == 0, "cells beyond the counts", "nodes");
+    check(memcmp(clean.cell, dirty.cell, nodes_end * sizeof *clean.cell) == 0,
+          "cells beyond the counts", "nodes");
     check(memcmp(&clean.cell[subgoals], &dirty.cell[subgoals], 6 * 4 * sizeof *clean.cell) == 0,
           "cells beyond the counts", "subgoals");
     check(memcmp(&clean.cell[answers], &dirty.cell[answers], 3 * 9 * sizeof *clean.cell) == 0,
@@ -278,8 +291,9 @@ static void check_beyond(void)
 /* Headers: one cell changed, or the space cut short; every call is refused by 1. */
 static void check_header(const char *rule, const struct space *space)
 {
-    static const struct request requests[] = {CALL_FXA,   ANSWER_OF(9, BLIST), FINISH_OF(0), NEXT_OF(0, 0),
-                                              LOAD_OF(0), INSTANCE_OF(0),      COUNTS_OF,    LOAD_SHORT(0)};
+    static const struct request requests[] = {CALL_FXA,      ANSWER_OF(9, BLIST), FINISH_OF(0),
+                                              NEXT_OF(0, 0), LOAD_OF(0),          INSTANCE_OF(0),
+                                              COUNTS_OF,     LOAD_SHORT(0)};
     struct space lent = *space;
     for (size_t i = 0; i < sizeof requests / sizeof *requests; i++)
         check_call(rule, &lent, &requests[i], REFUSED(1));
@@ -288,7 +302,11 @@ static void check_header(const char *rule, const struct space *space)
 }
 
 /* The offsets of the space without records to spare. */
-enum { SUBGOAL_OFFSET = 8 + 5 * NODES, ANSWER_OFFSET = SUBGOAL_OFFSET + 6 * SUBGOALS, END = ANSWER_OFFSET + 3 * ANSWERS };
+enum {
+    SUBGOAL_OFFSET = 8 + 5 * NODES,
+    ANSWER_OFFSET = SUBGOAL_OFFSET + 6 * SUBGOALS,
+    END = ANSWER_OFFSET + 3 * ANSWERS
+};
 
 static const struct {
     const char *rule;
@@ -347,7 +365,8 @@ static void write_chain(uint32_t tokens)
     tables_fresh(chain_space, cells, LONGEST_PATH + 4, 1, 1);
     tables_call(chain_space, cells, term, 2);
     for (uint32_t i = 0; i < tokens; i++) {
-        uint32_t node[5] = {chain_tokens[i], i + 1 < tokens ? i + 5 : 0, 0, i + 3, i + 1 < tokens ? 0 : 1};
+        uint32_t node[5] = {chain_tokens[i], i + 1 < tokens ? i + 5 : 0, 0, i + 3,
+                            i + 1 < tokens ? 0 : 1};
         memcpy(&chain_space[8 + 5 * (i + 4)], node, sizeof node);
     }
     uint32_t answer[3] = {tokens + 3, 1, 0}, *subgoal = &chain_space[chain_space[5]];
@@ -376,7 +395,8 @@ static void check_deep(const char *rule, uint32_t tokens, uint64_t load, uint64_
 }
 
 /* Functors, then lists in the heads of lists: two tokens to a list, and a constant more. */
-static void check_lists(const char *rule, uint32_t functors, uint32_t lists, uint64_t load, uint64_t instance)
+static void check_lists(const char *rule, uint32_t functors, uint32_t lists, uint64_t load,
+                        uint64_t instance)
 {
     uint32_t tokens = 0;
     for (uint32_t i = 0; i < functors; i++)
@@ -426,6 +446,7 @@ int main(void)
     check_paths();
     for (size_t i = 0; i < sizeof rows / sizeof *rows; i++)
         check_row(&rows[i]);
-    printf("damage_rules_test: %zu rows, %u checks, %u failures\n", sizeof rows / sizeof *rows, checks, failures);
+    printf("damage_rules_test: %zu rows, %u checks, %u failures\n", sizeof rows / sizeof *rows,
+           checks, failures);
     return failures == 0 ? 0 : 1;
 }

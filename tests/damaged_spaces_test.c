@@ -1,9 +1,10 @@
-/* Makes every call over random damaged spaces lent against guard pages: it returns, and a refusal changes nothing. */
+/* Makes every call over random damaged spaces, against guard pages: a refusal changes nothing. */
 #define _DEFAULT_SOURCE
 
 #include "../include/tables.h"
 #include "drawing.h"
 #include "lending.h"
+#include "tally.h"
 
 #include <inttypes.h>
 #include <stdio.h>
@@ -17,44 +18,26 @@ static uint64_t seed = 1;
 static unsigned rounds = ROUNDS;
 static unsigned failures;
 
-/* What happened how often */
-
-enum { WHATS = TABLES_COUNTS + 1, RESULTS = WHATS + 12 };
-
-#define BIT(what) (UINT32_C(1) << (what))
-#define REFUSAL(number) (UINT32_C(1) << (WHATS + (number) - 1))
-#define EITHER (REFUSAL(1) | REFUSAL(9))
-#define READER (REFUSAL(3) | REFUSAL(4) | REFUSAL(5))
-#define ROOM (REFUSAL(10) | REFUSAL(11))
-
 /* All that may come of each call on any space; each must come. */
-static const uint32_t possible[REQUEST_KINDS] = {
-    [CALL] = BIT(TABLES_NEW) | BIT(TABLES_OLD_OPEN) | BIT(TABLES_OLD_FINISHED) | READER | REFUSAL(6) | ROOM | EITHER,
-    [ANSWER] = BIT(TABLES_NEW) | BIT(TABLES_OLD) | REFUSAL(7) | REFUSAL(8) | READER | ROOM | EITHER,
-    [FINISH] = BIT(TABLES_DONE) | REFUSAL(7) | EITHER,
-    [NEXT] = BIT(TABLES_AT) | BIT(TABLES_NONE) | REFUSAL(7) | EITHER,
-    [LOAD] = BIT(TABLES_CELLS) | REFUSAL(7) | REFUSAL(12) | EITHER,
-    [INSTANCE] = BIT(TABLES_CELLS) | REFUSAL(7) | REFUSAL(12) | EITHER,
-    [COUNTS] = BIT(TABLES_COUNTS) | REFUSAL(12) | REFUSAL(1),
+static const uint32_t possible[TALLY_ROWS] = {
+    [CALL] = RESULT(TABLES_NEW) | RESULT(TABLES_OLD_OPEN) | RESULT(TABLES_OLD_FINISHED) |
+             READER_REFUSALS | REFUSAL(6) | ROOM_REFUSALS | REFUSAL(1) | REFUSAL(9),
+    [ANSWER] = RESULT(TABLES_NEW) | RESULT(TABLES_OLD) | REFUSAL(7) | REFUSAL(8) | READER_REFUSALS |
+               ROOM_REFUSALS | REFUSAL(1) | REFUSAL(9),
+    [FINISH] = RESULT(TABLES_DONE) | REFUSAL(7) | REFUSAL(1) | REFUSAL(9),
+    [NEXT] = RESULT(TABLES_AT) | RESULT(TABLES_NONE) | REFUSAL(7) | REFUSAL(1) | REFUSAL(9),
+    [LOAD] = RESULT(TABLES_CELLS) | REFUSAL(7) | REFUSAL(12) | REFUSAL(1) | REFUSAL(9),
+    [INSTANCE] = RESULT(TABLES_CELLS) | REFUSAL(7) | REFUSAL(12) | REFUSAL(1) | REFUSAL(9),
+    [COUNTS] = RESULT(TABLES_COUNTS) | REFUSAL(12) | REFUSAL(1),
+    [FRESH] = RESULT(TABLES_DONE) | REFUSAL(2),
 };
 
-static uint64_t came[REQUEST_KINDS][RESULTS];
-
-static void fail(unsigned round, const struct request *request, const char *what, uint64_t word)
+static void fail(unsigned round, const char *call, const char *what, uint64_t word)
 {
     if (++failures > MOST_FAILURES)
         return;
-    printf("failed: seed %" PRIu64 ", round %u, %s: %s; result %#" PRIx64 "\n", seed, round,
-           request_names[request->kind], what, word);
-}
-
-/* The result's place in a row of `came`, or RESULTS if there is no such result. */
-static unsigned result_of(uint64_t word)
-{
-    uint32_t refusal = tables_refused_by(word), what = tables_what(word);
-    if (refusal > 0)
-        return refusal <= 12 ? WHATS + refusal - 1 : RESULTS;
-    return what < WHATS ? what : RESULTS;
+    printf("failed: seed %" PRIu64 ", round %u, %s: %s; result %#" PRIx64 "\n", seed, round, call,
+           what, word);
 }
 
 /* Spaces */
@@ -79,10 +62,12 @@ static void draw_sound(struct image *image)
     open_drawer(&drawer, nodes > 100 ? 20 : 2, 5, chance(50) ? 4 : 8);
     tables_fresh(image->cell, image->count, nodes, subgoals, answers);
     for (size_t calls = between(3, 40); calls > 0; calls--) {
-        static const enum request_kind kinds[] = {CALL, CALL, CALL, ANSWER, ANSWER, ANSWER, ANSWER, ANSWER};
+        static const enum request_kind kinds[] = {CALL,   CALL,   CALL,   ANSWER,
+                                                  ANSWER, ANSWER, ANSWER, ANSWER};
         enum request_kind kind = chance(4) ? FINISH : kinds[below(8)];
         draw_request(&drawer, kind, &known, &request);
-        uint64_t word = make_request(&request, image->cell, image->count, request.argument.cell, NULL, 0);
+        uint64_t word =
+            make_request(&request, image->cell, image->count, request.argument.cell, NULL, 0);
         if (kind == CALL && tables_what(word) == TABLES_NEW)
             known.variables[known.subgoals++] = (uint32_t)distinct_variables(&request.argument);
         if (kind == ANSWER && tables_what(word) == TABLES_NEW)
@@ -151,7 +136,8 @@ static void damage_cells(struct image *image)
 static void damage_header(struct image *image)
 {
     size_t place = below(8);
-    image->cell[place] = chance(50) ? image->cell[place] + (uint32_t)between(1, 6) - 3 : edge_value(image);
+    image->cell[place] =
+        chance(50) ? image->cell[place] + (uint32_t)between(1, 6) - 3 : edge_value(image);
 }
 
 /* All cells behind the header anew: any, or small ones that may name records. */
@@ -167,7 +153,8 @@ static void randomise(struct image *image)
 static void damage_tokens(struct image *image)
 {
     for (size_t changes = between(1, 6); changes > 0; changes--)
-        image->cell[8 + 5 * below(image->cell[1])] = TABLES_CELL(below(10), below(chance(50) ? 2 : 40));
+        image->cell[8 + 5 * below(image->cell[1])] =
+            TABLES_CELL(below(10), below(chance(50) ? 2 : 40));
 }
 
 static void draw_damaged(struct image *image)
@@ -209,29 +196,34 @@ struct loan {
 
 static uint32_t out_before[OUT_CELLS];
 
-static void check_cells(unsigned round, const struct request *request, const struct loan *loan, uint64_t word)
+static void check_cells(unsigned round, const struct request *request, const struct loan *loan,
+                        uint64_t word)
 {
     const struct image *image = loan->image;
+    const char *name = request_names[request->kind];
     bool refused = tables_refused_by(word) != 0;
     size_t written = 0;
     if (tables_what(word) == TABLES_CELLS || tables_what(word) == TABLES_COUNTS)
         written = tables_value(word);
-    if ((refused || only_reads(request->kind)) && !same_cells(loan->space, image->cell, image->count))
-        fail(round, request, "the space was changed", word);
+    if ((refused || only_reads(request->kind)) &&
+        !same_cells(loan->space, image->cell, image->count))
+        fail(round, name, "the space was changed", word);
     if (written > loan->room)
-        fail(round, request, "more cells written than out has", word);
+        fail(round, name, "more cells written than out has", word);
     else if (!same_cells(loan->out + written, out_before + written, loan->room - written))
-        fail(round, request, "out was changed beyond the cells written", word);
+        fail(round, name, "out was changed beyond the cells written", word);
     if (!same_cells(loan->terms, request->argument.cell, request->argument.count))
-        fail(round, request, "the terms were changed", word);
+        fail(round, name, "the terms were changed", word);
     if (!marks_kept(&space_arena) || !marks_kept(&term_arena) || !marks_kept(&out_arena))
-        fail(round, request, "cells beside those lent were changed", word);
+        fail(round, name, "cells beside those lent were changed", word);
 }
 
 /* What an accepted call may have changed: numbers grow by one at most, and nothing past the end. */
-static void check_written(unsigned round, const struct request *request, const struct loan *loan, uint64_t word)
+static void check_written(unsigned round, const struct request *request, const struct loan *loan,
+                          uint64_t word)
 {
     const uint32_t *before = loan->image->cell, *after = loan->space;
+    const char *name = request_names[request->kind];
     if (tables_refused_by(word) != 0 || only_reads(request->kind))
         return;
     size_t end = before[7];
@@ -239,17 +231,18 @@ static void check_written(unsigned round, const struct request *request, const s
     uint32_t subgoals = before[2] + (enters && request->kind == CALL);
     uint32_t answers = before[3] + (enters && request->kind == ANSWER);
     if (!same_cells(after + end, before + end, loan->image->count - end))
-        fail(round, request, "cells past the end were changed", word);
+        fail(round, name, "cells past the end were changed", word);
     if (after[0] != 1 || !same_cells(after + 4, before + 4, 4))
-        fail(round, request, "the header's offsets were changed", word);
+        fail(round, name, "the header's offsets were changed", word);
     if (after[1] < before[1] || after[2] != subgoals || after[3] != answers)
-        fail(round, request, "counts", word);
+        fail(round, name, "counts", word);
     if (!enters && request->kind != FINISH && !same_cells(after, before, loan->image->count))
-        fail(round, request, "old changed the space", word);
+        fail(round, name, "old changed the space", word);
 }
 
 /* Each of the three lies against its upper or its lower guard page, by a bit of `sides`. */
-static void check_request(unsigned round, const struct image *image, const struct request *request, unsigned sides)
+static void check_request(unsigned round, const struct image *image, const struct request *request,
+                          unsigned sides)
 {
     size_t count = request->argument.count;
     struct loan loan = {.image = image, .room = chance(50) ? below(12) : between(100, OUT_CELLS)};
@@ -260,14 +253,31 @@ static void check_request(unsigned round, const struct image *image, const struc
     memcpy(loan.terms, request->argument.cell, count * sizeof *loan.terms);
     for (size_t i = 0; i < loan.room; i++)
         loan.out[i] = out_before[i] = (uint32_t)(0x9e3779b9u * (i + 1));
-    uint64_t word = make_request(request, loan.space, image->count, loan.terms, loan.out, loan.room);
-    unsigned result = result_of(word);
-    if (result == RESULTS || (possible[request->kind] >> result & 1) == 0)
-        fail(round, request, "no result of this call", word);
-    else
-        came[request->kind][result]++;
+    uint64_t word =
+        make_request(request, loan.space, image->count, loan.terms, loan.out, loan.room);
+    if (!tally_result(possible, request->kind, word))
+        fail(round, request_names[request->kind], "no result of this call", word);
     check_cells(round, request, &loan, word);
     check_written(round, request, &loan, word);
+}
+
+/* Fresh asks nothing of what the cells hold; it fits them or it does not. */
+static void check_fresh(unsigned round, const struct image *image, bool at_end)
+{
+    uint32_t nodes = (uint32_t)between(0, 9), subgoals = (uint32_t)below(9),
+             answers = (uint32_t)below(9);
+    size_t end = TABLES_SPACE_CELLS(nodes, subgoals, answers);
+    bool fits = nodes > 0 && end <= image->count;
+    uint32_t *space = lend(&space_arena, image->count, at_end);
+    memcpy(space, image->cell, image->count * sizeof *space);
+    uint64_t word = tables_fresh(space, image->count, nodes, subgoals, answers);
+    if (!tally_result(possible, FRESH, word) || fits != (word == TABLES_DONE))
+        fail(round, "fresh", "result", word);
+    size_t kept = fits ? end : 0;
+    if (!same_cells(space + kept, image->cell + kept, image->count - kept))
+        fail(round, "fresh", "cells past the end were changed", word);
+    if (!marks_kept(&space_arena))
+        fail(round, "fresh", "cells beside those lent were changed", word);
 }
 
 static void check_round(unsigned round)
@@ -275,41 +285,11 @@ static void check_round(unsigned round)
     static struct image image;
     static struct request request;
     draw_damaged(&image);
+    check_fresh(round, &image, round % 2 == 0);
     for (unsigned kind = 0; kind < REQUEST_KINDS; kind++) {
         for (unsigned times = kind == COUNTS || kind == FINISH ? 1 : 2; times > 0; times--) {
             draw_request(&drawer, (enum request_kind)kind, &known, &request);
             check_request(round, &image, &request, (round + kind + times) % 8);
-        }
-    }
-}
-
-/* The report */
-
-static void print_row(unsigned kind)
-{
-    static const char *const whats[WHATS] = {"done", "new", "old", "open", "finished", "at", "none", "cells", "counts"};
-    printf("  %-8s", request_names[kind]);
-    for (unsigned result = 0; result < RESULTS; result++) {
-        if (came[kind][result] == 0)
-            continue;
-        if (result < WHATS)
-            printf(" %s %" PRIu64, whats[result], came[kind][result]);
-        else
-            printf(" r%u %" PRIu64, result - WHATS + 1, came[kind][result]);
-    }
-    printf("\n");
-}
-
-/* Each result that may come must have come for one round in 1,000 at least. */
-static void check_results(void)
-{
-    for (unsigned kind = 0; kind < REQUEST_KINDS; kind++) {
-        print_row(kind);
-        for (unsigned result = 0; result < RESULTS; result++) {
-            if ((possible[kind] >> result & 1) == 0 || came[kind][result] >= rounds / 1000)
-                continue;
-            failures++;
-            printf("failed: result %u of %s came %" PRIu64 " times\n", result, request_names[kind], came[kind][result]);
         }
     }
 }
@@ -333,7 +313,8 @@ int main(int argc, char **argv)
         check_round(round);
     }
     if (failures == 0)
-        check_results();
-    printf("damaged_spaces_test: seed %" PRIu64 ", %u spaces, %u failures\n", seed, rounds, failures);
+        failures += check_tally(possible, rounds / 1000); /* each, one round in 1,000 at least */
+    printf("damaged_spaces_test: seed %" PRIu64 ", %u spaces, %u failures\n", seed, rounds,
+           failures);
     return failures == 0 ? 0 : 1;
 }

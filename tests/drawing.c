@@ -71,8 +71,12 @@ static struct style small_style(void)
 /* The terms whose forms grow most: lists in the heads of lists, none ending in []. */
 static struct style growing_style(void)
 {
-    return (struct style){
-        .pair_chance = 100, .variable_chance = 20, .distinct = 32, .most_arity = 1, .least_name = 1, .names = 9};
+    return (struct style){.pair_chance = 100,
+                          .variable_chance = 20,
+                          .distinct = 32,
+                          .most_arity = 1,
+                          .least_name = 1,
+                          .names = 9};
 }
 
 static struct style long_style(void)
@@ -155,8 +159,8 @@ static void rename_variables(struct argument *argument)
     uint32_t factor = (uint32_t)random_word() | 1, shift = (uint32_t)random_word();
     for (size_t i = 0; i < argument->count; i++)
         if (TABLES_KIND(argument->cell[i]) == TABLES_VARIABLE)
-            argument->cell[i] = TABLES_CELL(TABLES_VARIABLE,
-                                            TABLES_PAYLOAD(argument->cell[i] * factor + shift));
+            argument->cell[i] =
+                TABLES_CELL(TABLES_VARIABLE, TABLES_PAYLOAD(argument->cell[i] * factor + shift));
 }
 
 /* Makes an argument illegal, most likely. */

@@ -1,4 +1,4 @@
-/* The plain table: terms read, stored as forms in lists, and expanded, with nodes counted as prefixes. */
+/* The plain table: terms stored as forms in lists, and expanded, with nodes counted as prefixes. */
 #include "plain_table.h"
 
 #include <stdbool.h>
@@ -10,7 +10,16 @@
 enum { MOST_CELLS = 256, MOST_VARIABLES = 32, MOST_TOKENS = 383 };
 
 /* Kinds of cells, and the cells without a payload. */
-enum { VARIABLE = 1, ATOM = 2, INTEGER = 3, FUNCTOR = 4, PAIR = 5, BLIST = 6, ELIST = 7, EPAIR = 8 };
+enum {
+    VARIABLE = 1,
+    ATOM = 2,
+    INTEGER = 3,
+    FUNCTOR = 4,
+    PAIR = 5,
+    BLIST = 6,
+    ELIST = 7,
+    EPAIR = 8
+};
 
 static const uint32_t empty_list = (uint32_t)ATOM << 28;
 
@@ -144,7 +153,7 @@ static bool are_terms(const uint32_t *cells, size_t count, uint32_t terms)
     return at == count;
 }
 
-/* The numbered form: every variable's payload is its rank by first meeting. Gives the distinct variables. */
+/* The numbered form: a variable's payload is its rank by first meeting. Gives their number. */
 static uint32_t number_variables(const uint32_t *cells, size_t count, struct row *numbered)
 {
     uint32_t met[MOST_CELLS];
@@ -177,7 +186,7 @@ static void add(struct row *row, uint32_t cell)
 
 static size_t compact_term(const struct row *term, size_t from, struct row *form);
 
-/* The list that begins at `from`: its elements are counted first, for the last is marked if [] ends the list. */
+/* The list that begins at `from`; its elements are counted first, since [] marks the last. */
 static size_t compact_list(const struct row *term, size_t from, struct row *form)
 {
     size_t elements = 0, tail = from;
@@ -275,7 +284,7 @@ static size_t shared_beginning(const struct form *one, const struct form *other)
     return length;
 }
 
-/* The non-empty prefixes of subgoal form i that no form before it has: all beyond the longest that is shared. */
+/* The prefixes of subgoal form i that no form before it has: all beyond the longest shared. */
 static size_t subgoal_prefixes(const struct plain_table *table, uint32_t i)
 {
     const struct form *form = &table->subgoal[i].form;
@@ -321,7 +330,8 @@ static bool same_form(const struct form *form, const struct row *row)
 }
 
 /* Appends a subgoal, and takes it off again if that makes too many nodes or subgoals. */
-static uint64_t append_subgoal(struct plain_table *table, const struct row *form, uint32_t variables)
+static uint64_t append_subgoal(struct plain_table *table, const struct row *form,
+                               uint32_t variables)
 {
     uint32_t number = table->subgoals + 1;
     table->subgoal = got(realloc(table->subgoal, number * sizeof *table->subgoal));
@@ -374,7 +384,7 @@ static uint64_t append_answer(struct plain_table *table, uint32_t subgoal, const
 }
 
 uint64_t plain_table_answer(struct plain_table *table, uint32_t subgoal, const uint32_t *terms,
-                      size_t terms_cells)
+                            size_t terms_cells)
 {
     struct row form;
     uint32_t variables;
@@ -382,8 +392,8 @@ uint64_t plain_table_answer(struct plain_table *table, uint32_t subgoal, const u
         return refused(7);
     if (table->subgoal[subgoal - 1].finished)
         return refused(8);
-    uint32_t refusal = read_form(terms, terms_cells, table->subgoal[subgoal - 1].variables, &form,
-                                 &variables);
+    uint32_t refusal =
+        read_form(terms, terms_cells, table->subgoal[subgoal - 1].variables, &form, &variables);
     if (refusal != 0)
         return refused(refusal);
     for (uint32_t i = 0; i < table->answers; i++)
@@ -413,7 +423,7 @@ uint64_t plain_table_next(const struct plain_table *table, uint32_t subgoal, uin
 }
 
 uint64_t plain_table_load(const struct plain_table *table, uint32_t answer, uint32_t *out,
-                    size_t out_cells)
+                          size_t out_cells)
 {
     struct row terms;
     if (answer == 0 || answer > table->answers)
@@ -452,7 +462,7 @@ static size_t replace_variables(const struct row *pattern, const struct row *ter
 }
 
 uint64_t plain_table_instance(const struct plain_table *table, uint32_t answer, uint32_t *out,
-                        size_t out_cells)
+                              size_t out_cells)
 {
     struct row pattern, terms;
     if (answer == 0 || answer > table->answers)
