@@ -3,6 +3,7 @@
 
 #include <inttypes.h>
 #include <stdio.h>
+#include <stdlib.h>
 #include <string.h>
 
 /* Cells by name; functors f/2, g/1, q/1. */
@@ -350,6 +351,31 @@ static void check_headers(void)
     }
 }
 
+/* The largest capacity of each sort, and one more, with cells enough for both. */
+
+static void check_largest(const char *rule, size_t sort)
+{
+    static const uint32_t record_cells[3] = {5, 6, 3};
+    uint32_t capacity[3] = {1, 0, 0};
+    capacity[sort] = TABLES_MOST_RECORDS + 1;
+    size_t cells = TABLES_SPACE_CELLS(capacity[0], capacity[1], capacity[2]);
+    uint32_t *space = calloc(cells, sizeof *space), counts[3];
+    if (space == NULL) {
+        perror(rule);
+        exit(2);
+    }
+    uint64_t word = tables_fresh(space, cells, capacity[0], capacity[1], capacity[2]);
+    check(word == REFUSED(2), rule, "fresh with one more");
+    capacity[sort]--;
+    word = tables_fresh(space, cells, capacity[0], capacity[1], capacity[2]);
+    check(word == TABLES_DONE, rule, "fresh");
+    check(tables_counts(space, cells, counts, 3) == SAID(TABLES_COUNTS, 3), rule, "counts");
+    for (size_t offset = 5 + sort; offset < 8; offset++)
+        space[offset] += record_cells[sort];
+    check(tables_counts(space, cells, counts, 3) == REFUSED(1), rule, "a header with one more");
+    free(space);
+}
+
 /* Long paths: a space with subgoal g(X) and one answer, whose path is written by hand. */
 
 enum { LONGEST_PATH = 100000 };
@@ -444,6 +470,9 @@ int main(void)
     check_headers();
     check_beyond();
     check_paths();
+    check_largest("the most nodes", 0);
+    check_largest("the most subgoals", 1);
+    check_largest("the most answers", 2);
     for (size_t i = 0; i < sizeof rows / sizeof *rows; i++)
         check_row(&rows[i]);
     printf("damage_rules_test: %zu rows, %u checks, %u failures\n", sizeof rows / sizeof *rows,
