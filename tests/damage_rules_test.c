@@ -302,13 +302,14 @@ static void check_header(const char *rule, const struct space *space)
     check(word == REFUSED(1), rule, "1 before 12");
 }
 
-/* The offsets of the space without records to spare. */
+/* The offsets of the space with records to spare. */
 enum {
-    SUBGOAL_OFFSET = 8 + 5 * NODES,
-    ANSWER_OFFSET = SUBGOAL_OFFSET + 6 * SUBGOALS,
-    END = ANSWER_OFFSET + 3 * ANSWERS
+    SUBGOAL_OFFSET = 8 + 5 * ROOMY_NODES,
+    ANSWER_OFFSET = SUBGOAL_OFFSET + 6 * ROOMY_SUBGOALS,
+    END = ANSWER_OFFSET + 3 * ROOMY_ANSWERS
 };
 
+/* Each breaks one rule alone: the other capacities stay whole and above their counts. */
 static const struct {
     const char *rule;
     uint32_t field, value;
@@ -316,9 +317,9 @@ static const struct {
     {"edition 0", 0, 0},
     {"edition 2", 0, 2},
     {"no node used", 1, 0},
-    {"nodes above their capacity", 1, NODES + 1},
-    {"subgoals above their capacity", 2, SUBGOALS + 1},
-    {"answers above their capacity", 3, ANSWERS + 1},
+    {"nodes above their capacity", 1, ROOMY_NODES + 1},
+    {"subgoals above their capacity", 2, ROOMY_SUBGOALS + 1},
+    {"answers above their capacity", 3, ROOMY_ANSWERS + 1},
     {"all bits of a count", 3, UINT32_MAX},
     {"node offset 7", 4, 7},
     {"node offset 9", 4, 9},
@@ -326,9 +327,9 @@ static const struct {
     {"nodes not whole", 5, SUBGOAL_OFFSET - 6},
     {"no room for a node", 5, 8},
     {"subgoal offset below 8", 5, 2},
-    {"subgoals not whole", 6, ANSWER_OFFSET + 3},
+    {"subgoals not whole", 6, ANSWER_OFFSET - 3},
     {"offsets fall", 6, SUBGOAL_OFFSET - 6},
-    {"offsets fall far", 6, 3},
+    {"offsets fall far", 6, 4},
     {"answers not whole", 7, END - 1},
     {"end below the answers", 7, ANSWER_OFFSET - 3},
     {"end above the length", 7, END + 3},
@@ -338,7 +339,7 @@ static const struct {
 static void check_headers(void)
 {
     struct space sound, space;
-    write_sound(&sound, TIGHT);
+    write_sound(&sound, ROOMY);
     for (size_t i = 0; i < sizeof headers / sizeof *headers; i++) {
         space = sound;
         space.cell[headers[i].field] = headers[i].value;
