@@ -422,7 +422,7 @@ static void check_cases(void)
         printf(i % 6 == 5 || i + 1 == MET_CASES ? "\n" : "");
     }
     for (unsigned i = 0; i < MET_CASES; i++) {
-        if (met[i] >= lists / 1000)
+        if (met[i] >= lists / 4000)
             continue;
         failures++;
         printf("failed: too seldom: %s\n", case_names[i]);
