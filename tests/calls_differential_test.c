@@ -445,7 +445,7 @@ int main(int argc, char **argv)
     for (unsigned list = 1; list <= lists && failures < MOST_FAILURES; list++) {
         if (list % 100 == 1)
             alarm(SECONDS);
-        note_place("calls_differential_test", seed, list);
+        note_place("seed %" PRIu64 ", list %u", seed, list);
         run_list(list);
     }
     if (failures == 0) {

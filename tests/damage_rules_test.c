@@ -1,10 +1,14 @@
 /* Checks each rule on damaged spaces by itself: a sound space, a cell changed, one call's result. */
+#define _DEFAULT_SOURCE
+
 #include "../include/tables.h"
+#include "lending.h"
 
 #include <inttypes.h>
 #include <stdio.h>
 #include <stdlib.h>
 #include <string.h>
+#include <unistd.h>
 
 /* Cells by name; functors f/2, g/1, q/1. */
 #define VAR(name) TABLES_CELL(TABLES_VARIABLE, name)
@@ -74,7 +78,7 @@ struct change {
 /* One call. */
 enum call { CALL, ANSWERS_TO, FINISH, NEXT, LOAD, INSTANCE, COUNTS };
 
-enum { ROW_CELLS = 6, OUT_CELLS = 12 };
+enum { ROW_CELLS = 6, OUT_CELLS = 12, SECONDS = 20 };
 
 struct request {
     enum call call;
@@ -215,6 +219,7 @@ static void check_call(const char *rule, struct space *space, const struct reque
 static void check_row(const struct row *row)
 {
     struct space space;
+    note_place("%s", row->rule);
     write_sound(&space, row->room);
     for (size_t i = 0; i < sizeof row->change / sizeof *row->change; i++) {
         const struct change *change = &row->change[i];
@@ -296,6 +301,7 @@ static void check_header(const char *rule, const struct space *space)
                                               NEXT_OF(0, 0), LOAD_OF(0),          INSTANCE_OF(0),
                                               COUNTS_OF,     LOAD_SHORT(0)};
     struct space lent = *space;
+    note_place("%s", rule);
     for (size_t i = 0; i < sizeof requests / sizeof *requests; i++)
         check_call(rule, &lent, &requests[i], REFUSED(1));
     uint64_t word = tables_counts(lent.cell, lent.count, NULL, 0);
@@ -407,6 +413,7 @@ static void write_chain(uint32_t tokens)
 static void check_chain(const char *rule, uint32_t tokens, uint64_t load, uint64_t instance)
 {
     uint32_t out[300];
+    note_place("%s", rule);
     write_chain(tokens);
     size_t cells = sizeof chain_space / sizeof *chain_space;
     check(tables_load(chain_space, cells, 1, out, 300) == load, rule, "load");
@@ -466,6 +473,9 @@ static void check_paths(void)
 
 int main(void)
 {
+    setvbuf(stdout, NULL, _IOLBF, BUFSIZ);
+    report_crashes();
+    alarm(SECONDS);
     check_sound(ROOMY);
     check_sound(TIGHT);
     check_headers();

@@ -309,7 +309,7 @@ int main(int argc, char **argv)
     seed_drawing(seed);
     for (unsigned round = 1; round <= rounds && failures < MOST_FAILURES; round++) {
         alarm(SECONDS);
-        note_place("damaged_spaces_test", seed, round);
+        note_place("seed %" PRIu64 ", round %u", seed, round);
         check_round(round);
     }
     if (failures == 0)

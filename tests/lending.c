@@ -3,8 +3,8 @@
 
 #include "lending.h"
 
-#include <inttypes.h>
 #include <signal.h>
+#include <stdarg.h>
 #include <stdio.h>
 #include <stdlib.h>
 #include <string.h>
@@ -61,11 +61,14 @@ bool marks_kept(const struct arena *arena)
 
 /* Crashes */
 
-static char place[160] = "before the first round";
+static char place[160] = "at the start";
 
-void note_place(const char *test, uint64_t seed, uint64_t round)
+void note_place(const char *format, ...)
 {
-    snprintf(place, sizeof place, "%s, seed %" PRIu64 ", round %" PRIu64, test, seed, round);
+    va_list arguments;
+    va_start(arguments, format);
+    vsnprintf(place, sizeof place, format, arguments);
+    va_end(arguments);
 }
 
 static void say(const char *text)

@@ -32,7 +32,7 @@ bool marks_kept(const struct arena *arena);
  */
 void report_crashes(void);
 
-/* What such a message says of the place. */
-void note_place(const char *test, uint64_t seed, uint64_t round);
+/* What such a message says of the place, as by printf. */
+void note_place(const char *format, ...);
 
 #endif
