@@ -35,7 +35,7 @@ static const uint32_t possible[TALLY_ROWS] = {
     [FRESH] = RESULT(TABLES_DONE) | REFUSAL(2),
 };
 
-/* Calls for which a later check would have refused too, and other things that a list must contain. */
+/* Calls that a later check would have refused too, and other things that a list must contain. */
 enum met_case {
     NUMBER_AND_LENGTH,
     NUMBER_AND_TERM,
@@ -180,9 +180,9 @@ static void draw_capacities(struct run *run)
     open_drawer(&run->drawer, large ? 40 : 4, 8, chance(50) ? 4 : 9);
 }
 
+/* Fresh, and the empty plain table, with the capacities set. */
 static void open_run(struct run *run)
 {
-    draw_capacities(run);
     size_t end = TABLES_SPACE_CELLS(run->most_nodes, run->most_subgoals, run->most_answers);
     run->space_cells = end + below(4);
     run->space = lend(&space_arena, run->space_cells, chance(50));
@@ -396,6 +396,7 @@ static void run_list(unsigned list)
     static struct request request;
     run.list = list;
     run.call = 0;
+    draw_capacities(&run);
     open_run(&run);
     for (size_t calls = between(1, 50); calls > 0 && failures < MOST_FAILURES; calls--) {
         uint32_t before[3];
@@ -411,6 +412,86 @@ static void run_list(unsigned list)
         learn(&run, &request, word);
     }
     plain_table_close(run.plain);
+}
+
+/* The published lists of calls, which hold the plain table to the request too */
+
+struct published {
+    struct request request;
+    uint64_t word;
+};
+
+#define WORD(what, value) (((uint64_t)(what) << 32) + (value))
+#define REFUSED_WORD(number) WORD(TABLES_REFUSED_BY + (number), 0)
+#define F2 TABLES_FUNCTOR_CELL(1, 2)
+#define G1 TABLES_FUNCTOR_CELL(2, 1)
+#define H1 TABLES_FUNCTOR_CELL(3, 1)
+#define X TABLES_CELL(TABLES_VARIABLE, 7)
+#define Y TABLES_CELL(TABLES_VARIABLE, 9)
+#define A TABLES_CELL(TABLES_ATOM, 4)
+#define B TABLES_CELL(TABLES_ATOM, 5)
+#define ONE TABLES_CELL(TABLES_INTEGER, 1)
+
+/* The worked session. */
+static const struct published session[] = {
+    {{CALL, 0, 0, {5, {F2, G1, X, H1, Y}}}, WORD(TABLES_NEW, 1)},
+    {{CALL, 0, 0, {5, {F2, G1, Y, H1, X}}}, WORD(TABLES_OLD_OPEN, 1)},
+    {{ANSWER, 1, 0, {2, {B, B}}}, WORD(TABLES_NEW, 1)},
+    {{ANSWER, 1, 0, {2, {A, A}}}, WORD(TABLES_NEW, 2)},
+    {{ANSWER, 1, 0, {2, {B, B}}}, WORD(TABLES_OLD, 1)},
+    {{NEXT, 1, 1, {0, {0}}}, WORD(TABLES_AT, 2)},
+    {{FINISH, 1, 0, {0, {0}}}, WORD(TABLES_DONE, 0)},
+    {{ANSWER, 1, 0, {2, {A, B}}}, REFUSED_WORD(8)},
+    {{NEXT, 1, 2, {0, {0}}}, WORD(TABLES_NONE, 0)},
+    {{INSTANCE, 2, 0, {0, {0}}}, WORD(TABLES_CELLS, 5)},
+};
+
+/* M9, with 11 nodes and with 10; M10. */
+static const struct published three_subgoals[] = {
+    {{CALL, 0, 0, {3, {F2, X, A}}}, WORD(TABLES_NEW, 1)},
+    {{CALL, 0, 0, {3, {TABLES_FUNCTOR_CELL(2, 2), X, Y}}}, WORD(TABLES_NEW, 2)},
+    {{CALL, 0, 0, {3, {F2, Y, ONE}}}, WORD(TABLES_NEW, 3)},
+};
+static const struct published node_short[] = {
+    {{CALL, 0, 0, {3, {F2, X, A}}}, WORD(TABLES_NEW, 1)},
+    {{CALL, 0, 0, {3, {TABLES_FUNCTOR_CELL(2, 2), X, Y}}}, WORD(TABLES_NEW, 2)},
+    {{CALL, 0, 0, {3, {F2, Y, ONE}}}, REFUSED_WORD(10)},
+};
+static const struct published ground_subgoal[] = {
+    {{CALL, 0, 0, {2, {G1, A}}}, WORD(TABLES_NEW, 1)},
+    {{ANSWER, 1, 0, {0, {0}}}, WORD(TABLES_NEW, 1)},
+    {{ANSWER, 1, 0, {0, {0}}}, WORD(TABLES_OLD, 1)},
+};
+
+/* Makes the calls with so many nodes; both tables must use `nodes_used` of them. */
+static void run_published(const struct published *rows, size_t count, uint32_t nodes,
+                          uint32_t nodes_used)
+{
+    static struct run run;
+    run = (struct run){.most_nodes = nodes, .most_subgoals = 50, .most_answers = 100};
+    open_run(&run);
+    for (size_t i = 0; i < count; i++) {
+        const struct request *request = &rows[i].request;
+        uint64_t word = compare_request(&run, request, request->kind == INSTANCE ? 9 : 0);
+        if (word != rows[i].word)
+            fail(&run, request_names[request->kind], "published", word, rows[i].word);
+        compare_counts(&run, request_names[request->kind]);
+        run.call++;
+    }
+    if (run.counts[0] != nodes_used)
+        fail(&run, "counts", "published", run.counts[0], nodes_used);
+    plain_table_close(run.plain);
+}
+
+static void check_published(void)
+{
+    static const uint32_t instance[] = {F2, G1, A, H1, A};
+    run_published(session, sizeof session / sizeof *session, 1000, 11);
+    if (!same_cells(out_arena.lent, instance, 5))
+        fail(&(struct run){0}, "instance", "published cells", 0, 0);
+    run_published(three_subgoals, 3, 11, 11);
+    run_published(node_short, 3, 10, 9);
+    run_published(ground_subgoal, 3, 4, 4);
 }
 
 /* The report */
@@ -442,6 +523,7 @@ int main(int argc, char **argv)
     open_arena(&term_arena, ARGUMENT_CELLS);
     open_arena(&out_arena, OUT_CELLS);
     seed_drawing(seed);
+    check_published();
     for (unsigned list = 1; list <= lists && failures < MOST_FAILURES; list++) {
         if (list % 100 == 1)
             alarm(SECONDS);

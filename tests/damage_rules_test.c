@@ -358,6 +358,21 @@ static void check_headers(void)
     }
 }
 
+/* NULL for no cells, in every call. */
+static void check_nothing_lent(void)
+{
+    const char *rule = "nothing lent";
+    note_place("%s", rule);
+    check(tables_fresh(NULL, 0, 1, 0, 0) == REFUSED(2), rule, "fresh");
+    check(tables_call(NULL, 0, NULL, 0) == REFUSED(1), rule, "call");
+    check(tables_answer(NULL, 0, 1, NULL, 0) == REFUSED(1), rule, "answer");
+    check(tables_finish(NULL, 0, 1) == REFUSED(1), rule, "finish");
+    check(tables_next(NULL, 0, 1, 0) == REFUSED(1), rule, "next");
+    check(tables_load(NULL, 0, 1, NULL, 0) == REFUSED(1), rule, "load");
+    check(tables_instance(NULL, 0, 1, NULL, 0) == REFUSED(1), rule, "instance");
+    check(tables_counts(NULL, 0, NULL, 0) == REFUSED(1), rule, "counts");
+}
+
 /* The largest capacity of each sort, and one more, with cells enough for both. */
 
 static void check_largest(const char *rule, size_t sort)
@@ -478,6 +493,7 @@ int main(void)
     alarm(SECONDS);
     check_sound(ROOMY);
     check_sound(TIGHT);
+    check_nothing_lent();
     check_headers();
     check_beyond();
     check_paths();
