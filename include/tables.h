@@ -1,4 +1,4 @@
-/* The C interface of the table store: the two converters between pair form and compact form. */
+/* The C interface of the table store: the calls on a space of cells, and the two term converters. */
 #ifndef TABLES_H
 #define TABLES_H
 
@@ -13,8 +13,10 @@ extern "C" {
  * Cells
  *
  * A cell is a 32-bit number. Its kind is the number divided by 2^28, its
- * payload is the remainder. In memory a cell is four bytes, the lowest first
- * (little-endian), on every machine.
+ * payload is the remainder. The calls take cells as uint32_t, in the machine's
+ * own byte order and aligned as uint32_t. Only the two converters at the end
+ * take them as bytes: four to a cell, the lowest first (little-endian), on
+ * every machine.
  */
 enum tables_kind {
     TABLES_VARIABLE = 1, /* the caller's name for it, 0 to 2^28 - 1 */
@@ -64,30 +66,197 @@ enum tables_kind {
 #define TABLES_COMPACT_CELLS 383 /* the most cells of a term in compact form */
 
 /*
- * Results
+ * Refusals
  *
- * A converter returns the number of cells written, at least 1, or
- * TABLES_REFUSED plus the refusal's number.
+ * A call that cannot be carried out is refused by one of these numbers and
+ * changes nothing: neither a cell of the space nor one of out. Where several
+ * apply, the checks are made in this order: header (1) or fresh (2), number
+ * (7), the records that the number names (9), state (8), length (4), term (3),
+ * variables (5), predicate (6), the other records (9), nodes (10), records left
+ * (11), form (13), out (12).
+ */
+enum tables_refusal {
+    TABLES_REFUSED_HEADER = 1,        /* the space has no sound header, or is cut short */
+    TABLES_REFUSED_FRESH = 2,         /* a capacity out of range, or too few cells for it */
+    TABLES_REFUSED_TERM = 3,          /* not exactly the terms due; for a converter also a byte
+                                         count not divisible by 4 */
+    TABLES_REFUSED_LENGTH = 4,        /* over 256 cells */
+    TABLES_REFUSED_VARIABLES = 5,     /* over 32 distinct variables */
+    TABLES_REFUSED_PREDICATE = 6,     /* a called term begins with neither atom nor functor */
+    TABLES_REFUSED_NUMBER = 7,        /* no such subgoal or answer, or another subgoal's answer */
+    TABLES_REFUSED_STATE = 8,         /* an answer to a finished subgoal, even one that it holds */
+    TABLES_REFUSED_RECORDS = 9,       /* a damaged record was met */
+    TABLES_REFUSED_NODES = 10,        /* too few nodes left */
+    TABLES_REFUSED_RECORDS_LEFT = 11, /* no record left for a new subgoal or answer */
+    TABLES_REFUSED_OUT = 12,          /* out is too short */
+    TABLES_REFUSED_FORM = 13          /* no compact form of a legal term; tables_expand alone */
+};
+
+/*
+ * The space
+ *
+ * A table lives in one array of cells that the caller owns, of any storage:
+ * static, on the heap, or mapped from a file. The caller says at the start how
+ * many records of each sort it may hold; nothing grows later.
+ *
+ *     static uint32_t space[TABLES_SPACE_CELLS(1000, 50, 100)];
+ *     uint64_t word = tables_fresh(space, TABLES_SPACE_CELLS(1000, 50, 100), 1000, 50, 100);
+ *
+ * A node is needed for each cell of compact form that no other entry of the
+ * same trie shares, and one more for each subgoal, and one for the whole table.
+ * The space may be longer than needed; the cells past its end are left alone.
+ */
+#define TABLES_MOST_RECORDS 1048576 /* of each sort; at least 1 node, and 0 of the others */
+#define TABLES_SPACE_CELLS(nodes, subgoals, answers) \
+    ((size_t)8 + (size_t)5 * (nodes) + (size_t)6 * (subgoals) + (size_t)3 * (answers))
+
+/*
+ * Lending
+ *
+ * A call is lent the space, its terms and its out as pointer and number of
+ * cells, for the time of the call. It keeps no pointer, allocates nothing and
+ * touches nothing beside the cells lent. A pointer may be NULL if its number of
+ * cells is 0. Space, terms and out must be aligned as uint32_t and must not
+ * overlap each other; nothing checks that.
+ *
+ * Threads: there is no state beside the space. Calls on different spaces may
+ * run at once. Calls that only read (the space is const: tables_next,
+ * tables_load, tables_instance, tables_counts) may run at once on one space.
+ * While a call that writes (tables_fresh, tables_call, tables_answer,
+ * tables_finish) runs, no other call on the same space may run: the caller
+ * serialises them.
+ *
+ * A space may be copied, stored and read back as cells; numbers in it are places
+ * and not addresses. If it comes back damaged, no call goes astray: a call reads
+ * what it needs, judges that, and is refused by 1 or 9 where it is not sound.
+ * Damage in cells that it does not read goes unseen. The use of the stack is
+ * bounded, whatever the space holds, and modest (under 100 kilobytes).
+ */
+
+/*
+ * The result word
+ *
+ * Every call returns one word: what came of it in the upper 32 bits, a value in
+ * the lower. A refusal is 256 plus its number.
+ *
+ *     uint64_t word = tables_call(space, space_cells, term, term_cells);
+ *     if (tables_refused_by(word) != 0)
+ *         complain(tables_refused_by(word));
+ *     else
+ *         subgoal = tables_value(word);
+ */
+enum tables_outcome {
+    TABLES_DONE = 0,         /* value 0 */
+    TABLES_NEW = 1,          /* the new subgoal's or answer's number */
+    TABLES_OLD = 2,          /* the answer's number */
+    TABLES_OLD_OPEN = 3,     /* the subgoal's number */
+    TABLES_OLD_FINISHED = 4, /* the subgoal's number */
+    TABLES_AT = 5,           /* the next answer's number */
+    TABLES_NONE = 6,         /* value 0 */
+    TABLES_CELLS = 7,        /* the number of cells written to out */
+    TABLES_COUNTS = 8,       /* 3, the number of cells written to out */
+    TABLES_REFUSED_BY = 256  /* plus the refusal; value 0, but for 12 the cells that out needs */
+};
+
+static inline uint32_t tables_what(uint64_t word)
+{
+    return (uint32_t)(word >> 32);
+}
+
+static inline uint32_t tables_value(uint64_t word)
+{
+    return (uint32_t)word;
+}
+
+/* The refusal's number, or 0 if the call was not refused. */
+static inline uint32_t tables_refused_by(uint64_t word)
+{
+    return tables_what(word) > TABLES_REFUSED_BY ? tables_what(word) - TABLES_REFUSED_BY : 0;
+}
+
+/*
+ * Makes the cells an empty table with room for so many nodes, subgoals and
+ * answers, whatever they held. TABLES_DONE. Refused by 2.
+ */
+uint64_t tables_fresh(uint32_t *space, size_t space_cells, uint32_t nodes, uint32_t subgoals,
+                      uint32_t answers);
+
+/*
+ * Enters a subgoal: one term, which begins with an atom or a functor. Terms that
+ * differ only in the names of their variables are the same subgoal. TABLES_NEW,
+ * TABLES_OLD_OPEN or TABLES_OLD_FINISHED, each with the subgoal's number;
+ * numbers go from 1 in order of entry. Refused by 1, 4, 3, 5, 6, 9, 10, 11.
+ */
+uint64_t tables_call(uint32_t *space, size_t space_cells, const uint32_t *term, size_t term_cells);
+
+/*
+ * Enters an answer of an open subgoal: a term for each of the subgoal's distinct
+ * variables, in order of first meeting, one behind the other, at most 256 cells
+ * and 32 distinct variables in all. A variable of one term is the same in the
+ * others. A subgoal without variables is answered by no terms. TABLES_NEW or
+ * TABLES_OLD, with the answer's number; numbers go from 1 in order of entry,
+ * through all subgoals. Refused by 1, 7, 9, 8, 4, 3, 5, 9, 10, 11.
+ */
+uint64_t tables_answer(uint32_t *space, size_t space_cells, uint32_t subgoal, const uint32_t *terms,
+                       size_t terms_cells);
+
+/*
+ * Finishes a subgoal: it takes no more answers. TABLES_DONE, also the second
+ * time. Refused by 1, 7, 9.
+ */
+uint64_t tables_finish(uint32_t *space, size_t space_cells, uint32_t subgoal);
+
+/*
+ * The first answer of a subgoal behind the answer `after`, which must be one of
+ * its own; with 0, its first. TABLES_AT with the answer's number, or
+ * TABLES_NONE. While the subgoal is open, an answer may follow later. Refused
+ * by 1, 7, 9.
+ */
+uint64_t tables_next(const uint32_t *space, size_t space_cells, uint32_t subgoal, uint32_t after);
+
+/*
+ * Writes the terms of an answer in pair form, one behind the other; a variable's
+ * payload is its rank, from 0, by first meeting through all of them.
+ * TABLES_CELLS with the number of cells written, 0 for an answer of no terms;
+ * out beyond them stays. TABLES_TERM_CELLS cells always suffice. Refused by 1,
+ * 7, 9, 12.
+ */
+uint64_t tables_load(const uint32_t *space, size_t space_cells, uint32_t answer, uint32_t *out,
+                     size_t out_cells);
+
+/*
+ * Writes the subgoal of an answer with each of its variables replaced by the
+ * answer's term for it, in pair form; variables are numbered as by tables_load.
+ * TABLES_CELLS with the number of cells written; out beyond them stays. Refused
+ * by 1, 7, 9, 12. An instance may be longer than a term that is called:
+ * TABLES_INSTANCE_CELLS cells always suffice, or ask first with none, and 12
+ * says how many.
+ */
+#define TABLES_INSTANCE_CELLS 61201
+uint64_t tables_instance(const uint32_t *space, size_t space_cells, uint32_t answer, uint32_t *out,
+                         size_t out_cells);
+
+/*
+ * Writes the nodes, subgoals and answers used to out[0], out[1] and out[2].
+ * TABLES_COUNTS. Refused by 1, 12.
+ */
+uint64_t tables_counts(const uint32_t *space, size_t space_cells, uint32_t *out, size_t out_cells);
+
+/*
+ * The two converters
+ *
+ * They stand alone, without a space. A converter returns the number of cells
+ * written, at least 1, or TABLES_REFUSED plus the refusal's number.
  *
  *     uint32_t result = tables_compact(in, in_bytes, out, out_bytes);
  *     if (TABLES_IS_REFUSED(result))
  *         complain(TABLES_REFUSAL(result));
  */
-enum tables_refusal {
-    TABLES_REFUSED_TERM = 3,      /* a byte count of in not divisible by 4, or in is no term */
-    TABLES_REFUSED_LENGTH = 4,    /* over 256 cells */
-    TABLES_REFUSED_VARIABLES = 5, /* over 32 distinct variables */
-    TABLES_REFUSED_OUT = 12,      /* out is too short */
-    TABLES_REFUSED_FORM = 13      /* in is no compact form of a legal term */
-};
-
 #define TABLES_REFUSED UINT32_C(0x80000000)
 #define TABLES_IS_REFUSED(result) (((result) & TABLES_REFUSED) != 0)
 #define TABLES_REFUSAL(result) ((result) & ~TABLES_REFUSED)
 
 /*
- * The two converters
- *
  * in      in_bytes bytes, one term; read, never written.
  * out     out_bytes bytes lent for the result. Its last one to three bytes, if
  *         out_bytes is not divisible by 4, do not count as room and stay as

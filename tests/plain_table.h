@@ -1,0 +1,29 @@
+/* The plain table: the calls on lists of forms, without a trie, as the tests' second opinion. */
+#ifndef PLAIN_TABLE_H
+#define PLAIN_TABLE_H
+
+#include <stddef.h>
+#include <stdint.h>
+
+struct plain_table;
+
+/* An empty table with these capacities, which are in range. Ends the program if memory runs out. */
+struct plain_table *plain_table_open(uint32_t nodes, uint32_t subgoals, uint32_t answers);
+void plain_table_close(struct plain_table *table);
+
+/* The seven calls. Each returns the word that the export must return, and writes out as it must. */
+uint64_t plain_table_call(struct plain_table *table, const uint32_t *term, size_t term_cells);
+uint64_t plain_table_answer(struct plain_table *table, uint32_t subgoal, const uint32_t *terms,
+                            size_t terms_cells);
+uint64_t plain_table_finish(struct plain_table *table, uint32_t subgoal);
+uint64_t plain_table_next(const struct plain_table *table, uint32_t subgoal, uint32_t after);
+uint64_t plain_table_load(const struct plain_table *table, uint32_t answer, uint32_t *out,
+                          size_t out_cells);
+uint64_t plain_table_instance(const struct plain_table *table, uint32_t answer, uint32_t *out,
+                              size_t out_cells);
+uint64_t plain_table_counts(const struct plain_table *table, uint32_t *out, size_t out_cells);
+
+/* The distinct variables of a subgoal, which exists. */
+uint32_t plain_table_variables(const struct plain_table *table, uint32_t subgoal);
+
+#endif

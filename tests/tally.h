@@ -1,0 +1,27 @@
+/* How often each call had each result, printed and held to what may and must come. */
+#ifndef TALLY_H
+#define TALLY_H
+
+#include "../include/tables.h"
+#include "drawing.h"
+
+/* A result's place in a set: the whats from TABLES_DONE to TABLES_COUNTS, then the refusals 1 to 12. */
+enum { RESULT_WHATS = TABLES_COUNTS + 1, RESULTS = RESULT_WHATS + 12 };
+
+#define RESULT(what) (UINT32_C(1) << (what))
+#define REFUSAL(number) (UINT32_C(1) << (RESULT_WHATS + (number) - 1))
+
+/* The refusals of the reader of terms, and those for want of room in the space. */
+#define READER_REFUSALS (REFUSAL(3) | REFUSAL(4) | REFUSAL(5))
+#define ROOM_REFUSALS (REFUSAL(10) | REFUSAL(11))
+
+/* Rows are the kinds of request; fresh stands behind them. */
+enum { FRESH = REQUEST_KINDS, TALLY_ROWS };
+
+/* Counts one result. Is it among the possible ones of its row? */
+bool tally_result(const uint32_t possible[TALLY_ROWS], unsigned row, uint64_t word);
+
+/* Prints the counts, and gives how many of the possible results came less than so often. */
+unsigned check_tally(const uint32_t possible[TALLY_ROWS], uint64_t least);
+
+#endif
