@@ -4,6 +4,7 @@
 #include "../include/tables.h"
 #include "plain_store.h"
 
+#include <float.h>
 #include <stdio.h>
 #include <stdlib.h>
 #include <string.h>
@@ -25,9 +26,9 @@ uint64_t tables_counts(const uint32_t *space, size_t space_cells, uint32_t *out,
 enum {
     ITEMS = 8000, /* the subgoals or answers of a table */
     ATOMS = 97,   /* the first terms of the pairs */
-    LEAST_ROUNDS = 9,
-    MOST_ROUNDS = 400,
-    WARMING_ROUNDS = 2,
+    SLICES = 40,  /* the parts in which a table's items are timed */
+    SLICE_ITEMS = ITEMS / SLICES,
+    LEAST_ROUNDS = 10,
     OUT_CELLS = 300,
     HEADER_CELLS = 8,
     NODE_CELLS = 5,
@@ -35,8 +36,8 @@ enum {
     ANSWER_CELLS = 3
 };
 
-/* What a row is timed for, both sides together, unless the fewest rounds take longer. */
-static const double nanoseconds_per_row = 3e9;
+/* How long a row is timed, both sides together, unless the fewest rounds take longer. */
+static const double nanoseconds_per_row = 4e9;
 
 /* The upper halves of the words expected here; the lower half is a number or a count of cells. */
 enum said { DONE = 0, NEW = 1, OLD = 2, OLD_OPEN = 3, AT = 5, NO_MORE = 6, CELLS = 7, COUNTS = 8 };
@@ -387,31 +388,36 @@ static void compare_published_nodes(enum difference difference, enum ending endi
 
 /* Timing */
 
-/* Adding up every word and a cell of every out keeps the calls from being optimised away. */
-typedef uint64_t batch(const struct side *side, const struct workload *workload, uint32_t *space);
+/* Makes the calls of one slice of the items; adds up every word and a cell of every out, so that none is optimised away. */
+typedef uint64_t batch(const struct side *side, const struct workload *workload, uint32_t *space,
+                       uint32_t from);
 
-static uint64_t make_calls(const struct side *side, const struct workload *workload, uint32_t *space)
+static uint64_t make_calls(const struct side *side, const struct workload *workload, uint32_t *space,
+                           uint32_t from)
 {
     uint64_t sum = 0;
-    for (size_t item = 0; item < ITEMS; item++)
+    for (uint32_t item = from; item < from + SLICE_ITEMS; item++)
         sum += side->call(space, workload->space_cells, term_at(workload, item), workload->term_cells);
     return sum;
 }
 
-static uint64_t make_answers(const struct side *side, const struct workload *workload, uint32_t *space)
+static uint64_t make_answers(const struct side *side, const struct workload *workload,
+                             uint32_t *space, uint32_t from)
 {
     uint64_t sum = 0;
-    for (size_t item = 0; item < ITEMS; item++)
+    for (uint32_t item = from; item < from + SLICE_ITEMS; item++)
         sum += side->answer(space, workload->space_cells, 1, term_at(workload, item),
                             workload->term_cells);
     return sum;
 }
 
-static uint64_t make_nexts(const struct side *side, const struct workload *workload, uint32_t *space)
+/* Goes from each answer to the one that is handed out. */
+static uint64_t make_nexts(const struct side *side, const struct workload *workload, uint32_t *space,
+                           uint32_t from)
 {
     uint64_t sum = 0;
-    uint32_t after = 0;
-    for (size_t item = 0; item < ITEMS; item++) {
+    uint32_t after = from;
+    for (uint32_t item = from; item < from + SLICE_ITEMS; item++) {
         uint64_t said = side->next(space, workload->space_cells, 1, after);
         after = (uint32_t)said;
         sum += said;
@@ -419,29 +425,31 @@ static uint64_t make_nexts(const struct side *side, const struct workload *workl
     return sum;
 }
 
-static uint64_t make_loads(const struct side *side, const struct workload *workload, uint32_t *space)
+static uint64_t make_loads(const struct side *side, const struct workload *workload, uint32_t *space,
+                           uint32_t from)
 {
     uint64_t sum = 0;
     uint32_t out[OUT_CELLS];
-    for (uint32_t item = 1; item <= ITEMS; item++) {
-        sum += side->load(space, workload->space_cells, item, out, OUT_CELLS);
+    for (uint32_t item = from; item < from + SLICE_ITEMS; item++) {
+        sum += side->load(space, workload->space_cells, item + 1, out, OUT_CELLS);
         sum += out[1];
     }
     return sum;
 }
 
-static uint64_t make_instances(const struct side *side, const struct workload *workload, uint32_t *space)
+static uint64_t make_instances(const struct side *side, const struct workload *workload,
+                               uint32_t *space, uint32_t from)
 {
     uint64_t sum = 0;
     uint32_t out[OUT_CELLS];
-    for (uint32_t item = 1; item <= ITEMS; item++) {
-        sum += side->instance(space, workload->space_cells, item, out, OUT_CELLS);
+    for (uint32_t item = from; item < from + SLICE_ITEMS; item++) {
+        sum += side->instance(space, workload->space_cells, item + 1, out, OUT_CELLS);
         sum += out[1];
     }
     return sum;
 }
 
-/* A batch of calls that is timed; one that enters starts from a table without the terms. */
+/* What is timed over all items; one that enters them starts from a table without them. */
 struct operation {
     const char *name;
     batch *make;
@@ -458,6 +466,12 @@ static const struct operation answering[] = {
     {"load", make_loads, 0},         {"instance", make_instances, 0},
 };
 
+/* One side's best time for each slice over all rounds, and the sum of what it said. */
+struct timing {
+    double best[SLICES];
+    uint64_t sum;
+};
+
 static double now(void)
 {
     struct timespec time;
@@ -465,7 +479,7 @@ static double now(void)
     return (double)time.tv_sec * 1e9 + (double)time.tv_nsec;
 }
 
-/* A table without the terms, made by the plain side for both, so that both find the same in the caches. */
+/* A table without the items, made by the plain side for both, so that both find the same in the caches. */
 static void empty_table(const struct workload *workload, uint32_t *space)
 {
     plain_fresh(space, workload->space_cells, workload->nodes, subgoal_capacity(workload),
@@ -474,41 +488,55 @@ static void empty_table(const struct workload *workload, uint32_t *space)
         plain_call(space, workload->space_cells, workload->goal, workload->goal_cells);
 }
 
-/* Nanoseconds of one batch; adds up what it said. */
-static double time_batch(const struct side *side, const struct operation *operation,
-                         const struct workload *workload, uint32_t *space, uint64_t *sum)
+/* One round of one side over all items. */
+static void time_round(const struct side *side, const struct operation *operation,
+                       const struct workload *workload, uint32_t *space, struct timing *timing)
 {
     if (operation->enters)
         empty_table(workload, space);
-    double start = now();
-    *sum += operation->make(side, workload, space);
-    return now() - start;
+    for (uint32_t slice = 0; slice < SLICES; slice++) {
+        double start = now();
+        timing->sum += operation->make(side, workload, space, slice * SLICE_ITEMS);
+        double elapsed = now() - start;
+        if (elapsed < timing->best[slice])
+            timing->best[slice] = elapsed;
+    }
 }
 
-/* Times the two sides in turn on one space, and sets the best time of each; stops if their sums differ. */
+/* Nanoseconds per item. */
+static double best_time(const struct timing *timing)
+{
+    double sum = 0;
+    for (int slice = 0; slice < SLICES; slice++)
+        sum += timing->best[slice];
+    return sum / ITEMS;
+}
+
+/* Times the two sides in turn on one space, until the time is up. The first rounds warm up: they are never the best. */
 static void time_sides(const struct operation *operation, const struct workload *workload,
                        uint32_t *space, double best[SIDES])
 {
-    uint64_t sum[SIDES] = {0, 0};
-    double begun = now();
-    for (int round = -WARMING_ROUNDS; round < MOST_ROUNDS; round++) {
-        if (round >= LEAST_ROUNDS && now() - begun > nanoseconds_per_row)
-            break;
-        for (int i = 0; i < SIDES; i++) {
-            double time = time_batch(&sides[i], operation, workload, space, &sum[i]);
-            if (round <= 0 || time < best[i])
-                best[i] = time;
-        }
+    struct timing timings[SIDES];
+    for (int i = 0; i < SIDES; i++) {
+        timings[i].sum = 0;
+        for (int slice = 0; slice < SLICES; slice++)
+            timings[i].best[slice] = DBL_MAX;
     }
-    if (sum[OURS] != sum[PLAIN]) {
+    double begun = now();
+    for (int round = 0; round < LEAST_ROUNDS || now() - begun < nanoseconds_per_row; round++)
+        for (int i = 0; i < SIDES; i++)
+            time_round(&sides[i], operation, workload, space, &timings[i]);
+    if (timings[OURS].sum != timings[PLAIN].sum) {
         fprintf(stderr, "%s, %s: the sums differ\n", operation->name, workload->name);
         exit(1);
     }
+    for (int i = 0; i < SIDES; i++)
+        best[i] = best_time(&timings[i]);
 }
 
 static void report(FILE *tsv, const char *call, const char *table, const double best[SIDES])
 {
-    double ours = best[OURS] / ITEMS, plain = best[PLAIN] / ITEMS;
+    double ours = best[OURS], plain = best[PLAIN];
     printf("%-10s  %-36s  %9.1f  %9.1f  %11.0f  %11.0f  %5.2f\n", call, table, ours, plain,
            1e9 / ours, 1e9 / plain, ours / plain);
     if (tsv != NULL)
