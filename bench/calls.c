@@ -26,9 +26,10 @@ uint64_t tables_counts(const uint32_t *space, size_t space_cells, uint32_t *out,
 enum {
     ITEMS = 8000, /* the subgoals or answers of a table */
     ATOMS = 97,   /* the first terms of the pairs */
-    SLICES = 40,  /* the parts in which a table's items are timed */
-    SLICE_ITEMS = ITEMS / SLICES,
-    LEAST_ROUNDS = 10,
+    FEW = 20,     /* the items timed together where a call searches: long calls, so few of them */
+    MANY = 200,   /* and where it does not */
+    MOST_SLICES = ITEMS / FEW,
+    LEAST_ROUNDS = 16,
     OUT_CELLS = 300,
     HEADER_CELLS = 8,
     NODE_CELLS = 5,
@@ -388,24 +389,24 @@ static void compare_published_nodes(enum difference difference, enum ending endi
 
 /* Timing */
 
-/* Makes the calls of one slice of the items; adds up every word and a cell of every out, so that none is optimised away. */
+/* Makes the calls of some items; adds up every word and a cell of every out, so that none is optimised away. */
 typedef uint64_t batch(const struct side *side, const struct workload *workload, uint32_t *space,
-                       uint32_t from);
+                       uint32_t from, uint32_t to);
 
 static uint64_t make_calls(const struct side *side, const struct workload *workload, uint32_t *space,
-                           uint32_t from)
+                           uint32_t from, uint32_t to)
 {
     uint64_t sum = 0;
-    for (uint32_t item = from; item < from + SLICE_ITEMS; item++)
+    for (uint32_t item = from; item < to; item++)
         sum += side->call(space, workload->space_cells, term_at(workload, item), workload->term_cells);
     return sum;
 }
 
 static uint64_t make_answers(const struct side *side, const struct workload *workload,
-                             uint32_t *space, uint32_t from)
+                             uint32_t *space, uint32_t from, uint32_t to)
 {
     uint64_t sum = 0;
-    for (uint32_t item = from; item < from + SLICE_ITEMS; item++)
+    for (uint32_t item = from; item < to; item++)
         sum += side->answer(space, workload->space_cells, 1, term_at(workload, item),
                             workload->term_cells);
     return sum;
@@ -413,11 +414,11 @@ static uint64_t make_answers(const struct side *side, const struct workload *wor
 
 /* Goes from each answer to the one that is handed out. */
 static uint64_t make_nexts(const struct side *side, const struct workload *workload, uint32_t *space,
-                           uint32_t from)
+                           uint32_t from, uint32_t to)
 {
     uint64_t sum = 0;
     uint32_t after = from;
-    for (uint32_t item = from; item < from + SLICE_ITEMS; item++) {
+    for (uint32_t item = from; item < to; item++) {
         uint64_t said = side->next(space, workload->space_cells, 1, after);
         after = (uint32_t)said;
         sum += said;
@@ -426,11 +427,11 @@ static uint64_t make_nexts(const struct side *side, const struct workload *workl
 }
 
 static uint64_t make_loads(const struct side *side, const struct workload *workload, uint32_t *space,
-                           uint32_t from)
+                           uint32_t from, uint32_t to)
 {
     uint64_t sum = 0;
     uint32_t out[OUT_CELLS];
-    for (uint32_t item = from; item < from + SLICE_ITEMS; item++) {
+    for (uint32_t item = from; item < to; item++) {
         sum += side->load(space, workload->space_cells, item + 1, out, OUT_CELLS);
         sum += out[1];
     }
@@ -438,37 +439,39 @@ static uint64_t make_loads(const struct side *side, const struct workload *workl
 }
 
 static uint64_t make_instances(const struct side *side, const struct workload *workload,
-                               uint32_t *space, uint32_t from)
+                               uint32_t *space, uint32_t from, uint32_t to)
 {
     uint64_t sum = 0;
     uint32_t out[OUT_CELLS];
-    for (uint32_t item = from; item < from + SLICE_ITEMS; item++) {
+    for (uint32_t item = from; item < to; item++) {
         sum += side->instance(space, workload->space_cells, item + 1, out, OUT_CELLS);
         sum += out[1];
     }
     return sum;
 }
 
-/* What is timed over all items; one that enters them starts from a table without them. */
+/* What is timed over all items, so many together; one that enters them starts from a table without them. */
 struct operation {
     const char *name;
     batch *make;
+    uint32_t together;
     int enters;
 };
 
 static const struct operation calling[] = {
-    {"call new", make_calls, 1},
-    {"call old", make_calls, 0},
+    {"call new", make_calls, FEW, 1},
+    {"call old", make_calls, FEW, 0},
 };
 
 static const struct operation answering[] = {
-    {"answer new", make_answers, 1}, {"answer old", make_answers, 0}, {"next", make_nexts, 0},
-    {"load", make_loads, 0},         {"instance", make_instances, 0},
+    {"answer new", make_answers, FEW, 1}, {"answer old", make_answers, FEW, 0},
+    {"next", make_nexts, MANY, 0},        {"load", make_loads, MANY, 0},
+    {"instance", make_instances, MANY, 0},
 };
 
-/* One side's best time for each slice over all rounds, and the sum of what it said. */
+/* One side's best time for each slice of the items over all rounds, and the sum of what it said. */
 struct timing {
-    double best[SLICES];
+    double best[MOST_SLICES];
     uint64_t sum;
 };
 
@@ -494,20 +497,20 @@ static void time_round(const struct side *side, const struct operation *operatio
 {
     if (operation->enters)
         empty_table(workload, space);
-    for (uint32_t slice = 0; slice < SLICES; slice++) {
+    for (uint32_t from = 0; from < ITEMS; from += operation->together) {
         double start = now();
-        timing->sum += operation->make(side, workload, space, slice * SLICE_ITEMS);
-        double elapsed = now() - start;
-        if (elapsed < timing->best[slice])
-            timing->best[slice] = elapsed;
+        timing->sum += operation->make(side, workload, space, from, from + operation->together);
+        double elapsed = now() - start, *best = &timing->best[from / operation->together];
+        if (elapsed < *best)
+            *best = elapsed;
     }
 }
 
 /* Nanoseconds per item. */
-static double best_time(const struct timing *timing)
+static double best_time(const struct timing *timing, uint32_t slices)
 {
     double sum = 0;
-    for (int slice = 0; slice < SLICES; slice++)
+    for (uint32_t slice = 0; slice < slices; slice++)
         sum += timing->best[slice];
     return sum / ITEMS;
 }
@@ -519,7 +522,7 @@ static void time_sides(const struct operation *operation, const struct workload 
     struct timing timings[SIDES];
     for (int i = 0; i < SIDES; i++) {
         timings[i].sum = 0;
-        for (int slice = 0; slice < SLICES; slice++)
+        for (int slice = 0; slice < MOST_SLICES; slice++)
             timings[i].best[slice] = DBL_MAX;
     }
     double begun = now();
@@ -531,7 +534,7 @@ static void time_sides(const struct operation *operation, const struct workload 
         exit(1);
     }
     for (int i = 0; i < SIDES; i++)
-        best[i] = best_time(&timings[i]);
+        best[i] = best_time(&timings[i], ITEMS / operation->together);
 }
 
 static void report(FILE *tsv, const char *call, const char *table, const double best[SIDES])
