@@ -1,0 +1,26 @@
+/* A table store in plain C with the arguments and result words of the exported calls: their benchmark's baseline. */
+#ifndef PLAIN_STORE_H
+#define PLAIN_STORE_H
+
+#include <stddef.h>
+#include <stdint.h>
+
+/*
+ * Each function does what the export of the same name does (tables_fresh and
+ * so on): the same layout, every check in the same order, the same word, and
+ * the same cells written.
+ */
+uint64_t plain_fresh(uint32_t *space, size_t space_cells, uint32_t nodes, uint32_t subgoals,
+                     uint32_t answers);
+uint64_t plain_call(uint32_t *space, size_t space_cells, const uint32_t *term, size_t term_cells);
+uint64_t plain_answer(uint32_t *space, size_t space_cells, uint32_t subgoal, const uint32_t *terms,
+                      size_t terms_cells);
+uint64_t plain_finish(uint32_t *space, size_t space_cells, uint32_t subgoal);
+uint64_t plain_next(const uint32_t *space, size_t space_cells, uint32_t subgoal, uint32_t after);
+uint64_t plain_load(const uint32_t *space, size_t space_cells, uint32_t answer, uint32_t *out,
+                    size_t out_cells);
+uint64_t plain_instance(const uint32_t *space, size_t space_cells, uint32_t answer, uint32_t *out,
+                        size_t out_cells);
+uint64_t plain_counts(const uint32_t *space, size_t space_cells, uint32_t *out, size_t out_cells);
+
+#endif
