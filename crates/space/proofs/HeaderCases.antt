@@ -1,13 +1,16 @@
 -- A law for each case of the header's definitions: the tests that lead there as facts of numbers.
 use Prim.Native.Nat.{ℕ, _-_, _/_, _%_, _<_, _≤_}
 use mathlib.Core.Path.{_≡_, refl}
-use mathlib.Core.Bool.{true, false}
+use mathlib.Core.Bool.{Bool, true, false}
 use mathlib.Core.List.{List}
 use lib.Dec.{leb}
 use lib.ListN.{length, getD}
-use borrow.Author.Tests.{lt-ltb, le-ltb, le-leb, lt-leb, eq-eqb, ne-eqb}
+use borrow.Author.Tests.{lt-ltb, le-ltb, le-leb, lt-leb, eq-eqb, ne-eqb, leb-true, leb-false}
+use Rattle.basis.specs.Choice.{pick}
+use Rattle.basis.proofs.Cases.{by-cases}
 use Rattle.space.specs.Layout.{sizes, most}
 use Rattle.space.specs.Heading.{inRange, capacity, whole, counted, headOf, headerOf}
+use Rattle.space.specs.declared.Header.{Header}
 use Rattle.space.specs.declared.Header.the-variants.{Sound, Refused}
 use Rattle.space.specs.declared.Capacity.the-variants.{Whole, Broken}
 
@@ -63,12 +66,14 @@ module _ (s : List ℕ) (n f a : ℕ) where
           unfolding counted
           counted-answers k = simp (le-ltb _ _ h, ne-eqb _ _ e, le-ltb _ _ i, le-ltb _ _ j, lt-ltb _ _ k)
 
-          -- of values that equal the cells
-          pub counted-sound : (x y z u v w : ℕ) → x ≡ getD s 1 0 → y ≡ getD s 2 0 → z ≡ getD s 3 0 → u ≡ getD s 5 0 → v ≡ getD s 6 0 → w ≡ getD s 7 0 → getD s 3 0 ≤ a →
-              Sound (record { nodes = x; subgoals = y; answers = z; «node_capacity» = n; «subgoal_capacity» = f; «answer_capacity» = a; «subgoal_offset» = u; «answer_offset» = v; end = w }) ≡ counted s n f a
+          pub counted-sound : getD s 3 0 ≤ a → Sound (headOf s n f a) ≡ counted s n f a
           unfolding counted
-          counted-sound x y z u v w p q r p′ q′ r′ k =
-              rw (p, q, r, p′, q′, r′) (simp (le-ltb _ _ h, ne-eqb _ _ e, le-ltb _ _ i, le-ltb _ _ j, le-ltb _ _ k))
+          counted-sound k = simp (le-ltb _ _ h, ne-eqb _ _ e, le-ltb _ _ i, le-ltb _ _ j, le-ltb _ _ k)
+
+          -- the last test, of a value that equals the cell
+          pub counted-last : (x : ℕ) → x ≡ getD s 3 0 → pick (leb x a) (Sound (headOf s n f a)) (Refused 1) ≡ counted s n f a
+          counted-last x p =
+              rw p (by-cases (leb (getD s 3 0) a) (λ t. rw t (counted-sound (leb-true _ _ t))) (λ t. rw t (counted-answers (leb-false _ _ t))))
 
 module _ (s : List ℕ) where
   pub header-short : length s < 8 → Refused 1 ≡ headerOf sizes s
@@ -103,3 +108,8 @@ module _ (s : List ℕ) where
             pub header-counted : (a : ℕ) → capacity 0 3 (getD s 6 0) (getD s 7 0) ≡ Whole a → counted s n f a ≡ headerOf sizes s
             unfolding headerOf whole
             header-counted a l = simp (le-ltb _ _ h, eq-eqb _ _ e, eq-eqb _ _ i, j, k, l)
+
+-- a head of values that equal the cells
+pub filled : (s : List ℕ) (n f a : ℕ) {y : Header} → Sound (headOf s n f a) ≡ y → (u v w x z o : ℕ) → u ≡ getD s 1 0 → v ≡ getD s 2 0 → w ≡ getD s 3 0 → x ≡ getD s 5 0 → z ≡ getD s 6 0 → o ≡ getD s 7 0 →
+    Sound (record { nodes = u; subgoals = v; answers = w; «node_capacity» = n; «subgoal_capacity» = f; «answer_capacity» = a; «subgoal_offset» = x; «answer_offset» = z; end = o }) ≡ y
+filled s n f a e u v w x z o p q p′ q′ p″ q″ = rw (p, q, p′, q′, p″, q″) e

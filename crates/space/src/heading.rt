@@ -7,7 +7,9 @@ ghost use mathlib.Core.Path.{_≡_};
 ghost use Prim.Native.Nat.{_<_, _≤_};
 ghost use lib.ListN.{length};
 ghost use Rattle.space.specs.Layout.{sizes};
-ghost use Rattle.space.specs.Heading.{inRange, capacity, counted, headerOf};
+ghost use Rattle.basis.specs.Choice.{pick};
+ghost use Rattle.space.specs.Heading.{inRange, capacity, headOf, counted, headerOf};
+ghost use Rattle.space.specs.declared.Header.the-variants.{Sound, Refused};
 
 // The records that a table may hold at most.
 const MOST: usize = 1048576;
@@ -39,43 +41,27 @@ fn capacity_of(least: usize, size: usize, low: usize, high: usize) -> Capacity
     Capacity::Broken
 }
 
-// The end and the counts, under the capacities.
-fn count(space: &[u32], n: usize, f: usize, a: usize) -> Header
+// Do the end and the counts fit, under the capacities? A bool, and not the header: that would be written here and then
+// copied by the caller at once, which took half the time of `next`.
+fn count(space: &[u32], n: usize, f: usize, a: usize) -> bool
     requires { ⌜ 8 ≤ length (now space) ⌝ }
-    ensures { λ r. ⌜ r ≡ counted (now (space .entry)) n f a ⌝ }
+    ensures { λ r. ⌜ pick r (Sound (headOf (now (space .entry)) n f a)) (Refused 1) ≡ counted (now (space .entry)) n f a ⌝ }
 {
     let end = wide(space[7]);
     if space.len() < end {
-        return Header::Refused(1);
+        return false;
     }
     let nodes = wide(space[1]);
     if nodes == 0 {
-        return Header::Refused(1);
+        return false;
     }
     if n < nodes {
-        return Header::Refused(1);
+        return false;
     }
-    let subgoals = wide(space[2]);
-    if f < subgoals {
-        return Header::Refused(1);
+    if f < wide(space[2]) {
+        return false;
     }
-    let answers = wide(space[3]);
-    if a < answers {
-        return Header::Refused(1);
-    }
-    let subgoal_offset = wide(space[5]);
-    let answer_offset = wide(space[6]);
-    Header::Sound(Head {
-        nodes: nodes,
-        subgoals: subgoals,
-        answers: answers,
-        node_capacity: n,
-        subgoal_capacity: f,
-        answer_capacity: a,
-        subgoal_offset: subgoal_offset,
-        answer_offset: answer_offset,
-        end: end,
-    })
+    wide(space[3]) <= a
 }
 
 pub fn read_header(space: &[u32]) -> Header
@@ -98,7 +84,19 @@ pub fn read_header(space: &[u32]) -> Header
             let Capacity::Whole(a) = capacity_of(0, 3, answer_offset, end) else {
                 return Header::Refused(1);
             };
-            return count(space, n, f, a);
+            if count(space, n, f, a) {
+                return Header::Sound(Head {
+                    nodes: wide(space[1]),
+                    subgoals: wide(space[2]),
+                    answers: wide(space[3]),
+                    node_capacity: n,
+                    subgoal_capacity: f,
+                    answer_capacity: a,
+                    subgoal_offset: subgoal_offset,
+                    answer_offset: answer_offset,
+                    end: end,
+                });
+            }
         }
     }
     Header::Refused(1)

@@ -1,6 +1,6 @@
 -- `space::heading::count` meets its contract.
 use native.Mathlib.Omega.{arith}
-use Rattle.space.proofs.HeaderCases.{counted-end, counted-none, counted-nodes, counted-subgoals, counted-answers, counted-sound}
+use Rattle.space.proofs.HeaderCases.{counted-end, counted-none, counted-nodes, counted-subgoals, counted-last}
 use borrow.Author.Needs.{needs}
 use Rattle.space.proofs.heading.count.Statement.{statement}
 use Rattle.space.proofs.heading.count.Tie as tie
@@ -42,22 +42,7 @@ wide-requires-4 : tie.Need-wide-requires-4
 wide-requires-4 c κs = search needs
 
 returns-5 : tie.Need-returns-5
-returns-5 c = counted-answers _ _ _ _ (search needs) (search needs) (search needs) (search needs) (search needs)
-
-shared-slice-read-wide-5 : tie.Need-shared-slice-read-wide-5
-shared-slice-read-wide-5 c = omega arith
-
-wide-requires-5 : tie.Need-wide-requires-5
-wide-requires-5 c κs = search needs
-
-shared-slice-read-wide-6 : tie.Need-shared-slice-read-wide-6
-shared-slice-read-wide-6 c = omega arith
-
-wide-requires-6 : tie.Need-wide-requires-6
-wide-requires-6 c κs = search needs
-
-returns-6 : tie.Need-returns-6
-returns-6 c = counted-sound _ _ _ _ (search needs) (search needs) (search needs) (search needs) _ _ _ _ _ _ (search needs) (search needs) (search needs) (search needs) (search needs) (search needs) (search needs)
+returns-5 c = counted-last _ _ _ _ (search needs) (search needs) (search needs) (search needs) (c .wide4 .result) (c .wide4 .ensures .0)
 
 pub count-spec : {M : Type 1} → statement M
 count-spec =
@@ -75,9 +60,4 @@ count-spec =
     returns-4
     shared-slice-read-wide-4
     wide-requires-4
-    returns-5
-    shared-slice-read-wide-5
-    wide-requires-5
-    shared-slice-read-wide-6
-    wide-requires-6
-    returns-6)
+    returns-5)
