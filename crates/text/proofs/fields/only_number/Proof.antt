@@ -23,7 +23,7 @@ returns : tie.Need-returns
 returns c = only-none (restAt (c .before .before .before .before .args .line .now) (c .before .before .before .before .args .at)) (rw (c .enum-told .given .1) at (c .before .before .first-number .ensures))
 
 returns-2 : tie.Need-returns-2
-returns-2 c = let l = c .before .before .before .before .before .before .args .line .now in let f = rw (c .before .before .n .given .1) at (c .before .before .before .before .first-number .ensures) in let r = restAt l (c .before .before .before .before .before .before .args .at) in only-many r _ _ (sym (f .2) ∙ rest-next l _ (f .1 .1) (c .if1 .taken))
+returns-2 c = let l = c .before .before .before .before .before .before .args .line .now in let f = rw (c .before .before .n .given .1) at (c .before .before .before .before .first-number .ensures) in let r = restAt l (c .before .before .before .before .before .before .args .at) in only-many r _ _ (sym (f .2) ∙ rest-next l (c .before .before .n .given .0 .1 .0) (f .1 .1) (omega (arith, c .if1 .taken, f .1 .0)))
 
 returns-3 : tie.Need-returns-3
 returns-3 c = let l = c .before .before .before .before .before .before .args .line .now in let f = rw (c .before .before .n .given .1) at (c .before .before .before .before .first-number .ensures) in let r = restAt l (c .before .before .before .before .before .before .args .at) in (only-right r _ (sym (f .2) ∙ place-end l (c .before .before .n .given .0 .1 .0) (omega (arith, f .1 .0, c .if1 .left)) .1) (f .0), f .1, f .2, f .3)
