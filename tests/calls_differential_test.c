@@ -5,6 +5,7 @@
 #include "drawing.h"
 #include "lending.h"
 #include "plain_table.h"
+#include "requests.h"
 #include "tally.h"
 
 #include <inttypes.h>

@@ -4,6 +4,7 @@
 #include "../include/tables.h"
 #include "drawing.h"
 #include "lending.h"
+#include "requests.h"
 #include "tally.h"
 
 #include <inttypes.h>

@@ -60,10 +60,6 @@ void open_drawer(struct drawer *drawer, unsigned long_chance, unsigned spoil_cha
 void draw_request(struct drawer *drawer, enum request_kind kind, const struct known *known,
                   struct request *request);
 
-/* Makes the request of the exports, with its argument's cells lent at `cells`. */
-uint64_t make_request(const struct request *request, uint32_t *space, size_t space_cells,
-                      const uint32_t *cells, uint32_t *out, size_t out_cells);
-
 /* Does the kind of request only read the space? */
 bool only_reads(enum request_kind kind);
 

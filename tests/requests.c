@@ -1,0 +1,25 @@
+/* Makes requests of the exported calls. */
+#include "requests.h"
+
+#include "../include/tables.h"
+
+uint64_t make_request(const struct request *request, uint32_t *space, size_t space_cells,
+                      const uint32_t *cells, uint32_t *out, size_t out_cells)
+{
+    switch (request->kind) {
+    case CALL:
+        return tables_call(space, space_cells, cells, request->argument.count);
+    case ANSWER:
+        return tables_answer(space, space_cells, request->number, cells, request->argument.count);
+    case FINISH:
+        return tables_finish(space, space_cells, request->number);
+    case NEXT:
+        return tables_next(space, space_cells, request->number, request->after);
+    case LOAD:
+        return tables_load(space, space_cells, request->number, out, out_cells);
+    case INSTANCE:
+        return tables_instance(space, space_cells, request->number, out, out_cells);
+    default:
+        return tables_counts(space, space_cells, out, out_cells);
+    }
+}

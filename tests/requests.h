@@ -1,0 +1,11 @@
+/* Makes requests of the exported calls. */
+#ifndef REQUESTS_H
+#define REQUESTS_H
+
+#include "drawing.h"
+
+/* Makes the request, with its argument's cells lent at `cells`. */
+uint64_t make_request(const struct request *request, uint32_t *space, size_t space_cells,
+                      const uint32_t *cells, uint32_t *out, size_t out_cells);
+
+#endif
