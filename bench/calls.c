@@ -10,19 +10,6 @@
 #include <string.h>
 #include <time.h>
 
-uint64_t tables_fresh(uint32_t *space, size_t space_cells, uint32_t nodes, uint32_t subgoals,
-                      uint32_t answers);
-uint64_t tables_call(uint32_t *space, size_t space_cells, const uint32_t *term, size_t term_cells);
-uint64_t tables_answer(uint32_t *space, size_t space_cells, uint32_t subgoal, const uint32_t *terms,
-                       size_t terms_cells);
-uint64_t tables_finish(uint32_t *space, size_t space_cells, uint32_t subgoal);
-uint64_t tables_next(const uint32_t *space, size_t space_cells, uint32_t subgoal, uint32_t after);
-uint64_t tables_load(const uint32_t *space, size_t space_cells, uint32_t answer, uint32_t *out,
-                     size_t out_cells);
-uint64_t tables_instance(const uint32_t *space, size_t space_cells, uint32_t answer, uint32_t *out,
-                         size_t out_cells);
-uint64_t tables_counts(const uint32_t *space, size_t space_cells, uint32_t *out, size_t out_cells);
-
 enum {
     ITEMS = 8000, /* the subgoals or answers of a table */
     ATOMS = 97,   /* the first terms of the pairs */
