@@ -1,4 +1,5 @@
 -- `store::calls::call_at` meets its contract.
+use native.Mathlib.Omega.{arith}
 use mathlib.Core.Path.{_≡_, sym, _∙_}
 use Rattle.space.specs.Layout.{sizes}
 use Rattle.space.proofs.HeaderLaws.{bounds-nodes}
@@ -27,7 +28,7 @@ node-in-requires : tie.Need-node-in-requires
 node-in-requires c κs = (bounds-nodes _ _ (c .before .before .before .before .before .before .before .before .pre .0), leaf-within (c .before .before .before .before .before .before .before .before .args .space .now) (c .before .before .before .before .before .before .before .before .args .h .nodes) (c .before .before .before .before .before .before .before .before .args .h .subgoals) 0 (c .before .before .before .before .before .before .before .before .args .tokens .now) (search needs) _ (ends (c .before .before)))
 
 call-old-requires : tie.Need-call-old-requires
-call-old-requires c κs = (search needs, link-within (c .before .before .before .before .before .before .before .before .before .before .args .space .now) (c .before .before .before .before .before .before .before .before .before .before .args .h .nodes) (c .before .before .before .before .before .before .before .before .before .before .args .h .subgoals) 0 (c .before .before .before .before .before .before .before .before .before .before .args .tokens .now) (search needs) _ _ (ends (c .before .before .before .before)) (c .before .node-in .ensures))
+call-old-requires c κs = (search needs, omega (arith, link-within (c .before .before .before .before .before .before .before .before .before .before .args .space .now) (c .before .before .before .before .before .before .before .before .before .before .args .h .nodes) (c .before .before .before .before .before .before .before .before .before .before .args .h .subgoals) 0 (c .before .before .before .before .before .before .before .before .before .before .args .tokens .now) (search needs) _ _ (ends (c .before .before .before .before)) (c .before .node-in .ensures)))
 
 same-length : tie.Need-same-length
 same-length c = search needs
