@@ -12,7 +12,7 @@ use borrow.Author.Tests.{le-leb}
 use Rattle.basis.specs.Choice.{pick}
 use Rattle.basis.proofs.Cases.{by-cases}
 use Rattle.forms.specs.declared.Answer.the-variants.{Cells}
-use Rattle.forms.specs.declared.Loading.the-variants.{Terms, NoForm}
+use Rattle.forms.specs.declared.Loading.the-variants.{Terms}
 use Rattle.forms.specs.Cells.{payload, tag, variable, shapeOf, arity16}
 use Rattle.forms.specs.Terms.{Term, cell, pairs, every, applied, reads}
 use Rattle.forms.specs.Numbering.{rank, met, renamed, numbered}
@@ -134,11 +134,6 @@ module _ (terms starts : List ℕ) (m : ℕ) (us more : List Term) (the-terms : 
 
 -- ---- legal forms
 
--- loading a legal form does not fail
-pub loading-legal : (m : ℕ) (s : List ℕ) → legalForm arity16 m s ≡ true → NoForm ≡ loading arity16 m s → ⊥
-unfolding loading
-loading-legal m s h e = let z : NoForm ≡ Terms (length (pairForm arity16 s)) = rw h at e in let y : _≡_ {A = ℕ} 0 1 = cc in omega arith
-
 -- what is known of the cells and terms that were loaded, once the starts of the terms are noted
 pub record Ready (w v cells terms starts : List ℕ) (n : ℕ) : Type 0 where
   pub small : n ≤ 256
@@ -168,11 +163,16 @@ module _ (w v : List ℕ) (m : ℕ) (legal-w : legalForm arity16 1 w ≡ true) (
     pub enough : m ≤ length (termsAt arity16 terms 0)
     enough = omega (arith, as-many, ap length first-terms, length-append us (reads (shapeOf arity16) (drop k terms)))
 
-    last-end : cellsOf m (termsAt arity16 terms 0) ≤ 256
+    all-cells : cellsOf m (termsAt arity16 terms 0) ≡ length (pairForm arity16 v)
     unfolding pairForm
-    last-end =
-        let e : take m (termsAt arity16 terms 0) ≡ us = ap (take m) first-terms ∙ take-at us (reads (shapeOf arity16) (drop k terms)) m as-many in
-        omega (arith, ap (λ (l : List Term). length (every pairs l)) e, legal-parts arity16 m v legal-v .cells)
+    all-cells = ap (λ (l : List Term). length (every pairs l)) (ap (take m) first-terms ∙ take-at us (reads (shapeOf arity16) (drop k terms)) m as-many)
+
+    last-end : cellsOf m (termsAt arity16 terms 0) ≤ 256
+    last-end = omega (arith, all-cells, legal-parts arity16 m v legal-v .cells)
+
+    -- where the last term ends, as loading told
+    pub terms-end : Terms k ≡ loading arity16 m v → k ≡ cellsOf m (termsAt arity16 terms 0)
+    terms-end got = loading-length arity16 m v k got ∙ sym all-cells
 
     module _ (cells starts : List ℕ) (n : ℕ) (got : Terms n ≡ loading arity16 1 w) (held-cells : take n cells ≡ pairForm arity16 w)
         (noted : StartsAt (termsAt arity16 terms 0) m starts) (room : m < length starts) where

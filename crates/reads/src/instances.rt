@@ -1,19 +1,27 @@
 // The instance of a subgoal by an answer.
 use forms::Answer;
 use forms::Loading;
-ghost use mathlib.Core.Bool.{true};
+use forms::is_variable;
+use forms::payload_of;
+ghost use mathlib.Core.Bool.{_&&_};
 ghost use mathlib.Core.List.{[]};
 ghost use mathlib.Core.Path.{_≡_};
-ghost use Prim.Native.Nat.{_+_, _-_, _*_, _≤_, _<_};
+ghost use Prim.Native.Nat.{_+_, _-_, _*_, _^_, _≤_, _<_};
+ghost use lib.Dec.{eqb};
 ghost use lib.ListN.{length, take};
 ghost use lib.Seq.{sets, slice};
 ghost use Rattle.forms.specs.Cells.{arity16, shapeOf};
 ghost use Rattle.forms.specs.Terms.{pairs, every};
-ghost use Rattle.forms.specs.Numbering.{met};
+ghost use Rattle.forms.specs.Numbering.{met, numbered};
 ghost use Rattle.forms.specs.Compact.{legalForm};
-ghost use Rattle.forms.specs.Converting.{fitting, written};
 ghost use Rattle.convert.specs.Readers.{termsAt};
+ghost use Rattle.convert.specs.Loading.{after};
 ghost use Rattle.plain.specs.Coding.{edition1};
+ghost use Rattle.trie.specs.Paths.{tokens};
+ghost use Rattle.store.specs.Views.{View};
+ghost use Rattle.store.specs.Decisions.{gives, onPath};
+ghost use Rattle.store.specs.Calls.{reply, outAfter};
+ghost use Rattle.store.specs.Replies.{saidCells};
 ghost use Rattle.reads.specs.Instances.{arguments, StartsAt, Placed, AllPlaced, width, needed, replaced, instanceCells};
 
 // How many terms follow a cell of pair form in the term that it begins.
@@ -41,19 +49,20 @@ fn term_end(s: &[u32], from: usize) -> usize
     at
 }
 
-// Notes where each of the first m terms in s starts, and where the last of them ends.
-fn note_starts(s: &[u32], m: usize, starts: &mut [usize])
-    requires { ⌜ (m ≤ length (termsAt arity16 (now s) 0)) × (m < length (now starts)) ⌝ }
+// Notes where each of the first m terms in s starts, and where the last of them ends, which is known.
+fn note_starts(s: &[u32], m: usize, end: usize, starts: &mut [usize])
+    requires { ⌜ (m ≤ length (termsAt arity16 (now s) 0)) × (m < length (now starts)) × (end ≡ length (every pairs (take m (termsAt arity16 (now s) 0)))) ⌝ }
     ensures { λ _. ⌜ StartsAt (termsAt arity16 (now (s .entry)) 0) m (now (starts .exit)) × (length (now (starts .exit)) ≡ length (now (starts .entry))) ⌝ }
 {
+    starts[0] = 0;
     let mut at = 0;
     let mut i = 0;
-    while i < m {
-        starts[i] = at;
+    while i + 1 < m {
         at = term_end(s, at);
         i += 1;
+        starts[i] = at;
     }
-    starts[i] = at;
+    starts[m] = end;
 }
 
 // How many cells stand for the cell c in the instance.
@@ -61,8 +70,8 @@ fn width_of(starts: &[usize], c: u32) -> usize
     requires { ⌜ Placed 256 (now starts) c ⌝ }
     ensures { λ r. ⌜ r ≡ width (now (starts .entry)) c ⌝ }
 {
-    if forms::is_variable(c) {
-        let i = forms::payload_of(c);
+    if is_variable(c) {
+        let i = payload_of(c);
         return starts[i + 1] - starts[i];
     }
     1
@@ -102,8 +111,8 @@ fn replace(c: u32, terms: &[u32], starts: &[usize], out: &mut [u32], to: usize) 
     requires { ⌜ Placed (length (now terms)) (now starts) c × (to + length (replaced (now terms) (now starts) c) ≤ length (now out)) ⌝ }
     ensures { λ r. ⌜ (r ≡ to + length (replaced (now (terms .entry)) (now (starts .entry)) c)) × (now (out .exit) ≡ sets (now (out .entry)) to (replaced (now (terms .entry)) (now (starts .entry)) c)) ⌝ }
 {
-    if forms::is_variable(c) {
-        let i = forms::payload_of(c);
+    if is_variable(c) {
+        let i = payload_of(c);
         return copy_part(terms, starts[i], starts[i + 1], out, to);
     }
     out[to] = c;
@@ -123,50 +132,77 @@ fn write(cells: &[u32], n: usize, terms: &[u32], starts: &[usize], out: &mut [u3
     }
 }
 
-// The instance, with buffers that are long enough for the two forms.
+// How many variables are met after token c, where `count` were met before it.
+fn met_after(c: u32, count: usize) -> usize
+    requires { ⌜ count + 1 < 2 ^ 64 ⌝ }
+    ensures { λ n. ⌜ n ≡ after count c ⌝ }
+{
+    if is_variable(c) {
+        if payload_of(c) == count {
+            return count + 1;
+        }
+    }
+    count
+}
+
+// The distinct variables of a path whose variables are numbered by first meeting.
+fn variables_in(path: &[u32]) -> usize
+    ensures { λ n. ⌜ (now (path .entry) ≡ numbered (now (path .entry)) → n ≡ length (met [] (now (path .entry)))) ⌝ }
+{
+    let mut count = 0;
+    let mut i = 0;
+    while i < path.len() {
+        count = met_after(path[i], count);
+        i += 1;
+    }
+    count
+}
+
+// The subgoal's path with the terms of the answer's form for its m variables; what is no legal form is damage.
+// The buffers are long enough for the pair forms of the two.
 fn instance_with(
-    w: &[u32],
-    v: &[u32],
+    path: &[u32],
+    form: &[u32],
     m: usize,
     cells: &mut [u32],
     terms: &mut [u32],
     out: &mut [u32],
 ) -> Answer
-    requires { ⌜ (legalForm arity16 1 (now w) ≡ true) × (length (met [] (now w)) ≡ m) × (legalForm arity16 m (now v) ≡ true) × (length (now w) ≤ 383 → 2 * length (now w) ≤ length (now cells)) × (length (now v) ≤ 383 → 2 * length (now v) ≤ length (now terms)) ⌝ }
-    ensures { λ r. ⌜ (r ≡ fitting (length (edition1 .instanceOf (now (w .entry)) (now (v .entry)))) (length (now (out .entry)))) × (now (out .exit) ≡ written r (edition1 .instanceOf (now (w .entry)) (now (v .entry))) (now (out .entry))) ⌝ }
+    requires { ⌜ (length (now path) ≤ 383 → 2 * length (now path) ≤ length (now cells)) × (length (now form) ≤ 383 → 2 * length (now form) ≤ length (now terms)) ⌝ }
+    ensures { λ r. ⌜ ((v : View) → (saidCells r ≡ reply v (onPath (tokens (now (form .entry))) (legalForm arity16 m) (λ y. onPath (tokens (now (path .entry))) (λ u. legalForm arity16 1 u && eqb (length (met [] u)) m) (λ u. gives (edition1 .instanceOf u y)))) (length (now (out .entry)))) × (now (out .exit) ≡ outAfter (onPath (tokens (now (form .entry))) (legalForm arity16 m) (λ y. onPath (tokens (now (path .entry))) (λ u. legalForm arity16 1 u && eqb (length (met [] u)) m) (λ u. gives (edition1 .instanceOf u y)))) (now (out .entry)))) ⌝ }
 {
-    // Legal forms load, so neither 9 is ever given.
-    let Loading::Terms(n) = convert::load_terms(w, 1, cells) else {
+    let Loading::Terms(end) = convert::load_terms(form, m, terms) else {
         return Answer::Refused(9);
     };
-    let Loading::Terms(_) = convert::load_terms(v, m, terms) else {
+    let Loading::Terms(n) = convert::load_terms(path, 1, cells) else {
         return Answer::Refused(9);
     };
-    // At most 32 terms, and the end of the last.
-    let mut starts = [0usize; 33];
-    note_starts(terms, m, &mut starts);
-    let k = need(cells, n, &starts);
-    if out.len() < k {
-        return Answer::Short(k);
+    if variables_in(path) == m {
+        // At most 32 terms, and the end of the last.
+        let mut starts = [0usize; 33];
+        note_starts(terms, m, end, &mut starts);
+        let k = need(cells, n, &starts);
+        if out.len() < k {
+            return Answer::Short(k);
+        }
+        write(cells, n, terms, &starts, out);
+        return Answer::Cells(k);
     }
-    write(cells, n, terms, &starts, out);
-    Answer::Cells(k)
+    Answer::Refused(9)
 }
 
-// The instance of the subgoal whose form is w, with m variables, by the answer whose form is v.
-// Short forms get short buffers.
-pub fn instance_of(w: &[u32], v: &[u32], m: usize, out: &mut [u32]) -> Answer
-    requires { ⌜ (legalForm arity16 1 (now w) ≡ true) × (length (met [] (now w)) ≡ m) × (legalForm arity16 m (now v) ≡ true) ⌝ }
-    ensures { λ r. ⌜ (r ≡ fitting (length (edition1 .instanceOf (now (w .entry)) (now (v .entry)))) (length (now (out .entry)))) × (now (out .exit) ≡ written r (edition1 .instanceOf (now (w .entry)) (now (v .entry))) (now (out .entry))) ⌝ }
+// The same with buffers of its own: short forms get short ones.
+pub fn instance_path(path: &[u32], form: &[u32], m: usize, out: &mut [u32]) -> Answer
+    ensures { λ r. ⌜ ((v : View) → (saidCells r ≡ reply v (onPath (tokens (now (form .entry))) (legalForm arity16 m) (λ y. onPath (tokens (now (path .entry))) (λ u. legalForm arity16 1 u && eqb (length (met [] u)) m) (λ u. gives (edition1 .instanceOf u y)))) (length (now (out .entry)))) × (now (out .exit) ≡ outAfter (onPath (tokens (now (form .entry))) (legalForm arity16 m) (λ y. onPath (tokens (now (path .entry))) (λ u. legalForm arity16 1 u && eqb (length (met [] u)) m) (λ u. gives (edition1 .instanceOf u y)))) (now (out .entry)))) ⌝ }
 {
-    if w.len() <= 16 {
-        if v.len() <= 16 {
+    if path.len() <= 16 {
+        if form.len() <= 16 {
             let mut cells = [0u32; 32];
             let mut terms = [0u32; 32];
-            return instance_with(w, v, m, &mut cells, &mut terms, out);
+            return instance_with(path, form, m, &mut cells, &mut terms, out);
         }
     }
     let mut cells = [0u32; 766];
     let mut terms = [0u32; 766];
-    instance_with(w, v, m, &mut cells, &mut terms, out)
+    instance_with(path, form, m, &mut cells, &mut terms, out)
 }

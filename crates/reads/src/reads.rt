@@ -1,12 +1,8 @@
 // Next, load, instance and counts: the calls that only read the space.
-use super::instances::instance_of;
+use super::instances::instance_path;
 use basis::wide;
 use convert::expand;
-use convert::load_terms;
 use forms::Answer;
-use forms::Loading;
-use forms::is_variable;
-use forms::payload_of;
 use space::AnswerRead;
 use space::Head;
 use space::Header;
@@ -22,15 +18,11 @@ use store::NextAnswer;
 use trie::Gathered;
 use trie::paths::gather_tokens;
 ghost use mathlib.Core.Path.{_≡_};
-ghost use mathlib.Core.Bool.{true, _&&_};
-ghost use mathlib.Core.List.{[]};
-ghost use Prim.Native.Nat.{_+_, _*_, _^_, _≤_, _<_};
-ghost use lib.Dec.{eqb};
+ghost use mathlib.Core.Bool.{true};
+ghost use Prim.Native.Nat.{_≤_, _<_};
 ghost use lib.ListN.{length};
 ghost use Rattle.forms.specs.Cells.{arity16};
-ghost use Rattle.forms.specs.Numbering.{met, numbered};
 ghost use Rattle.forms.specs.Compact.{pairForm, legalForm};
-ghost use Rattle.convert.specs.Loading.{after};
 ghost use Rattle.plain.specs.Coding.{edition1};
 ghost use Rattle.plain.specs.Requests.{next, load, instance, counts};
 ghost use Rattle.space.specs.Layout.{sizes};
@@ -211,77 +203,6 @@ pub fn load(space: &[u32], answer: u32, out: &mut [u32]) -> Answer
         }
     };
     load_in(space, h, wide(answer), out)
-}
-
-// Is the path the form of m legal terms? cells is long enough for their pair form.
-fn is_form_with(path: &[u32], m: usize, cells: &mut [u32]) -> bool
-    requires { ⌜ (length (now path) ≤ 383 → 2 * length (now path) ≤ length (now cells)) ⌝ }
-    ensures { λ r. ⌜ r ≡ legalForm arity16 m (now (path .entry)) ⌝ }
-{
-    let Loading::Terms(_) = load_terms(path, m, cells) else {
-        return false;
-    };
-    true
-}
-
-// Is the path the form of m legal terms? A short path gets a short buffer.
-fn is_form(path: &[u32], m: usize) -> bool
-    ensures { λ r. ⌜ r ≡ legalForm arity16 m (now (path .entry)) ⌝ }
-{
-    if path.len() <= 16 {
-        let mut cells = [0u32; 32];
-        return is_form_with(path, m, &mut cells);
-    }
-    let mut cells = [0u32; 766];
-    is_form_with(path, m, &mut cells)
-}
-
-// How many variables are met after token c, where `count` were met before it.
-fn met_after(c: u32, count: usize) -> usize
-    requires { ⌜ count + 1 < 2 ^ 64 ⌝ }
-    ensures { λ n. ⌜ n ≡ after count c ⌝ }
-{
-    if is_variable(c) {
-        if payload_of(c) == count {
-            return count + 1;
-        }
-    }
-    count
-}
-
-// The distinct variables of a path whose variables are numbered by first meeting.
-fn variables_in(path: &[u32]) -> usize
-    ensures { λ n. ⌜ (now (path .entry) ≡ numbered (now (path .entry)) → n ≡ length (met [] (now (path .entry)))) ⌝ }
-{
-    let mut count = 0;
-    let mut i = 0;
-    while i < path.len() {
-        count = met_after(path[i], count);
-        i += 1;
-    }
-    count
-}
-
-// Is the path the form of one legal term with m variables?
-fn is_subgoal_form(path: &[u32], m: usize) -> bool
-    ensures { λ r. ⌜ r ≡ (legalForm arity16 1 (now (path .entry)) && eqb (length (met [] (now (path .entry)))) m) ⌝ }
-{
-    if is_form(path, 1) {
-        return variables_in(path) == m;
-    }
-    false
-}
-
-// The subgoal's path with the terms of the answer's form for its m variables; what is no legal form is damage.
-fn instance_path(path: &[u32], form: &[u32], m: usize, out: &mut [u32]) -> Answer
-    ensures { λ r. ⌜ ((v : View) → (saidCells r ≡ reply v (onPath (tokens (now (form .entry))) (legalForm arity16 m) (λ y. onPath (tokens (now (path .entry))) (λ u. legalForm arity16 1 u && eqb (length (met [] u)) m) (λ u. gives (edition1 .instanceOf u y)))) (length (now (out .entry)))) × (now (out .exit) ≡ outAfter (onPath (tokens (now (form .entry))) (legalForm arity16 m) (λ y. onPath (tokens (now (path .entry))) (λ u. legalForm arity16 1 u && eqb (length (met [] u)) m) (λ u. gives (edition1 .instanceOf u y)))) (now (out .entry)))) ⌝ }
-{
-    if is_form(form, m) {
-        if is_subgoal_form(path, m) {
-            return instance_of(path, form, m, out);
-        }
-    }
-    Answer::Refused(9)
 }
 
 // Instance of an answer whose records are sound, with cells for the tokens of both paths.

@@ -39,7 +39,8 @@ fn climb(
     if most == 0 {
         return LOST;
     }
-    let k = climb(space, nodes, links, root, y.parent, most - 1, out);
+    // Lent anew, the space comes down in registers; handed on, each level copied its address and length.
+    let k = climb(&space[..], nodes, links, root, y.parent, most - 1, out);
     if k < most {
         out[k] = y.token;
         return k + 1;

@@ -18,7 +18,7 @@ use Rattle.reads.proofs.reads.instance_with.Reads as reads
 use Rattle.reads.proofs.reads.instance_with.Lts as lts
 use Rattle.space.proofs.records.answer_in.Reads as answer-in-reads
 use Rattle.space.proofs.records.subgoal_in.Reads as subgoal-in-reads
-use Rattle.reads.proofs.reads.instance_path.Reads as instance-path-reads
+use Rattle.reads.proofs.instances.instance_path.Reads as instance-path-reads
 use Rattle.trie.proofs.paths.gather_tokens.Reads as gather-tokens-reads
 
 answer-in-requires : tie.Need-answer-in-requires

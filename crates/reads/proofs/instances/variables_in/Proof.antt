@@ -1,12 +1,12 @@
--- `reads::reads::variables_in` meets its contract.
+-- `reads::instances::variables_in` meets its contract.
 use Rattle.reads.proofs.ReadsForms.{after-most, counted-step, counted-end, counted-met}
 use Rattle.convert.specs.Loading.{counted}
 use lib.ListN.{length, drop, getD}
 use native.Mathlib.Omega.{arith}
 use mathlib.Core.Path.{_≡_, refl, sym, ap, _∙_}
 use Prim.Native.Nat.{ℕ, _≤_, _-_, _+_}
-use Rattle.reads.proofs.reads.variables_in.Statement.{statement}
-use Rattle.reads.proofs.reads.variables_in.Tie as tie
+use Rattle.reads.proofs.instances.variables_in.Statement.{statement}
+use Rattle.reads.proofs.instances.variables_in.Tie as tie
 
 abbrev Inv-loop : tie.InvT-loop
 Inv-loop path count₀ i₀ count i = (i ≤ length path) × (count ≤ i) × (counted count (drop i path) ≡ counted 0 path)

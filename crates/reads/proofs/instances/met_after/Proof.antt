@@ -1,10 +1,10 @@
--- `reads::reads::met_after` meets its contract.
+-- `reads::instances::met_after` meets its contract.
 use Rattle.reads.proofs.ReadsForms.{after-other, after-next, after-old}
 use mathlib.Core.Path.{sym, _∙_}
 use Rattle.basis.proofs.Tests.{told}
 use borrow.Author.Needs.{needs}
-use Rattle.reads.proofs.reads.met_after.Statement.{statement}
-use Rattle.reads.proofs.reads.met_after.Tie as tie
+use Rattle.reads.proofs.instances.met_after.Statement.{statement}
+use Rattle.reads.proofs.instances.met_after.Tie as tie
 
 is-variable-requires : tie.Need-is-variable-requires
 is-variable-requires c κs = search needs
