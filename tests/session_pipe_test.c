@@ -187,6 +187,26 @@ static void test_many_lines_at_once(void)
     free_text(&input);
 }
 
+/* Pieces of sizes at which a buffer may be full, each behind the replies to the one before. */
+static void test_even_pieces(void)
+{
+    static const size_t sizes[] = {1024, 4095, 4096, 4097, 8192, 16384, 65536};
+    struct text input = {0, 0, NULL};
+    add_session(&input, LONG_LINES);
+    for (size_t i = 0; i < sizeof sizes / sizeof *sizes; i++) {
+        struct talk talk;
+        char name[40];
+        snprintf(name, sizeof name, "pieces of %zu bytes", sizes[i]);
+        open_talk(&talk, name);
+        for (size_t at = 0; at + sizes[i] <= input.count; at += sizes[i]) {
+            give(&talk, input.byte + at, sizes[i]);
+            await_lines(&talk.program, talk.lines);
+        }
+        close_talk(&talk);
+    }
+    free_text(&input);
+}
+
 /* The input ends behind what is said last, after a reply to each whole line. */
 static void test_end(const char *name, const char *first, const char *last)
 {
@@ -197,6 +217,18 @@ static void test_end(const char *name, const char *first, const char *last)
     say(&talk, last);
     await_silence(&talk.program, 0.05);
     close_talk(&talk);
+}
+
+/* A line that but for its length is well formed, without newline. */
+static void test_long_end(const char *name, const char *number)
+{
+    struct text line = {0, 0, NULL};
+    add_format(&line, "answer %s", number);
+    for (int i = 0; i < 454; i++)
+        add_format(&line, " 20000001");
+    add_bytes(&line, "", 1);
+    test_end(name, "", (const char *)line.byte);
+    free_text(&line);
 }
 
 static void test_time(void)
@@ -228,11 +260,14 @@ int main(int count, char **arguments)
     test_pieces();
     test_single_bytes();
     test_many_lines_at_once();
+    test_even_pieces();
     test_end("no input", "", "");
     test_end("a last line without newline", "call 20000001\n", "counts");
     test_end("a bad last line without newline", "call 20000001\n", "counts ");
     test_end("only a line without newline", "", "counts");
     test_end("a last newline", "call 20000001\n", "");
+    test_long_end("a last line of 4,096 bytes", "001");
+    test_long_end("a last line of 4,097 bytes", "0001");
     test_time();
     printf("session pipe test: %s\n", failures == 0 ? "passed" : "FAILED");
     return failures == 0 ? 0 : 1;
