@@ -1,5 +1,4 @@
-/* The model of the session program as a program: reads standard input, prints what must be printed.
- */
+/* The model of the session program, as a program over standard input and output. */
 #include "session_model.h"
 
 #include <stdio.h>

@@ -1,12 +1,11 @@
-/* Tests that the session program replies line by line over pipes; its argument names the program.
- */
+/* Tests over pipes that the session program replies line by line; its argument names it. */
 #include "program.h"
 #include "session_model.h"
 
 #include <stdio.h>
 #include <string.h>
 
-enum { SECONDS = 10, MOST_SECONDS_OF_LONG = 2, LONG_LINES = 2000, ARGUMENT_CELLS = 255 };
+enum { SECONDS = 10, MOST_SECONDS_OF_LONG = 2, LONG_LINES = 2000, MOST_FAILURES = 2 };
 
 static const char *path;
 static unsigned failures;
@@ -114,7 +113,7 @@ static void test_long_lines(void)
         say(&talk, " 50000000 10000000");
     ask(&talk, " 10000000");
     say(&talk, "answer 1");
-    for (int i = 0; i < ARGUMENT_CELLS / 2; i++)
+    for (int i = 0; i < 127; i++)
         say(&talk, " 50000000 30000001");
     ask(&talk, " 30000001");
     ask(&talk, "instance 1"); /* 8,192 cells */
@@ -187,6 +186,26 @@ static void test_many_lines_at_once(void)
     free_text(&input);
 }
 
+/* Pieces of sizes at which a buffer may be full, each behind the replies to the one before. */
+static void test_even_pieces(void)
+{
+    static const size_t sizes[] = {1024, 4095, 4096, 4097, 8192, 16384, 65536};
+    struct text input = {0, 0, NULL};
+    add_session(&input, LONG_LINES);
+    for (size_t i = 0; i < sizeof sizes / sizeof *sizes && failures < MOST_FAILURES; i++) {
+        struct talk talk;
+        char name[40];
+        snprintf(name, sizeof name, "pieces of %zu bytes", sizes[i]);
+        open_talk(&talk, name);
+        for (size_t at = 0; at + sizes[i] <= input.count; at += sizes[i]) {
+            give(&talk, input.byte + at, sizes[i]);
+            await_lines(&talk.program, talk.lines);
+        }
+        close_talk(&talk);
+    }
+    free_text(&input);
+}
+
 /* The input ends behind what is said last, after a reply to each whole line. */
 static void test_end(const char *name, const char *first, const char *last)
 {
@@ -197,6 +216,18 @@ static void test_end(const char *name, const char *first, const char *last)
     say(&talk, last);
     await_silence(&talk.program, 0.05);
     close_talk(&talk);
+}
+
+/* A line that but for its length is well formed, without newline. */
+static void test_long_end(const char *name, const char *number)
+{
+    struct text line = {0, 0, NULL};
+    add_format(&line, "answer %s", number);
+    for (int i = 0; i < 454; i++)
+        add_format(&line, " 20000001");
+    add_bytes(&line, "", 1);
+    test_end(name, "", (const char *)line.byte);
+    free_text(&line);
 }
 
 static void test_time(void)
@@ -220,20 +251,26 @@ static void test_time(void)
     }
 }
 
-int main(int count, char **arguments)
+static void test_ends(void)
 {
-    path = count > 1 ? arguments[1] : "target/bin/tables";
-    test_line_by_line();
-    test_long_lines();
-    test_pieces();
-    test_single_bytes();
-    test_many_lines_at_once();
     test_end("no input", "", "");
     test_end("a last line without newline", "call 20000001\n", "counts");
     test_end("a bad last line without newline", "call 20000001\n", "counts ");
     test_end("only a line without newline", "", "counts");
     test_end("a last newline", "call 20000001\n", "");
-    test_time();
+    test_long_end("a last line of 4,096 bytes", "001");
+    test_long_end("a last line of 4,097 bytes", "0001");
+}
+
+int main(int count, char **arguments)
+{
+    static void (*const tests[])(void) = {
+        test_line_by_line,       test_long_lines,  test_pieces, test_single_bytes,
+        test_many_lines_at_once, test_even_pieces, test_ends,   test_time,
+    };
+    path = count > 1 ? arguments[1] : "target/bin/tables";
+    for (size_t i = 0; i < sizeof tests / sizeof *tests && failures < MOST_FAILURES; i++)
+        tests[i]();
     printf("session pipe test: %s\n", failures == 0 ? "passed" : "FAILED");
     return failures == 0 ? 0 : 1;
 }

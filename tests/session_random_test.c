@@ -1,5 +1,4 @@
-/* Compares the session program with its model over random sessions; its argument names the program.
- */
+/* Compares the session program with its model over random sessions; its argument names it. */
 #include "program.h"
 #include "session_lines.h"
 #include "session_model.h"
