@@ -10,7 +10,7 @@ use Rattle.basis.specs.Writes.{put, writes}
 use Rattle.basis.proofs.Cases.{by-cases}
 use Rattle.basis.proofs.WritesLaws.{writes-frame, writes-first}
 use Rattle.plain.specs.Words.{Word}
-use Rattle.space.specs.Layout.{Sizes, sizes, subgoalAt, answerAt, answerTo, subgoalIn, answerIn}
+use Rattle.space.specs.Layout.{Sizes, sizes, nodesCell, subgoalsCell, answersCell, answerAt, lastCell, answerTo, subgoalIn, answerIn}
 use Rattle.space.specs.Heading.{headOf, headerOf}
 use Rattle.space.specs.declared.Head.{Head}
 use Rattle.space.specs.declared.Header.the-variants.{Sound}
@@ -66,7 +66,7 @@ view-made {z} wide {p} {q} {cs} {v} H b = (
 -- ---- the counts
 
 module _ {z : Sizes} (wide : Wide z) {p q : ℕ} {cs : List ℕ} {v : View} (H : Holds z p q cs v) (n k : ℕ) where
-  pub subgoals-counted : Holds z p q (writes (put 1 n ∷ put 2 k ∷ []) cs) (withCounts v n k (v .answers))
+  pub subgoals-counted : Holds z p q (writes (put nodesCell n ∷ put subgoalsCell k ∷ []) cs) (withCounts v n k (v .answers))
   subgoals-counted =
       let o = order wide H in
       counts-changed wide H n k (v .answers)
@@ -75,7 +75,7 @@ module _ {z : Sizes} (wide : Wide z) {p q : ℕ} {cs : List ℕ} {v : View} (H :
       (writes-first 2 k [] (set cs 1 n) (omega (arith, length-set cs 1 n)) tt)
       (writes-frame (put 1 n ∷ put 2 k ∷ []) cs 3 (omega arith) ∙ H .headed .answers-cell)
 
-  pub answers-counted : Holds z p q (writes (put 1 n ∷ put 3 k ∷ []) cs) (withCounts v n (v .subgoals) k)
+  pub answers-counted : Holds z p q (writes (put nodesCell n ∷ put answersCell k ∷ []) cs) (withCounts v n (v .subgoals) k)
   answers-counted =
       let o = order wide H in
       counts-changed wide H n (v .subgoals) k
@@ -88,7 +88,7 @@ module _ {z : Sizes} (wide : Wide z) {p q : ℕ} {cs : List ℕ} {v : View} (H :
 
 -- the record, its subgoal's last answer and the counts
 module _ {z : Sizes} (wide : Wide z) {p q : ℕ} {cs : List ℕ} {v : View} (H : Holds z p q cs v) (s a nodes : ℕ) (y : Answer) (ls : 1 ≤ s) (ms : s ≤ v .F) (la : 1 ≤ a) (ma : a ≤ v .A) where
-  answer-closed : Holds z p q (writes (answerTo (answerAt z q a) y ++ (put (subgoalAt z p s + 5) a ∷ put 1 nodes ∷ put 3 a ∷ [])) cs)
+  answer-closed : Holds z p q (writes (answerTo (answerAt z q a) y ++ (put (lastCell z p s) a ∷ put nodesCell nodes ∷ put answersCell a ∷ [])) cs)
       (withCounts (withSubgoals (withAnswers v (updated (v .answer) a y)) (updated (v .subgoal) s (withEnd (v .subgoal s) a))) nodes (v .subgoals) a)
   answer-closed = answers-counted wide (last-set wide (answer-put wide H a la ma y) s ls ms a) nodes a
 

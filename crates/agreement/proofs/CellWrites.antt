@@ -10,7 +10,7 @@ use lib.Dec.{eqb}
 use borrow.Author.Tests.{eqb-true}
 use Rattle.basis.specs.Writes.{put, writes}
 use Rattle.basis.proofs.Cases.{by-cases}
-use Rattle.space.specs.Layout.{Sizes, nodeAt, subgoalAt, answerAt, childCell, siblingCell, linkCell, nodeFrom, subgoalFrom, answerFrom, nodeTo, subgoalTo, answerTo}
+use Rattle.space.specs.Layout.{Sizes, nodeAt, subgoalAt, answerAt, childCell, siblingCell, linkCell, stateCell, firstCell, lastCell, nextCell, nodeFrom, subgoalFrom, answerFrom, nodeTo, subgoalTo, answerTo}
 use Rattle.space.specs.declared.Node.{Node}
 use Rattle.space.specs.declared.Subgoal.{Subgoal}
 use Rattle.space.specs.declared.Answer.{Answer}
@@ -137,19 +137,19 @@ module _ {z : Sizes} (wide : Wide z) {p q : ℕ} {cs : List ℕ} {v : View} (H :
         (subgoal-written (subgoalAt z p s) y cs (omega arith))
 
     module _ (x : ℕ) where
-      pub state-set : Holds z p q (set cs (subgoalAt z p s + 3) x) (withSubgoals v (updated (v .subgoal) s (withState (v .subgoal s) x)))
+      pub state-set : Holds z p q (set cs (stateCell z p s) x) (withSubgoals v (updated (v .subgoal) s (withState (v .subgoal s) x)))
       state-set =
           let f = subgoal-inside wide H s l m in
           subgoal-changed wide H s (withState (v .subgoal s) x) l m (set-kept (subgoalAt z p s) (z .subgoal) 3 cs x (omega arith))
           (state-read cs (subgoalAt z p s) x (omega arith) ∙ ap (λ (y : Subgoal). withState y x) (H .subgoal-held s l m))
 
-      pub first-set : Holds z p q (set cs (subgoalAt z p s + 4) x) (withSubgoals v (updated (v .subgoal) s (withFirst (v .subgoal s) x)))
+      pub first-set : Holds z p q (set cs (firstCell z p s) x) (withSubgoals v (updated (v .subgoal) s (withFirst (v .subgoal s) x)))
       first-set =
           let f = subgoal-inside wide H s l m in
           subgoal-changed wide H s (withFirst (v .subgoal s) x) l m (set-kept (subgoalAt z p s) (z .subgoal) 4 cs x (omega arith))
           (first-read cs (subgoalAt z p s) x (omega arith) ∙ ap (λ (y : Subgoal). withFirst y x) (H .subgoal-held s l m))
 
-      pub last-set : Holds z p q (set cs (subgoalAt z p s + 5) x) (withSubgoals v (updated (v .subgoal) s (withEnd (v .subgoal s) x)))
+      pub last-set : Holds z p q (set cs (lastCell z p s) x) (withSubgoals v (updated (v .subgoal) s (withEnd (v .subgoal s) x)))
       last-set =
           let f = subgoal-inside wide H s l m in
           subgoal-changed wide H s (withEnd (v .subgoal s) x) l m (set-kept (subgoalAt z p s) (z .subgoal) 5 cs x (omega arith))
@@ -163,7 +163,7 @@ module _ {z : Sizes} (wide : Wide z) {p q : ℕ} {cs : List ℕ} {v : View} (H :
         (writes-kept (answerAt z q a) (answerAt z q a + z .answer) (answerTo (answerAt z q a) y) cs (λ j i. omega arith) (λ j i. omega arith))
         (answer-written (answerAt z q a) y cs (omega arith))
 
-    pub next-set : (x : ℕ) → Holds z p q (set cs (answerAt z q a + 2) x) (withAnswers v (updated (v .answer) a (withNext (v .answer a) x)))
+    pub next-set : (x : ℕ) → Holds z p q (set cs (nextCell z q a) x) (withAnswers v (updated (v .answer) a (withNext (v .answer a) x)))
     next-set x =
         let f = answer-inside wide H a l m in
         answer-changed wide H a (withNext (v .answer a) x) l m (set-kept (answerAt z q a) (z .answer) 2 cs x (omega arith))

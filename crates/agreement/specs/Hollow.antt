@@ -8,8 +8,7 @@ use Rattle.basis.specs.Choice.{pick}
 use Rattle.basis.specs.Writes.{put, writes}
 use Rattle.plain.specs.Coding.{edition1}
 use Rattle.plain.specs.Requests.{Request, call, answer, finish, next, load, instance, counts, Open, Counts, Reply, new, oldSubgoal, oldAnswer, done, at, none, cells, used, refused, short, Result, lent}
-use Rattle.space.specs.Layout.{sizes, subgoalAt}
-use Rattle.store.specs.Changes.{nodesCell}
+use Rattle.space.specs.Layout.{sizes, nodesCell, lastCell}
 use Rattle.store.specs.Calls.{cellStep, countedCells}
 
 abbrev pub Library : Type 0
@@ -61,7 +60,7 @@ unfoldable pub lastOnce : Library
 lastOnce cs (call t) = calls cs (call t)
 lastOnce cs (answer s t) =
     let r = calls cs (answer s t) in
-    let k = subgoalAt sizes (getD cs 5 0) s + 5 in
+    let k = lastCell sizes (getD cs 5 0) s in
     record { reply = r .reply; out = r .out; state = pick (eqb (getD cs k 0) 0) (r .state) (writes (put k (getD cs k 0) ∷ []) (r .state)) }
 lastOnce cs (finish s) = calls cs (finish s)
 lastOnce cs (next s a) = calls cs (next s a)

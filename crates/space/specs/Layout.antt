@@ -21,6 +21,16 @@ sizes = record { node = 5; subgoal = 6; answer = 3 }
 abbrev pub most : ℕ
 most = 1048576
 
+-- the header's cells that count nodes, subgoals and answers
+abbrev pub nodesCell : ℕ
+nodesCell = 1
+
+abbrev pub subgoalsCell : ℕ
+subgoalsCell = 2
+
+abbrev pub answersCell : ℕ
+answersCell = 3
+
 -- the offsets for N nodes, F subgoals and A answers
 abbrev pub subgoalOffset : Sizes → ℕ → ℕ
 subgoalOffset z n = 8 + z .node * n
@@ -50,6 +60,19 @@ siblingCell z n = nodeAt z n + 2
 
 abbrev pub linkCell : Sizes → ℕ → ℕ
 linkCell z n = nodeAt z n + 4
+
+-- the cells of subgoal s and of answer a that are written alone
+abbrev pub stateCell : Sizes → ℕ → ℕ → ℕ
+stateCell z offset s = subgoalAt z offset s + 3
+
+abbrev pub firstCell : Sizes → ℕ → ℕ → ℕ
+firstCell z offset s = subgoalAt z offset s + 4
+
+abbrev pub lastCell : Sizes → ℕ → ℕ → ℕ
+lastCell z offset s = subgoalAt z offset s + 5
+
+abbrev pub nextCell : Sizes → ℕ → ℕ → ℕ
+nextCell z offset a = answerAt z offset a + 2
 
 -- the record whose cells begin at k
 abbrev pub nodeFrom : List ℕ → ℕ → Node

@@ -1,12 +1,12 @@
-// The header of a space, read and judged.
+// The header of a space, read and judged; and its counts, written.
 use super::Capacity;
 use super::Head;
 use super::Header;
 use basis::wide;
 ghost use mathlib.Core.Path.{_≡_};
 ghost use Prim.Native.Nat.{_<_, _≤_};
-ghost use lib.ListN.{length};
-ghost use Rattle.space.specs.Layout.{sizes};
+ghost use lib.ListN.{length, set};
+ghost use Rattle.space.specs.Layout.{sizes, nodesCell, subgoalsCell, answersCell};
 ghost use Rattle.basis.specs.Choice.{pick};
 ghost use Rattle.space.specs.Heading.{inRange, capacity, headOf, counted, headerOf};
 ghost use Rattle.space.specs.declared.Header.the-variants.{Sound, Refused};
@@ -100,4 +100,22 @@ pub fn read_header(space: &[u32]) -> Header
         }
     }
     Header::Refused(1)
+}
+
+// The counts after a new subgoal: its nodes came with it.
+pub fn write_subgoal_counts(space: &mut [u32], nodes: u32, subgoals: u32)
+    requires { ⌜ 8 ≤ length (now space) ⌝ }
+    ensures { λ r. ⌜ now (space .exit) ≡ set (set (now (space .entry)) nodesCell nodes) subgoalsCell subgoals ⌝ }
+{
+    space[1] = nodes;
+    space[2] = subgoals;
+}
+
+// The counts after a new answer.
+pub fn write_answer_counts(space: &mut [u32], nodes: u32, answers: u32)
+    requires { ⌜ 8 ≤ length (now space) ⌝ }
+    ensures { λ r. ⌜ now (space .exit) ≡ set (set (now (space .entry)) nodesCell nodes) answersCell answers ⌝ }
+{
+    space[1] = nodes;
+    space[3] = answers;
 }

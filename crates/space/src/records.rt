@@ -1,4 +1,4 @@
-// Node, subgoal and answer records: read whole, judged, written whole.
+// Node, subgoal and answer records: read whole, judged, written whole; and the cells of them that are written alone.
 use super::Answer;
 use super::AnswerRead;
 use super::Head;
@@ -11,7 +11,7 @@ ghost use mathlib.Core.Path.{_≡_};
 ghost use Prim.Native.Nat.{_<_, _≤_, _+_};
 ghost use lib.ListN.{length, set};
 ghost use Rattle.basis.specs.Writes.{writes};
-ghost use Rattle.space.specs.Layout.{sizes, most, nodeAt, linkCell, subgoalAt, answerAt, nodeIn, subgoalIn, answerIn, nodeTo, subgoalTo, answerTo};
+ghost use Rattle.space.specs.Layout.{sizes, most, nodeAt, linkCell, subgoalAt, answerAt, stateCell, firstCell, lastCell, nextCell, nodeIn, subgoalIn, answerIn, nodeTo, subgoalTo, answerTo};
 ghost use Rattle.space.specs.Judging.{follows, bothOrNeither, nodeSound, subgoalSound, answerSound, readNode, readSubgoal, readAnswer};
 ghost use Rattle.space.specs.Sound.{Bounds, NodesIn, NodeCells, SubgoalCells, AnswerCells};
 
@@ -218,6 +218,33 @@ pub fn write_subgoal(space: &mut [u32], h: Head, s: usize, y: Subgoal)
     space[at + 5] = y.last as u32;
 }
 
+// The state of subgoal s written alone.
+pub fn write_state(space: &mut [u32], h: Head, s: usize, state: u32)
+    requires { ⌜ Bounds (now space) h × (1 ≤ s) × (s ≤ h .«subgoal_capacity») ⌝ }
+    ensures { λ r. ⌜ now (space .exit) ≡ set (now (space .entry)) (stateCell sizes (h .«subgoal_offset») s) state ⌝ }
+{
+    let at = h.subgoal_offset + 6 * (s - 1);
+    space[at + 3] = state;
+}
+
+// Its first answer written alone.
+pub fn write_first(space: &mut [u32], h: Head, s: usize, first: u32)
+    requires { ⌜ Bounds (now space) h × (1 ≤ s) × (s ≤ h .«subgoal_capacity») ⌝ }
+    ensures { λ r. ⌜ now (space .exit) ≡ set (now (space .entry)) (firstCell sizes (h .«subgoal_offset») s) first ⌝ }
+{
+    let at = h.subgoal_offset + 6 * (s - 1);
+    space[at + 4] = first;
+}
+
+// Its last answer written alone.
+pub fn write_last(space: &mut [u32], h: Head, s: usize, last: u32)
+    requires { ⌜ Bounds (now space) h × (1 ≤ s) × (s ≤ h .«subgoal_capacity») ⌝ }
+    ensures { λ r. ⌜ now (space .exit) ≡ set (now (space .entry)) (lastCell sizes (h .«subgoal_offset») s) last ⌝ }
+{
+    let at = h.subgoal_offset + 6 * (s - 1);
+    space[at + 5] = last;
+}
+
 // Answer a written whole.
 pub fn write_answer(space: &mut [u32], h: Head, a: usize, y: Answer)
     requires { ⌜ Bounds (now space) h × (1 ≤ a) × (a ≤ h .«answer_capacity») × AnswerCells y ⌝ }
@@ -227,4 +254,13 @@ pub fn write_answer(space: &mut [u32], h: Head, a: usize, y: Answer)
     space[at] = y.leaf as u32;
     space[at + 1] = y.subgoal as u32;
     space[at + 2] = y.next as u32;
+}
+
+// The answer after answer a written alone.
+pub fn write_next(space: &mut [u32], h: Head, a: usize, next: u32)
+    requires { ⌜ Bounds (now space) h × (1 ≤ a) × (a ≤ h .«answer_capacity») ⌝ }
+    ensures { λ r. ⌜ now (space .exit) ≡ set (now (space .entry)) (nextCell sizes (h .«answer_offset») a) next ⌝ }
+{
+    let at = h.answer_offset + 3 * (a - 1);
+    space[at + 2] = next;
 }

@@ -17,7 +17,7 @@ use Rattle.forms.specs.Converting.{reading}
 use Rattle.forms.specs.declared.Reading.the-variants.{Form, Refusal}
 use Rattle.plain.specs.Coding.{judged, handedOn, compacted}
 use Rattle.plain.specs.Requests.{answer, lent, Reply, new, oldAnswer, refused}
-use Rattle.space.specs.Layout.{sizes, nodeIn, subgoalIn, answerIn, linkCell, subgoalAt, answerAt, answerTo}
+use Rattle.space.specs.Layout.{sizes, nodesCell, answersCell, nodeIn, subgoalIn, answerIn, linkCell, answerAt, firstCell, lastCell, nextCell, answerTo}
 use Rattle.space.specs.Judging.{nodeSound, subgoalSound, answerSound, readNode, readSubgoal, readAnswer}
 use Rattle.space.specs.Sound.{Bounds}
 use Rattle.space.specs.declared.Head.{Head}
@@ -43,11 +43,11 @@ use Rattle.store.proofs.CallsCases.{Decided, Comes, decided-says, comes
 -- ---- the writes of a new answer
 
 module _ (cs : List ℕ) (h : Head) (s : ℕ) (g : Subgoal) (a : ℕ) where
-  pub chain-first : g .last ≡ 0 → set cs (subgoalAt sizes (h .«subgoal_offset») s + 4) a ≡ writes (chained sizes h s g a) cs
-  chain-first e = rw (eq-eqb (g .last) 0 e)
+  pub chain-first : (cs′ : List ℕ) → g .last ≡ 0 → cs′ ≡ set cs (firstCell sizes (h .«subgoal_offset») s) a → cs′ ≡ writes (chained sizes h s g a) cs
+  chain-first cs′ e w = rw (eq-eqb (g .last) 0 e) w
 
-  pub chain-next : (g .last ≡ 0 → ⊥) → set cs (answerAt sizes (h .«answer_offset») (g .last) + 2) a ≡ writes (chained sizes h s g a) cs
-  chain-next e = rw (ne-eqb (g .last) 0 e)
+  pub chain-next : (cs′ : List ℕ) → (g .last ≡ 0 → ⊥) → cs′ ≡ set cs (nextCell sizes (h .«answer_offset») (g .last)) a → cs′ ≡ writes (chained sizes h s g a) cs
+  chain-next cs′ e w = rw (ne-eqb (g .last) 0 e) w
 
   -- the chain's cell is none of the header's
   chain-apart : (j : ℕ) → j < 8 → Bounds cs h → Apart j (chained sizes h s g a)
@@ -65,16 +65,17 @@ writes-append [] ys s = refl
 writes-append (put i v ∷ xs) ys s = writes-append xs ys (set s i v)
 
 -- the writes one after another
-pub answer-entered : (cs : List ℕ) (h : Head) (s : ℕ) (g : Subgoal) (leaf nodes : ℕ) (s1 s2 s3 : List ℕ) →
+pub answer-entered : (cs : List ℕ) (h : Head) (s : ℕ) (g : Subgoal) (leaf nodes : ℕ) (s1 s2 s3 s4 s5 : List ℕ) →
     s1 ≡ set cs (linkCell sizes leaf) (h .answers + 1) →
     s2 ≡ writes (chained sizes h s g (h .answers + 1)) s1 →
     s3 ≡ writes (answerTo (answerAt sizes (h .«answer_offset») (h .answers + 1)) (record { leaf = leaf; subgoal = s; next = 0 })) s2 →
-    set (set (set s3 (subgoalAt sizes (h .«subgoal_offset») s + 5) (h .answers + 1)) 1 nodes) 3 (h .answers + 1) ≡ answerEntered sizes cs h s g leaf nodes
+    s4 ≡ set s3 (lastCell sizes (h .«subgoal_offset») s) (h .answers + 1) →
+    s5 ≡ set (set s4 nodesCell nodes) answersCell (h .answers + 1) → s5 ≡ answerEntered sizes cs h s g leaf nodes
 unfolding answerEntered
-answer-entered cs h s g leaf nodes s1 s2 s3 e f k =
+answer-entered cs h s g leaf nodes s1 s2 s3 s4 s5 e f k x y =
     let ends = answerTo (answerAt sizes (h .«answer_offset») (h .answers + 1)) (record { leaf = leaf; subgoal = s; next = 0 })
-    ++ (put (subgoalAt sizes (h .«subgoal_offset») s + 5) (h .answers + 1) ∷ put 1 nodes ∷ put 3 (h .answers + 1) ∷ []) in
-    rw (k, f, e) (writes-append (chained sizes h s g (h .answers + 1)) ends (set cs (linkCell sizes leaf) (h .answers + 1)))
+    ++ (put (lastCell sizes (h .«subgoal_offset») s) (h .answers + 1) ∷ put nodesCell nodes ∷ put answersCell (h .answers + 1) ∷ []) in
+    rw (y, x, k, f, e) (writes-append (chained sizes h s g (h .answers + 1)) ends (set cs (linkCell sizes leaf) (h .answers + 1)))
 
 -- ---- the last answer
 

@@ -15,7 +15,7 @@ use Rattle.forms.specs.Converting.{reading}
 use Rattle.forms.specs.declared.Reading.the-variants.{Form, Refusal}
 use Rattle.plain.specs.Coding.{judged, handedOn, predicate, compacted, edition1}
 use Rattle.plain.specs.Requests.{State, Open, Finished, Request, call, answer, finish, lent, Reply, new, oldSubgoal, done, refused}
-use Rattle.space.specs.Layout.{sizes, nodeIn, subgoalIn, nodeAt, linkCell, subgoalAt, nodeTo, subgoalTo}
+use Rattle.space.specs.Layout.{sizes, nodesCell, subgoalsCell, nodeIn, subgoalIn, nodeAt, linkCell, subgoalAt, stateCell, nodeTo, subgoalTo}
 use Rattle.space.specs.Heading.{headerOf}
 use Rattle.space.specs.Judging.{subgoalSound, readSubgoal}
 use Rattle.space.specs.declared.Head.{Head}
@@ -101,7 +101,7 @@ module _ (cs : List ℕ) (h : Head) (s : ℕ) where
         (decided-says cs h (refused 9))
 
     pub finish-done : (y : Subgoal) (cs′ : List ℕ) → subgoal.Sound y ≡ readSubgoal (h .nodes) (h .answers) (subgoalIn sizes cs (h .«subgoal_offset»)) s →
-        cs′ ≡ set cs (subgoalAt sizes (h .«subgoal_offset») s + 3) 1 → Comes cs h (finish s) done cs′
+        cs′ ≡ set cs (stateCell sizes (h .«subgoal_offset») s) 1 → Comes cs h (finish s) done cs′
     unfolding decide lent reply change
     finish-done y cs′ e w =
         comes cs h (finish s) (finishes s) done cs′ refl
@@ -180,14 +180,14 @@ module _ (cs : List ℕ) (h : Head) (parent last : ℕ) (left : List ℕ) (m : �
     new-entered cs′ f w = let t = lt-ltb (h .subgoals) (h .«subgoal_capacity») f in (rw (room, t), rw (room, t) w)
 
 -- the writes of a new subgoal one after another
-pub subgoal-entered : (cs : List ℕ) (h : Head) (parent last : ℕ) (left : List ℕ) (m : ℕ) (s1 s2 s3 s4 : List ℕ) →
+pub subgoal-entered : (cs : List ℕ) (h : Head) (parent last : ℕ) (left : List ℕ) (m : ℕ) (s1 s2 s3 s4 s5 : List ℕ) →
     s1 ≡ appendPath sizes cs (h .nodes) parent last left →
     s2 ≡ set s1 (linkCell sizes (h .nodes + length left - 1)) (h .subgoals + 1) →
     s3 ≡ writes (nodeTo (nodeAt sizes (h .nodes + length left)) (newRoot (h .nodes + length left))) s2 →
     s4 ≡ writes (subgoalTo (subgoalAt sizes (h .«subgoal_offset») (h .subgoals + 1)) (newSubgoal (h .nodes + length left - 1) (h .nodes + length left) m)) s3 →
-    set (set s4 1 (h .nodes + length left + 1)) 2 (h .subgoals + 1) ≡ subgoalEntered sizes cs h parent last left m
+    s5 ≡ set (set s4 nodesCell (h .nodes + length left + 1)) subgoalsCell (h .subgoals + 1) → s5 ≡ subgoalEntered sizes cs h parent last left m
 unfolding subgoalEntered
-subgoal-entered cs h parent last left m s1 s2 s3 s4 a b c d = rw (d, c, b, a)
+subgoal-entered cs h parent last left m s1 s2 s3 s4 s5 a b c d e = rw (e, d, c, b, a)
 
 -- after the walk of a form
 module _ (cs : List ℕ) (h : Head) (w : Walk) (m : ℕ) where

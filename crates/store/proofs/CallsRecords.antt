@@ -5,11 +5,11 @@ use mathlib.Core.Bool.{Bool, true, false}
 use mathlib.Core.List.{List, [], _∷_}
 use native.Mathlib.Omega.{arith}
 use mathlib.Core.Logic.{inl}
-use lib.ListN.{length, getD, set, length-set}
+use lib.ListN.{length, getD, set}
 use Rattle.basis.specs.Choice.{pick}
 use Rattle.basis.specs.Writes.{Write, put, writes}
 use Rattle.basis.proofs.WritesLaws.{Apart, length-writes, writes-frame}
-use Rattle.space.specs.Layout.{sizes, nodeAt, linkCell, nodeTo}
+use Rattle.space.specs.Layout.{sizes, nodeAt, linkCell, answerAt, nodeTo, answerTo}
 use Rattle.space.specs.Judging.{subgoalSound, answerSound, readSubgoal, readAnswer}
 use Rattle.space.specs.Sound.{Bounds}
 use Rattle.space.specs.declared.Head.{Head}
@@ -72,6 +72,9 @@ module _ (s s′ : List ℕ) (h : Head) (b : Bounds s h) where
   pub bounds-node : (n : ℕ) (y : Node) → s′ ≡ writes (nodeTo (nodeAt sizes n) y) s → Bounds s′ h
   bounds-node n y e = bounds-writes (nodeTo (nodeAt sizes n) y) (omega arith) (omega arith) (omega arith) e
 
+  pub bounds-answer : (a : ℕ) (y : Answer) → s′ ≡ writes (answerTo (answerAt sizes (h .«answer_offset») a) y) s → Bounds s′ h
+  bounds-answer a y e = bounds-writes (answerTo (answerAt sizes (h .«answer_offset») a) y) (omega arith) (omega arith) (omega arith) e
+
   pub bounds-appended : (parent last : ℕ) (xs : List ℕ) → parent < h .nodes → last < h .nodes → s′ ≡ appendPath sizes s (h .nodes) parent last xs → Bounds s′ h
   bounds-appended parent last xs p l e =
       bounds-kept s s′ h b
@@ -79,17 +82,3 @@ module _ (s s′ : List ℕ) (h : Head) (b : Bounds s h) where
       (ap (λ (y : List ℕ). getD y 1 0) e ∙ append-frame xs s (h .nodes) parent last 1 p l (inl (omega arith)))
       (ap (λ (y : List ℕ). getD y 2 0) e ∙ append-frame xs s (h .nodes) parent last 2 p l (inl (omega arith)))
       (ap (λ (y : List ℕ). getD y 3 0) e ∙ append-frame xs s (h .nodes) parent last 3 p l (inl (omega arith)))
-
--- cells that are set leave the length, and so every index
-pub set-holds : (s : List ℕ) (i v k : ℕ) → k < length s → k < length (set s i v)
-set-holds s i v k h = omega (arith, length-set s i v)
-
-module _ (s : List ℕ) (i v j w : ℕ) where
-  pub two-sized : length (set (set s i v) j w) ≡ length s
-  two-sized = length-set (set s i v) j w ∙ length-set s i v
-
-  pub two-hold : (k : ℕ) → k < length s → k < length (set (set s i v) j w)
-  two-hold k h = omega (arith, two-sized)
-
-  pub three-sized : (k x : ℕ) → length (set (set (set s i v) j w) k x) ≡ length s
-  three-sized k x = length-set (set (set s i v) j w) k x ∙ two-sized

@@ -6,14 +6,14 @@ use lib.ListN.{length, drop, getD}
 use Rattle.basis.specs.Choice.{pick}
 use Rattle.plain.specs.Coding.{Coding, edition1}
 use Rattle.plain.specs.Requests.{Request, lent, Counts, Reply, new, done, cells, refused, short, Result, Seen, trace}
-use Rattle.space.specs.Layout.{Sizes, sizes}
+use Rattle.space.specs.Layout.{Sizes, sizes, nodesCell, subgoalsCell, answersCell}
 use Rattle.space.specs.Heading.{headerOf}
 use Rattle.space.specs.declared.Head.{Head}
 use Rattle.space.specs.declared.Header.{Header}
 use Rattle.space.specs.declared.Header.the-variants as header
 use Rattle.store.specs.Views.{View, viewOf}
 use Rattle.store.specs.Decisions.{Decision, says, gives, entersSubgoal, entersAnswer, entersEmpty, finishes, decide}
-use Rattle.store.specs.Changes.{nodesCell, subgoalsCell, answersCell, change}
+use Rattle.store.specs.Changes.{change}
 
 -- what the call answers, out being so long; cells that do not fit are 12 with the need
 unfoldable pub reply : View → Decision → ℕ → Reply

@@ -6,22 +6,12 @@ use lib.ListN.{length}
 use Rattle.basis.specs.Choice.{pick}
 use Rattle.basis.specs.Writes.{Write, put, writes}
 use Rattle.plain.specs.Words.{Word}
-use Rattle.space.specs.Layout.{Sizes, nodeAt, linkCell, subgoalAt, answerAt, nodeTo, subgoalTo, answerTo, subgoalIn}
+use Rattle.space.specs.Layout.{Sizes, nodesCell, subgoalsCell, answersCell, nodeAt, linkCell, subgoalAt, answerAt, stateCell, firstCell, lastCell, nextCell, nodeTo, subgoalTo, answerTo, subgoalIn}
 use Rattle.space.specs.declared.Head.{Head}
 use Rattle.space.specs.declared.Subgoal.{Subgoal}
 use Rattle.space.specs.declared.Answer.{Answer}
 use Rattle.trie.specs.Append.{newRoot, appendPath}
 use Rattle.store.specs.Decisions.{Decision, says, gives, entersSubgoal, entersAnswer, entersEmpty, finishes}
-
--- the header's cells that count nodes, subgoals and answers
-abbrev pub nodesCell : ℕ
-nodesCell = 1
-
-abbrev pub subgoalsCell : ℕ
-subgoalsCell = 2
-
-abbrev pub answersCell : ℕ
-answersCell = 3
 
 -- a new subgoal is open and has no answer
 abbrev pub newSubgoal : ℕ → ℕ → ℕ → Subgoal
@@ -43,8 +33,8 @@ subgoalEntered z cs h parent last left m =
 abbrev pub chained : Sizes → Head → ℕ → Subgoal → ℕ → List Write
 chained z h s g a =
     pick (eqb (g .last) 0)
-    (put (subgoalAt z (h .«subgoal_offset») s + 4) a ∷ [])
-    (put (answerAt z (h .«answer_offset») (g .last) + 2) a ∷ [])
+    (put (firstCell z (h .«subgoal_offset») s) a ∷ [])
+    (put (nextCell z (h .«answer_offset») (g .last)) a ∷ [])
 
 -- the leaf linked to the answer, the chain, the record, the subgoal's last answer, the counts
 unfoldable pub answerEntered : Sizes → List ℕ → Head → ℕ → Subgoal → ℕ → ℕ → List ℕ
@@ -54,7 +44,7 @@ answerEntered z cs h s g leaf nodes =
     (put (linkCell z leaf) a
     ∷ (chained z h s g a
     ++ (answerTo (answerAt z (h .«answer_offset») a) (record { leaf = leaf; subgoal = s; next = 0 })
-    ++ (put (subgoalAt z (h .«subgoal_offset») s + 5) a ∷ put nodesCell nodes ∷ put answersCell a ∷ []))))
+    ++ (put (lastCell z (h .«subgoal_offset») s) a ∷ put nodesCell nodes ∷ put answersCell a ∷ []))))
     cs
 
 unfoldable pub change : Sizes → List ℕ → Head → Decision → List ℕ
@@ -66,4 +56,4 @@ change z cs h (entersAnswer s parent last left) =
 change z cs h (entersEmpty s) =
     let g = subgoalIn z cs (h .«subgoal_offset») s in
     answerEntered z cs h s g (g .root) (h .nodes)
-change z cs h (finishes s) = writes (put (subgoalAt z (h .«subgoal_offset») s + 3) 1 ∷ []) cs
+change z cs h (finishes s) = writes (put (stateCell z (h .«subgoal_offset») s) 1 ∷ []) cs

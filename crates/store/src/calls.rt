@@ -16,13 +16,19 @@ use space::NodeRead;
 use space::Subgoal;
 use space::SubgoalRead;
 use space::heading::read_header;
+use space::heading::write_answer_counts;
+use space::heading::write_subgoal_counts;
 use space::records::node_in;
 use space::records::read_answer;
 use space::records::read_node;
 use space::records::read_subgoal;
 use space::records::write_answer;
+use space::records::write_first;
+use space::records::write_last;
 use space::records::write_link;
+use space::records::write_next;
 use space::records::write_node;
+use space::records::write_state;
 use space::records::write_subgoal;
 use trie::Walked;
 use trie::appends::append_path;
@@ -63,8 +69,7 @@ fn finish_in(space: &mut [u32], h: Head, s: usize) -> FinishAnswer
     let SubgoalRead::Sound(_) = read_subgoal(space, h, s) else {
         return FinishAnswer::Refused(9);
     };
-    let at = h.subgoal_offset + 6 * (s - 1);
-    space[at + 3] = 1;
+    write_state(space, h, s, 1);
     FinishAnswer::Done
 }
 
@@ -139,8 +144,7 @@ fn enter_subgoal(space: &mut [u32], h: Head, parent: usize, last: usize, tokens:
         last: 0,
     };
     write_subgoal(space, h, s, record);
-    space[1] = (root + 1) as u32;
-    space[2] = s as u32;
+    write_subgoal_counts(space, (root + 1) as u32, s as u32);
 }
 
 // The path stopped below a node: a node for each token left and an answer root are new.
@@ -276,12 +280,10 @@ fn chain(space: &mut [u32], h: Head, s: usize, g: Subgoal, a: usize)
 {
     let last = g.last;
     if last == 0 {
-        let at = h.subgoal_offset + 6 * (s - 1);
-        space[at + 4] = a as u32;
+        write_first(space, h, s, a as u32);
         return;
     }
-    let at = h.answer_offset + 3 * (last - 1);
-    space[at + 2] = a as u32;
+    write_next(space, h, last, a as u32);
 }
 
 // The leaf linked to the answer, the chain, the record, the subgoal's last answer, the counts.
@@ -299,10 +301,8 @@ fn enter_answer(space: &mut [u32], h: Head, s: usize, g: Subgoal, leaf: usize, n
         next: 0,
     };
     write_answer(space, h, a, record);
-    let at = h.subgoal_offset + 6 * (s - 1);
-    space[at + 5] = a as u32;
-    space[1] = nodes as u32;
-    space[3] = a as u32;
+    write_last(space, h, s, a as u32);
+    write_answer_counts(space, nodes as u32, a as u32);
 }
 
 // A new answer whose leaf is the answer root: that of no terms.

@@ -1,9 +1,7 @@
 -- `store::calls::enter_subgoal` meets its contract.
-use mathlib.Core.Path.{_∙_, _≡_}
-use lib.ListN.{length}
 use native.Mathlib.Omega.{arith}
 use Rattle.space.specs.Sound.{Bounds}
-use Rattle.store.proofs.CallsRecords.{bounds-appended, bounds-linked, bounds-node, set-holds, two-sized}
+use Rattle.store.proofs.CallsRecords.{bounds-appended, bounds-linked, bounds-node}
 use Rattle.store.proofs.CallsCases.{subgoal-entered}
 use borrow.Author.Needs.{needs}
 use Rattle.store.proofs.calls.enter_subgoal.Statement.{statement}
@@ -17,9 +15,6 @@ bounds c =
     (bounds-appended _ _ _ (c .before .before .before .before .before .before .before .before .before .before .before .before .before .before .before .before .before .pre .0 .0) _ _ _ (search needs) (search needs) (c .before .before .before .before .before .before .before .before .before .before .before .append-path .ensures))
     _ _ (c .before .before .before .before .before .before .before .write-link .ensures))
     _ _ (c .before .before .before .write-node .ensures)
-
-sized : (c : tie.After-slice-known5) → length (c .before .before .write-subgoal .last .0) ≡ length (c .before .before .before .before .before .before .before .before .before .before .before .before .before .before .before .before .before .before .before .before .args .space .now)
-sized c = c .before .before .write-subgoal .kept .0 ∙ c .before .before .before .before .before .before .write-node .kept .0 ∙ c .before .before .before .before .before .before .before .before .before .before .write-link .kept .0 ∙ c .before .before .before .before .before .before .before .before .before .before .before .before .before .before .append-path .kept .0
 
 add-root : tie.Need-add-root
 add-root c = search needs
@@ -45,26 +40,23 @@ write-node-requires c κs = search needs
 write-subgoal-requires : tie.Need-write-subgoal-requires
 write-subgoal-requires c κs = (bounds c, search needs, search needs, record { leaf-fits = omega arith; root-fits = omega arith; variables-fit = omega arith; state-fits = omega arith; first-fits = omega arith; last-fits = omega arith })
 
-add-space : tie.Need-add-space
-add-space c = search needs
+add-write-subgoal-counts : tie.Need-add-write-subgoal-counts
+add-write-subgoal-counts c = search needs
 
-cast-space : tie.Need-cast-space
-cast-space c = search needs
+cast-write-subgoal-counts : tie.Need-cast-write-subgoal-counts
+cast-write-subgoal-counts c = search needs
 
-slice-write-space : tie.Need-slice-write-space
-slice-write-space c = search needs
+cast-write-subgoal-counts-2 : tie.Need-cast-write-subgoal-counts-2
+cast-write-subgoal-counts-2 c = search needs
 
-cast-space-2 : tie.Need-cast-space-2
-cast-space-2 c = search needs
-
-slice-write-space-2 : tie.Need-slice-write-space-2
-slice-write-space-2 c = set-holds (c .before .before .write-subgoal .last .0) _ _ 2 (omega (arith, sized c))
+write-subgoal-counts-requires : tie.Need-write-subgoal-counts-requires
+write-subgoal-counts-requires c κs = search needs
 
 same-length : tie.Need-same-length
-same-length c = two-sized (c .before .before .write-subgoal .last .0) _ _ _ _ ∙ sized c
+same-length c = search needs
 
 returns : tie.Need-returns
-returns c = subgoal-entered _ _ _ _ _ _ _ _ _ _ (c .before .before .before .before .before .before .before .before .before .before .before .before .before .before .append-path .ensures) (c .before .before .before .before .before .before .before .before .before .before .write-link .ensures) (c .before .before .before .before .before .before .write-node .ensures) (c .before .before .write-subgoal .ensures)
+returns c = subgoal-entered _ _ _ _ _ _ _ _ _ _ _ (c .before .before .before .before .before .before .before .before .before .before .before .before .before .before .before .before .before .before .append-path .ensures) (c .before .before .before .before .before .before .before .before .before .before .before .before .before .before .write-link .ensures) (c .before .before .before .before .before .before .before .before .before .before .write-node .ensures) (c .before .before .before .before .before .before .write-subgoal .ensures) (c .before .before .write-subgoal-counts .ensures)
 
 pub enter-subgoal-spec : {M : Type 1} → statement M
 enter-subgoal-spec =
@@ -78,10 +70,9 @@ enter-subgoal-spec =
     write-link-requires
     write-node-requires
     write-subgoal-requires
-    add-space
-    cast-space
-    slice-write-space
-    cast-space-2
-    slice-write-space-2
+    add-write-subgoal-counts
+    cast-write-subgoal-counts
+    cast-write-subgoal-counts-2
+    write-subgoal-counts-requires
     same-length
     returns)
