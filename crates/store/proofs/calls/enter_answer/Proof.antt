@@ -16,7 +16,7 @@ in-chain : (x : tie.After-chain) → Bounds (x .chain .last .0) (x .before .befo
 in-chain x = bounds-chained (x .before .before .before .before .write-link .last .0) (x .before .before .before .before .before .before .before .before .args .h) (x .before .before .before .before .before .before .before .before .args .s) (x .before .before .before .before .before .before .before .before .args .g) (x .before .before .before .before .before .before .before .before .args .h .answers + 1) (x .chain .last .0) (linked (x .before .before .before .before)) (x .chain .ensures)
 
 recorded : (x : tie.After-write-answer) → Bounds (x .write-answer .last .0) (x .before .before .before .before .before .before .before .before .before .before .before .before .args .h)
-recorded x = bounds-answer _ _ _ (in-chain (x .before .before .before .before)) _ _ (x .write-answer .ensures)
+recorded x = bounds-answer _ _ _ (in-chain (x .before .before .before .before)) (x .before .before .before .before .before .before .before .before .before .before .before .before .args .h .answers + 1) _ (x .write-answer .ensures)
 
 add-a : tie.Need-add-a
 add-a c = search needs
