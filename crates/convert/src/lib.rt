@@ -133,12 +133,16 @@ fn expand_with(s: &[u32], m: usize, cells: &mut [u32], out: &mut [u32]) -> Answe
     Answer::Cells(k)
 }
 
-// Expands the form of m terms in s into out. Short forms get a short buffer.
+// Expands the form of m terms in s into out. Short forms get short buffers, since each is cleared first.
 pub fn expand(s: &[u32], m: usize, out: &mut [u32]) -> Answer
     ensures { λ r. ⌜ (r ≡ expanding arity16 m (now (s .entry)) (length (now (out .entry)))) × (now (out .exit) ≡ written r (pairForm arity16 (now (s .entry))) (now (out .entry))) ⌝ }
 {
     if s.len() <= 16 {
         let mut cells = [0u32; 32];
+        return expand_with(s, m, &mut cells, out);
+    }
+    if s.len() <= 64 {
+        let mut cells = [0u32; 128];
         return expand_with(s, m, &mut cells, out);
     }
     let mut cells = [0u32; 766];

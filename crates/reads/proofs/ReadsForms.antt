@@ -8,7 +8,7 @@ use native.Mathlib.Numerals.{add-one}
 use lib.ListN.{length, getD, drop, drop-of-length-le}
 use lib.Seq.{drop-cons}
 use lib.Dec.{eqb}
-use borrow.Author.Tests.{eq-eqb, ne-eqb, eqb-true}
+use borrow.Author.Tests.{eq-eqb, ne-eqb}
 use Rattle.basis.proofs.Cases.{by-cases}
 use Rattle.forms.specs.Cells.{payload, variable}
 use Rattle.forms.specs.Numbering.{met, numbered}
@@ -80,9 +80,3 @@ module _ (arity : ℕ → ℕ) (m : ℕ) (w : List ℕ) where
 
   pub no-subgoal-form : false ≡ legalForm arity 1 w → false ≡ (legalForm arity 1 w && eqb (length (met [] w)) m)
   no-subgoal-form t = rw (← t) refl
-
-  pub subgoal-form-parts : (legalForm arity 1 w && eqb (length (met [] w)) m) ≡ true → (legalForm arity 1 w ≡ true) × (length (met [] w) ≡ m)
-  subgoal-form-parts t =
-      by-cases (legalForm arity 1 w)
-      (λ l. (l, eqb-true (length (met [] w)) m (rw l at t)))
-      (λ l. let d = rw l at t in let z : _≡_ {A = ℕ} 0 1 = cc in absurd (omega arith))

@@ -191,18 +191,37 @@ fn instance_with(
     Answer::Refused(9)
 }
 
-// The same with buffers of its own: short forms get short ones.
-pub fn instance_path(path: &[u32], form: &[u32], m: usize, out: &mut [u32]) -> Answer
+// The same with a buffer of its own for the path. Short paths and forms get short buffers, since each is cleared first.
+fn instance_beside(
+    path: &[u32],
+    form: &[u32],
+    m: usize,
+    terms: &mut [u32],
+    out: &mut [u32],
+) -> Answer
+    requires { ⌜ (length (now form) ≤ 383 → 2 * length (now form) ≤ length (now terms)) ⌝ }
     ensures { λ r. ⌜ ((v : View) → (saidCells r ≡ reply v (onPath (tokens (now (form .entry))) (legalForm arity16 m) (λ y. onPath (tokens (now (path .entry))) (λ u. legalForm arity16 1 u && eqb (length (met [] u)) m) (λ u. gives (edition1 .instanceOf u y)))) (length (now (out .entry)))) × (now (out .exit) ≡ outAfter (onPath (tokens (now (form .entry))) (legalForm arity16 m) (λ y. onPath (tokens (now (path .entry))) (λ u. legalForm arity16 1 u && eqb (length (met [] u)) m) (λ u. gives (edition1 .instanceOf u y)))) (now (out .entry)))) ⌝ }
 {
     if path.len() <= 16 {
-        if form.len() <= 16 {
-            let mut cells = [0u32; 32];
-            let mut terms = [0u32; 32];
-            return instance_with(path, form, m, &mut cells, &mut terms, out);
-        }
+        let mut cells = [0u32; 32];
+        return instance_with(path, form, m, &mut cells, terms, out);
     }
     let mut cells = [0u32; 766];
+    instance_with(path, form, m, &mut cells, terms, out)
+}
+
+// The same with buffers of its own for both.
+pub fn instance_path(path: &[u32], form: &[u32], m: usize, out: &mut [u32]) -> Answer
+    ensures { λ r. ⌜ ((v : View) → (saidCells r ≡ reply v (onPath (tokens (now (form .entry))) (legalForm arity16 m) (λ y. onPath (tokens (now (path .entry))) (λ u. legalForm arity16 1 u && eqb (length (met [] u)) m) (λ u. gives (edition1 .instanceOf u y)))) (length (now (out .entry)))) × (now (out .exit) ≡ outAfter (onPath (tokens (now (form .entry))) (legalForm arity16 m) (λ y. onPath (tokens (now (path .entry))) (λ u. legalForm arity16 1 u && eqb (length (met [] u)) m) (λ u. gives (edition1 .instanceOf u y)))) (now (out .entry)))) ⌝ }
+{
+    if form.len() <= 16 {
+        let mut terms = [0u32; 32];
+        return instance_beside(path, form, m, &mut terms, out);
+    }
+    if form.len() <= 64 {
+        let mut terms = [0u32; 128];
+        return instance_beside(path, form, m, &mut terms, out);
+    }
     let mut terms = [0u32; 766];
-    instance_with(path, form, m, &mut cells, &mut terms, out)
+    instance_beside(path, form, m, &mut terms, out)
 }

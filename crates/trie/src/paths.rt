@@ -39,7 +39,7 @@ fn climb(
     if most == 0 {
         return LOST;
     }
-    // Lent anew, the space comes down in registers; handed on, each level copied its address and length.
+    // Lent anew, not handed on: the space would then be copied at each level before its address is read.
     let k = climb(&space[..], nodes, links, root, y.parent, most - 1, out);
     if k < most {
         out[k] = y.token;
