@@ -39,17 +39,6 @@ module _ (n : ℕ) (cells out : List ℕ) where
 pub cells-decoded : (n : ℕ) (b a x : List ℕ) → 4 * n ≡ length b → x ≡ cellsOf b ++ drop n a → take n x ≡ cellsOf b
 cells-decoded n b a x e q = rw q (take-at (cellsOf b) (drop n a) n (omega (arith, cells-length b)))
 
--- the reader's refusals are small numbers
-refusal-tests : (r k w : ℕ) (a b c : Bool) → Refusal r ≡ pick a (Refusal 4) (pick b (pick c (Refusal 5) (Form k w)) (Refusal 3)) → r ≤ 5
-refusal-tests r k w true b c e = let z : r ≡ 4 = cc in omega arith
-refusal-tests r k w false true true e = let z : r ≡ 5 = cc in omega arith
-refusal-tests r k w false true false e = let z : _≡_ {A = ℕ} 0 1 = cc in absurd (omega arith)
-refusal-tests r k w false false c e = let z : r ≡ 3 = cc in omega arith
-
-pub refusal-small : (m r : ℕ) (s : List ℕ) → Refusal r ≡ reading arity16 m s → r ≤ 5
-unfolding reading
-refusal-small m r s e = refusal-tests r (length (compactForm arity16 s)) (length (met [] s)) (ltb 256 (length s)) (areTerms arity16 m s) (ltb 32 (length (met [] s))) e
-
 module _ (b out : List ℕ) where
   -- ---- a byte count not divisible by 4
 

@@ -1,4 +1,2 @@
 pub mod BytesLaws
 pub mod ExportLaws
-pub mod ReplyBounds
-pub mod WordLaws

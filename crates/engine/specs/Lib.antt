@@ -1,6 +1,3 @@
 pub mod Bytes
 pub mod Export
-pub mod Words
-pub mod Bounded
 pub mod Examples
-pub mod WordExamples

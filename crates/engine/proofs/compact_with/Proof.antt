@@ -10,7 +10,8 @@ use Rattle.forms.specs.Converting.{reading}
 use Rattle.convert.proofs.AnswerLaws.{taken-room, reading-length}
 use Rattle.engine.specs.Bytes.{cellsOf}
 use Rattle.engine.proofs.BytesLaws.{cells-length}
-use Rattle.engine.proofs.ExportLaws.{cells-decoded, refusal-small, compact-refused, compact-form}
+use Rattle.engine.proofs.ExportLaws.{cells-decoded, compact-refused, compact-form}
+use Rattle.words.proofs.ReplyBounds.{refusal-small}
 use borrow.Author.Needs.{needs}
 use Rattle.engine.proofs.compact_with.Statement.{statement}
 use Rattle.engine.proofs.compact_with.Tie as tie

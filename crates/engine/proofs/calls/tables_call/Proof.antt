@@ -1,6 +1,6 @@
 -- `engine::calls::tables_call` meets its contract: the word of what `call` gives.
-use Rattle.engine.proofs.WordLaws.{given-word, given-bounded}
-use Rattle.engine.proofs.ReplyBounds.{step-bounded}
+use Rattle.words.proofs.WordLaws.{given-word, given-bounded}
+use Rattle.words.proofs.ReplyBounds.{step-bounded}
 use borrow.Author.Needs.{needs}
 use Rattle.engine.proofs.calls.tables_call.Statement.{statement}
 use Rattle.engine.proofs.calls.tables_call.Tie as tie

@@ -5,9 +5,9 @@ use lib.ListN.{length-set}
 use Rattle.basis.proofs.Tests.{told}
 use Rattle.store.specs.Replies.{saidCounts}
 use Rattle.store.specs.declared.CountsAnswer.the-variants.{Used, Refused}
-use Rattle.engine.specs.Words.{word, countsOf}
-use Rattle.engine.proofs.ReplyBounds.{step-bounded}
-use Rattle.engine.proofs.WordLaws.{given-bounded, counts-refused, counts-short, counts-given}
+use Rattle.words.specs.Words.{word, countsOf}
+use Rattle.words.proofs.ReplyBounds.{step-bounded}
+use Rattle.words.proofs.WordLaws.{given-bounded, counts-refused, counts-short, counts-given}
 use borrow.Author.Needs.{needs}
 use Rattle.engine.proofs.calls.tables_counts.Statement.{statement}
 use Rattle.engine.proofs.calls.tables_counts.Tie as tie

@@ -1,8 +1,8 @@
 -- `engine::calls::tables_fresh` meets its contract: the word of what `fresh` gives.
 use mathlib.Core.Path.{ap}
-use Rattle.engine.specs.Words.{saidFresh}
-use Rattle.engine.proofs.WordLaws.{given-word, given-bounded}
-use Rattle.engine.proofs.ReplyBounds.{fresh-bounded}
+use Rattle.words.specs.Words.{saidFresh}
+use Rattle.words.proofs.WordLaws.{given-word, given-bounded}
+use Rattle.words.proofs.ReplyBounds.{fresh-bounded}
 use borrow.Author.Needs.{needs}
 use Rattle.engine.proofs.calls.tables_fresh.Statement.{statement}
 use Rattle.engine.proofs.calls.tables_fresh.Tie as tie

@@ -1,11 +1,11 @@
--- `engine::calls::old_word` meets its contract: each state by its word.
+-- `old_word` meets its contract: each state by its word.
 use Rattle.plain.specs.Requests.{oldSubgoal}
 use Rattle.store.specs.Replies.{saidState}
-use Rattle.engine.specs.Words.{word}
-use Rattle.engine.proofs.WordLaws.{said-word}
+use Rattle.words.specs.Words.{word}
+use Rattle.words.proofs.WordLaws.{said-word}
 use borrow.Author.Needs.{needs}
-use Rattle.engine.proofs.calls.old_word.Statement.{statement}
-use Rattle.engine.proofs.calls.old_word.Tie as tie
+use Rattle.words.proofs.old_word.Statement.{statement}
+use Rattle.words.proofs.old_word.Tie as tie
 
 enum-told : tie.Need-enum-told
 enum-told c = search needs

@@ -1,8 +1,8 @@
--- `engine::calls::refusal_word` meets its contract.
-use Rattle.engine.specs.Words.{word}
+-- `refusal_word` meets its contract.
+use Rattle.words.specs.Words.{word}
 use borrow.Author.Needs.{needs}
-use Rattle.engine.proofs.calls.refusal_word.Statement.{statement}
-use Rattle.engine.proofs.calls.refusal_word.Tie as tie
+use Rattle.words.proofs.refusal_word.Statement.{statement}
+use Rattle.words.proofs.refusal_word.Tie as tie
 
 add-result-word : tie.Need-add-result-word
 add-result-word c = search needs

@@ -1,10 +1,10 @@
--- `engine::calls::fresh_word` meets its contract: each variant by its word.
+-- `fresh_word` meets its contract: each variant by its word.
 use native.Mathlib.Omega.{arith}
-use Rattle.engine.specs.Words.{word, saidFresh}
-use Rattle.engine.proofs.WordLaws.{said-word, said-bounded}
+use Rattle.words.specs.Words.{word, saidFresh}
+use Rattle.words.proofs.WordLaws.{said-word, said-bounded}
 use borrow.Author.Needs.{needs}
-use Rattle.engine.proofs.calls.fresh_word.Statement.{statement}
-use Rattle.engine.proofs.calls.fresh_word.Tie as tie
+use Rattle.words.proofs.fresh_word.Statement.{statement}
+use Rattle.words.proofs.fresh_word.Tie as tie
 
 enum-told : tie.Need-enum-told
 enum-told c = search needs

@@ -9,7 +9,7 @@ use Rattle.space.specs.Heading.{inRange, capacity, whole, counted, headerOf}
 use Rattle.space.specs.Fresh.{freshCells, freshFits, freshAnswer}
 use Rattle.store.specs.Decisions.{decide}
 use Rattle.store.specs.Calls.{reply, under, cellStep}
-use Rattle.engine.specs.Words.{word, saidFresh, counting, countsReply, countsOut, countsOf}
+use Rattle.words.specs.Words.{word, saidFresh, counting, countsReply, countsOut, countsOf}
 
 -- a fresh space for four nodes, two subgoals and one answer: 43 cells
 abbrev space : List ℕ

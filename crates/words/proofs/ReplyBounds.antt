@@ -9,9 +9,9 @@ use lib.ListN.{length, getD, length-append}
 use Rattle.basis.specs.Choice.{pick}
 use Rattle.basis.proofs.Cases.{by-cases}
 use Rattle.forms.specs.Cells.{variable, payload, arity16}
-use Rattle.forms.specs.Terms.{Term, cell, arg, pair, pairs, every}
+use Rattle.forms.specs.Terms.{Term, cell, arg, pair, pairs, every, areTerms}
 use Rattle.forms.specs.Numbering.{met}
-use Rattle.forms.specs.Compact.{formTerms, pairForm, legalForm}
+use Rattle.forms.specs.Compact.{compactForm, formTerms, pairForm, legalForm}
 use Rattle.forms.specs.Converting.{reading}
 use Rattle.forms.specs.declared.Reading as forms
 use Rattle.forms.specs.declared.Reading.the-variants.{Form, Refusal}
@@ -33,9 +33,19 @@ use Rattle.trie.specs.Paths as path
 use Rattle.store.specs.Views.{View, viewOf, subgoalTrie, answerTrie}
 use Rattle.store.specs.Decisions.{Decision, says, gives, entersSubgoal, entersAnswer, entersEmpty, finishes, refuses, soundSubgoal, soundAnswer, soundAnswerOf, sound, known, stateOf, soundLast, whileOpen, calledOld, calledNew, calledAt, called, answeredNew, answeredOld, answeredAt, answered, starting, handed, onward, onPath, loaded, instanced, soundPair, decide}
 use Rattle.store.specs.Calls.{reply, under, cellStep}
-use Rattle.engine.specs.Words.{saidFresh}
-use Rattle.engine.specs.Bounded.{Bounded}
-use Rattle.engine.proofs.ExportLaws.{refusal-small}
+use Rattle.words.specs.Words.{saidFresh}
+use Rattle.words.specs.Bounded.{Bounded}
+
+-- the reader's refusals are small numbers
+refusal-tests : (r k w : ℕ) (a b c : Bool) → Refusal r ≡ pick a (Refusal 4) (pick b (pick c (Refusal 5) (Form k w)) (Refusal 3)) → r ≤ 5
+refusal-tests r k w true b c e = let z : r ≡ 4 = cc in omega arith
+refusal-tests r k w false true true e = let z : r ≡ 5 = cc in omega arith
+refusal-tests r k w false true false e = let z : _≡_ {A = ℕ} 0 1 = cc in absurd (omega arith)
+refusal-tests r k w false false c e = let z : r ≡ 3 = cc in omega arith
+
+pub refusal-small : (m r : ℕ) (s : List ℕ) → Refusal r ≡ reading arity16 m s → r ≤ 5
+unfolding reading
+refusal-small m r s e = refusal-tests r (length (compactForm arity16 s)) (length (met [] s)) (ltb 256 (length s)) (areTerms arity16 m s) (ltb 32 (length (met [] s))) e
 
 -- ---- the cells of an instance
 

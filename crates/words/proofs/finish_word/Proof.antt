@@ -1,11 +1,11 @@
--- `engine::calls::finish_word` meets its contract: each variant by its word.
+-- `finish_word` meets its contract: each variant by its word.
 use native.Mathlib.Omega.{arith}
 use Rattle.store.specs.Replies.{saidFinish}
-use Rattle.engine.specs.Words.{word}
-use Rattle.engine.proofs.WordLaws.{said-word, said-bounded}
+use Rattle.words.specs.Words.{word}
+use Rattle.words.proofs.WordLaws.{said-word, said-bounded}
 use borrow.Author.Needs.{needs}
-use Rattle.engine.proofs.calls.finish_word.Statement.{statement}
-use Rattle.engine.proofs.calls.finish_word.Tie as tie
+use Rattle.words.proofs.finish_word.Statement.{statement}
+use Rattle.words.proofs.finish_word.Tie as tie
 
 enum-told : tie.Need-enum-told
 enum-told c = search needs

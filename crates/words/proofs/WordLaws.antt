@@ -6,8 +6,8 @@ use native.Mathlib.Omega.{arith}
 use lib.ListN.{length, drop, set}
 use borrow.Author.Tests.{le-leb, lt-leb}
 use Rattle.plain.specs.Requests.{Counts, Reply, used, refused, short}
-use Rattle.engine.specs.Words.{word, counting, countsReply, countsOut}
-use Rattle.engine.specs.Bounded.{Bounded}
+use Rattle.words.specs.Words.{word, counting, countsReply, countsOut}
+use Rattle.words.specs.Bounded.{Bounded}
 
 -- ---- an answer and the variant that it is
 

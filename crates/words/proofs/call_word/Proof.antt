@@ -1,11 +1,11 @@
--- `engine::calls::call_word` meets its contract: each variant by its word.
+-- `call_word` meets its contract: each variant by its word.
 use native.Mathlib.Omega.{arith}
 use Rattle.store.specs.Replies.{saidCall}
-use Rattle.engine.specs.Words.{word}
-use Rattle.engine.proofs.WordLaws.{said-word, said-bounded}
+use Rattle.words.specs.Words.{word}
+use Rattle.words.proofs.WordLaws.{said-word, said-bounded}
 use borrow.Author.Needs.{needs}
-use Rattle.engine.proofs.calls.call_word.Statement.{statement}
-use Rattle.engine.proofs.calls.call_word.Tie as tie
+use Rattle.words.proofs.call_word.Statement.{statement}
+use Rattle.words.proofs.call_word.Tie as tie
 
 enum-known-answer : tie.Need-enum-known-answer
 enum-known-answer c = search needs

@@ -1,0 +1,2 @@
+pub mod ReplyBounds
+pub mod WordLaws

@@ -1,0 +1,133 @@
+// The result word of each answer: what was answered in its upper half, the value in its lower.
+use forms::Answer;
+use space::FreshAnswer;
+use store::AnswerAnswer;
+use store::CallAnswer;
+use store::FinishAnswer;
+use store::NextAnswer;
+use store::State;
+ghost use mathlib.Core.Path.{_≡_};
+ghost use Prim.Native.Nat.{_≤_};
+ghost use Rattle.plain.specs.Requests as request;
+ghost use Rattle.store.specs.Replies.{saidState, saidCall, saidAnswer, saidFinish, saidNext, saidCells};
+ghost use Rattle.words.specs.Words.{worded, word, saidFresh};
+ghost use Rattle.words.specs.Bounded.{Bounded};
+
+// ---- what was answered: the upper half of a result word; REFUSED is added to the refusal's number
+
+const DONE: u32 = 0;
+
+const NEW: u32 = 1;
+
+const OLD: u32 = 2;
+
+const OLD_OPEN: u32 = 3;
+
+const OLD_FINISHED: u32 = 4;
+
+const AT: u32 = 5;
+
+const NO_MORE: u32 = 6;
+
+const CELLS: u32 = 7;
+
+pub const COUNTS: u32 = 8;
+
+pub const REFUSED: u32 = 256;
+
+// ---- result words
+
+// What was answered in the upper half, its value in the lower; two cells always fit a word.
+pub fn result_word(what: u32, value: u32) -> u64
+    ensures { λ r. ⌜ r ≡ worded what value ⌝ }
+{
+    what as u64 * 4294967296 + value as u64
+}
+
+// The word of a refusal without a value: of every one but 12. A bound keeps the sum within a cell.
+pub fn refusal_word(r: u32) -> u64
+    requires { ⌜ r ≤ 13 ⌝ }
+    ensures { λ w. ⌜ w ≡ word (request.refused r) ⌝ }
+{
+    result_word(REFUSED + r, 0)
+}
+
+// What fresh answers is said as the calls say it.
+pub fn fresh_word(answer: FreshAnswer) -> u64
+    requires { ⌜ Bounded (saidFresh answer) ⌝ }
+    ensures { λ w. ⌜ w ≡ word (saidFresh answer) ⌝ }
+{
+    match answer {
+        FreshAnswer::Done => return result_word(DONE, 0),
+        FreshAnswer::Refused(r) => return refusal_word(r),
+    }
+}
+
+// A subgoal that was there before: its state is told by the upper half, so its number keeps the lower.
+fn old_word(n: u32, state: State) -> u64
+    ensures { λ w. ⌜ w ≡ word (request.oldSubgoal n (saidState state)) ⌝ }
+{
+    match state {
+        State::Open => return result_word(OLD_OPEN, n),
+        State::Finished => return result_word(OLD_FINISHED, n),
+    }
+}
+
+// The number is that of a subgoal.
+pub fn call_word(answer: CallAnswer) -> u64
+    requires { ⌜ Bounded (saidCall answer) ⌝ }
+    ensures { λ w. ⌜ w ≡ word (saidCall answer) ⌝ }
+{
+    match answer {
+        CallAnswer::New(n) => return result_word(NEW, n),
+        CallAnswer::Old(n, state) => return old_word(n, state),
+        CallAnswer::Refused(r) => return refusal_word(r),
+    }
+}
+
+// The number is that of an answer; an old one has no state.
+pub fn answer_word(answer: AnswerAnswer) -> u64
+    requires { ⌜ Bounded (saidAnswer answer) ⌝ }
+    ensures { λ w. ⌜ w ≡ word (saidAnswer answer) ⌝ }
+{
+    match answer {
+        AnswerAnswer::New(n) => return result_word(NEW, n),
+        AnswerAnswer::Old(n) => return result_word(OLD, n),
+        AnswerAnswer::Refused(r) => return refusal_word(r),
+    }
+}
+
+// Done whether or not the subgoal was finished before.
+pub fn finish_word(answer: FinishAnswer) -> u64
+    requires { ⌜ Bounded (saidFinish answer) ⌝ }
+    ensures { λ w. ⌜ w ≡ word (saidFinish answer) ⌝ }
+{
+    match answer {
+        FinishAnswer::Done => return result_word(DONE, 0),
+        FinishAnswer::Refused(r) => return refusal_word(r),
+    }
+}
+
+// That there is none more is no refusal, and no answer has number 0.
+pub fn next_word(answer: NextAnswer) -> u64
+    requires { ⌜ Bounded (saidNext answer) ⌝ }
+    ensures { λ w. ⌜ w ≡ word (saidNext answer) ⌝ }
+{
+    match answer {
+        NextAnswer::At(n) => return result_word(AT, n),
+        NextAnswer::NoMore => return result_word(NO_MORE, 0),
+        NextAnswer::Refused(r) => return refusal_word(r),
+    }
+}
+
+// For load and instance: the cells written, or with 12 the cells needed. Neither count passes 256 * 257.
+pub fn cells_word(answer: Answer) -> u64
+    requires { ⌜ Bounded (saidCells answer) ⌝ }
+    ensures { λ w. ⌜ w ≡ word (saidCells answer) ⌝ }
+{
+    match answer {
+        Answer::Cells(n) => return result_word(CELLS, n as u32),
+        Answer::Short(n) => return result_word(REFUSED + 12, n as u32),
+        Answer::Refused(r) => return refusal_word(r),
+    }
+}
