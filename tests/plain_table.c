@@ -1,55 +1,80 @@
-/* The plain table: terms stored as forms in lists, and expanded, with nodes counted as prefixes. */
+/* The plain table of document 01: subgoals and answers as lists of compact forms, no trie. */
 #include "plain_table.h"
 
 #include <stdbool.h>
 #include <stdio.h>
 #include <stdlib.h>
-#include <string.h>
 
-/* Limits of an argument, and of the form of its terms. */
-enum { MOST_CELLS = 256, MOST_VARIABLES = 32, MOST_TOKENS = 383 };
+/* Kind = cell divided by 2^28, payload = the remainder. */
+#define KIND_UNIT (UINT32_C(1) << 28)
 
-/* Kinds of cells, and the cells without a payload. */
-enum {
-    VARIABLE = 1,
-    ATOM = 2,
-    INTEGER = 3,
-    FUNCTOR = 4,
-    PAIR = 5,
-    BLIST = 6,
-    ELIST = 7,
-    EPAIR = 8
+enum kind {
+    KIND_VARIABLE = 1,
+    KIND_ATOM = 2,
+    KIND_INTEGER = 3,
+    KIND_FUNCTOR = 4,
+    KIND_PAIR = 5,
+    KIND_BLIST = 6,
+    KIND_ELIST = 7,
+    KIND_EPAIR = 8
 };
 
-static const uint32_t empty_list = (uint32_t)ATOM << 28;
+static const uint32_t EMPTY_LIST = KIND_ATOM * KIND_UNIT;
+static const uint32_t PAIR = KIND_PAIR * KIND_UNIT;
+static const uint32_t BLIST = KIND_BLIST * KIND_UNIT;
+static const uint32_t ELIST = KIND_ELIST * KIND_UNIT;
+static const uint32_t EPAIR = KIND_EPAIR * KIND_UNIT;
 
-/* What comes of a call, and the refusals' numbers above REFUSED. */
-enum { DONE, NEW, OLD, OLD_OPEN, OLD_FINISHED, AT, NONE, CELLS, COUNTS, REFUSED = 256 };
-
-static uint64_t word(uint32_t what, size_t value)
-{
-    return (uint64_t)what * (UINT64_C(1) << 32) + value;
-}
-
-static uint64_t refused(uint32_t refusal)
-{
-    return word(REFUSED + refusal, 0);
-}
-
-/* A row of cells with room for any argument, form or loaded answer. */
-struct row {
-    size_t count;
-    uint32_t cell[MOST_TOKENS + 1];
+enum limit {
+    MOST_CELLS = 256,
+    MOST_VARIABLES = 32,
+    MOST_TOKENS = (3 * MOST_CELLS - 1) / 2
 };
 
+/* What came of a call: the upper 32 bits of the result word. */
+enum outcome {
+    OUTCOME_DONE = 0,
+    OUTCOME_NEW = 1,
+    OUTCOME_OLD = 2,
+    OUTCOME_OLD_OPEN = 3,
+    OUTCOME_OLD_FINISHED = 4,
+    OUTCOME_AT = 5,
+    OUTCOME_NONE = 6,
+    OUTCOME_CELLS = 7,
+    OUTCOME_COUNTS = 8,
+    OUTCOME_REFUSED = 256
+};
+
+/* The numbers of the refusals, in the order in which they are checked. */
+enum refusal {
+    REFUSAL_NONE = 0,
+    REFUSAL_NUMBER = 7,
+    REFUSAL_STATE = 8,
+    REFUSAL_LENGTH = 4,
+    REFUSAL_TERM = 3,
+    REFUSAL_VARIABLES = 5,
+    REFUSAL_PREDICATE = 6,
+    REFUSAL_NODES = 10,
+    REFUSAL_RECORDS_LEFT = 11,
+    REFUSAL_OUT = 12
+};
+
+/* Numbered terms one after another, in pair form. */
+struct pair_form {
+    size_t length;
+    uint32_t cells[MOST_CELLS];
+};
+
+/* The compact form of terms one after another, none for an answer with m = 0, and how many
+   distinct variables they have together: m, where the form is a subgoal's. */
 struct form {
-    size_t count;
-    uint32_t *token;
+    uint32_t variables;
+    size_t length;
+    uint32_t tokens[MOST_TOKENS];
 };
 
 struct subgoal {
     struct form form;
-    uint32_t variables;
     bool finished;
 };
 
@@ -58,435 +83,639 @@ struct answer {
     struct form form;
 };
 
-/* The lists' members are numbered from 1, so number n stands at n - 1. */
+/* Subgoal and answer numbers are places in the two lists, from 1. */
 struct plain_table {
-    uint32_t most_nodes, most_subgoals, most_answers;
-    uint32_t subgoals, answers;
-    struct subgoal *subgoal;
-    struct answer *answer;
+    uint32_t node_capacity;
+    uint32_t subgoal_capacity;
+    uint32_t answer_capacity;
+    uint32_t subgoal_count;
+    uint32_t answer_count;
+    struct subgoal *subgoals;
+    struct answer *answers;
 };
 
-/* Memory */
+/* Result words */
 
-static void *got(void *memory)
+static uint64_t result(enum outcome outcome, size_t value)
 {
-    if (memory == NULL) {
-        perror("plain table");
-        exit(2);
+    return ((uint64_t)outcome << 32) | (uint32_t)value;
+}
+
+static uint64_t refused(enum refusal refusal)
+{
+    return ((uint64_t)OUTCOME_REFUSED + (uint64_t)refusal) << 32;
+}
+
+static uint64_t refused_out(size_t need)
+{
+    return refused(REFUSAL_OUT) | (uint32_t)need;
+}
+
+/* Cells and terms */
+
+static uint32_t kind_of(uint32_t cell)
+{
+    return cell / KIND_UNIT;
+}
+
+static uint32_t payload_of(uint32_t cell)
+{
+    return cell % KIND_UNIT;
+}
+
+static uint32_t arity_of(uint32_t functor)
+{
+    return payload_of(functor) % 16;
+}
+
+/* How many terms follow a cell in pair form as its parts. */
+static uint32_t part_count(uint32_t cell)
+{
+    switch (kind_of(cell)) {
+    case KIND_FUNCTOR:
+        return arity_of(cell);
+    case KIND_PAIR:
+        return 2;
+    default:
+        return 0;
     }
-    return memory;
 }
 
-static struct form kept(const struct row *row)
+/* The part of refusal 3 that one cell shows by itself. */
+static bool is_legal_cell(uint32_t cell)
 {
-    struct form form = {row->count, got(malloc((row->count + 1) * sizeof *form.token))};
-    memcpy(form.token, row->cell, row->count * sizeof *form.token);
-    return form;
+    switch (kind_of(cell)) {
+    case KIND_VARIABLE:
+    case KIND_ATOM:
+    case KIND_INTEGER:
+        return true;
+    case KIND_FUNCTOR:
+        return arity_of(cell) != 0;
+    case KIND_PAIR:
+        return payload_of(cell) == 0;
+    default:
+        return false;
+    }
 }
+
+/* Refusal 3: whether the cells are exactly so many terms, with no cell missing or left over. */
+static bool are_terms(const uint32_t *cells, size_t cell_count, size_t term_count)
+{
+    size_t due = term_count;
+    for (size_t i = 0; i < cell_count; i++) {
+        if (due == 0 || !is_legal_cell(cells[i])) {
+            return false;
+        }
+        due = due - 1 + part_count(cells[i]);
+    }
+    return due == 0;
+}
+
+/* The place behind the legal term that starts at the given place. */
+static size_t term_end(const struct pair_form *terms, size_t start)
+{
+    size_t place = start;
+    for (size_t due = 1; due > 0; place++) {
+        due = due - 1 + part_count(terms->cells[place]);
+    }
+    return place;
+}
+
+/* The rank of a variable among those met, or their count if it is not among them. */
+static uint32_t rank_of(uint32_t variable, const uint32_t *met, uint32_t met_count)
+{
+    uint32_t rank = 0;
+    while (rank < met_count && met[rank] != variable) {
+        rank++;
+    }
+    return rank;
+}
+
+/* Numbered form: each variable's payload becomes its rank, from 0, by first meeting, through all
+   the terms. Returns how many distinct variables there are. */
+static uint32_t number_variables(const uint32_t *cells, size_t cell_count,
+                                 struct pair_form *numbered)
+{
+    uint32_t met[MOST_CELLS];
+    uint32_t met_count = 0;
+    numbered->length = cell_count;
+    for (size_t i = 0; i < cell_count; i++) {
+        numbered->cells[i] = cells[i];
+        if (kind_of(cells[i]) == KIND_VARIABLE) {
+            uint32_t rank = rank_of(cells[i], met, met_count);
+            if (rank == met_count) {
+                met[met_count++] = cells[i];
+            }
+            numbered->cells[i] = KIND_VARIABLE * KIND_UNIT + rank;
+        }
+    }
+    return met_count;
+}
+
+/* Compacting: from pair form to compact form */
+
+static void append_token(struct form *form, uint32_t token)
+{
+    form->tokens[form->length++] = token;
+}
+
+static void compact_list(const struct pair_form *terms, size_t *place, struct form *form);
+
+static void compact_term(const struct pair_form *terms, size_t *place, struct form *form)
+{
+    uint32_t cell = terms->cells[(*place)++];
+    if (cell == PAIR) {
+        compact_list(terms, place, form);
+        return;
+    }
+    append_token(form, cell);
+    for (uint32_t i = 0; i < part_count(cell); i++) {
+        compact_term(terms, place, form);
+    }
+}
+
+/* The first cell of the tail that follows the list element at the given place. */
+static uint32_t tail_after(const struct pair_form *terms, size_t element)
+{
+    return terms->cells[term_end(terms, element)];
+}
+
+/* Ending in []: BLIST, e1 to e(n-1), ELIST, en. Ending in t: BLIST, e1 to en, EPAIR, t.
+   The list's first pair has been passed: the place is that of e1. */
+static void compact_list(const struct pair_form *terms, size_t *place, struct form *form)
+{
+    append_token(form, BLIST);
+    while (tail_after(terms, *place) == PAIR) {
+        compact_term(terms, place, form);
+        (*place)++; /* the pair of the next element */
+    }
+    if (tail_after(terms, *place) == EMPTY_LIST) {
+        append_token(form, ELIST);
+        compact_term(terms, place, form);
+        (*place)++; /* the closing [], which is not stored */
+    } else {
+        compact_term(terms, place, form);
+        append_token(form, EPAIR);
+        compact_term(terms, place, form);
+    }
+}
+
+static void compact_terms(const struct pair_form *terms, struct form *form)
+{
+    size_t place = 0;
+    form->length = 0;
+    while (place < terms->length) {
+        compact_term(terms, &place, form);
+    }
+}
+
+/* The compact form of exactly so many terms one after another, or refusal 4, 3 or 5. */
+static enum refusal read_terms(const uint32_t *cells, size_t cell_count, size_t term_count,
+                               struct form *form)
+{
+    struct pair_form numbered;
+    if (cell_count > MOST_CELLS) {
+        return REFUSAL_LENGTH;
+    }
+    if (!are_terms(cells, cell_count, term_count)) {
+        return REFUSAL_TERM;
+    }
+    form->variables = number_variables(cells, cell_count, &numbered);
+    if (form->variables > MOST_VARIABLES) {
+        return REFUSAL_VARIABLES;
+    }
+    compact_terms(&numbered, form);
+    return REFUSAL_NONE;
+}
+
+/* Expanding: from compact form to pair form */
+
+static void append_cell(struct pair_form *terms, uint32_t cell)
+{
+    terms->cells[terms->length++] = cell;
+}
+
+static void expand_list(const struct form *form, size_t *place, struct pair_form *terms);
+
+static void expand_term(const struct form *form, size_t *place, struct pair_form *terms)
+{
+    uint32_t token = form->tokens[(*place)++];
+    if (token == BLIST) {
+        expand_list(form, place, terms);
+        return;
+    }
+    append_cell(terms, token);
+    for (uint32_t i = 0; i < part_count(token); i++) {
+        expand_term(form, place, terms);
+    }
+}
+
+static bool ends_list(uint32_t token)
+{
+    return token == ELIST || token == EPAIR;
+}
+
+/* BLIST has been passed. ELIST stands before the last element, EPAIR behind it. */
+static void expand_list(const struct form *form, size_t *place, struct pair_form *terms)
+{
+    while (!ends_list(form->tokens[*place])) {
+        append_cell(terms, PAIR);
+        expand_term(form, place, terms);
+    }
+    if (form->tokens[(*place)++] == ELIST) {
+        append_cell(terms, PAIR);
+        expand_term(form, place, terms);
+        append_cell(terms, EMPTY_LIST);
+    } else {
+        expand_term(form, place, terms);
+    }
+}
+
+static void expand_terms(const struct form *form, struct pair_form *terms)
+{
+    size_t place = 0;
+    terms->length = 0;
+    while (place < form->length) {
+        expand_term(form, &place, terms);
+    }
+}
+
+/* Forms and their prefixes */
+
+static size_t common_prefix(const struct form *one, const struct form *other)
+{
+    size_t length = 0;
+    while (length < one->length && length < other->length &&
+           one->tokens[length] == other->tokens[length]) {
+        length++;
+    }
+    return length;
+}
+
+static bool are_equal(const struct form *one, const struct form *other)
+{
+    return one->length == other->length && common_prefix(one, other) == one->length;
+}
+
+/* The non-empty prefixes of a form that none of the first so many subgoals has. */
+static size_t prefixes_new_to_subgoals(const struct plain_table *table, const struct form *form,
+                                       uint32_t subgoal_count)
+{
+    size_t longest = 0;
+    for (uint32_t i = 0; i < subgoal_count; i++) {
+        size_t common = common_prefix(form, &table->subgoals[i].form);
+        longest = common > longest ? common : longest;
+    }
+    return form->length - longest;
+}
+
+/* The non-empty prefixes of a form that none of the first so many answers, as far as they are
+   answers of the given subgoal, has. */
+static size_t prefixes_new_to_answers(const struct plain_table *table, uint32_t subgoal,
+                                      const struct form *form, uint32_t answer_count)
+{
+    size_t longest = 0;
+    for (uint32_t i = 0; i < answer_count; i++) {
+        if (table->answers[i].subgoal == subgoal) {
+            size_t common = common_prefix(form, &table->answers[i].form);
+            longest = common > longest ? common : longest;
+        }
+    }
+    return form->length - longest;
+}
+
+/* The distinct non-empty prefixes of the subgoal forms, each counted at the first form that has
+   it. */
+static size_t subgoal_prefixes(const struct plain_table *table)
+{
+    size_t prefixes = 0;
+    for (uint32_t i = 0; i < table->subgoal_count; i++) {
+        prefixes += prefixes_new_to_subgoals(table, &table->subgoals[i].form, i);
+    }
+    return prefixes;
+}
+
+/* The distinct non-empty prefixes of each subgoal's answer forms, summed over the subgoals. */
+static size_t answer_prefixes(const struct plain_table *table)
+{
+    size_t prefixes = 0;
+    for (uint32_t i = 0; i < table->answer_count; i++) {
+        const struct answer *answer = &table->answers[i];
+        prefixes += prefixes_new_to_answers(table, answer->subgoal, &answer->form, i);
+    }
+    return prefixes;
+}
+
+/* The subgoal root, the subgoals' prefixes, an answer root for each subgoal, and the answers'
+   prefixes. */
+static size_t nodes_used(const struct plain_table *table)
+{
+    return 1 + subgoal_prefixes(table) + table->subgoal_count + answer_prefixes(table);
+}
+
+/* The two lists */
+
+/* Ends the program if memory runs out. */
+static void *resized(void *block, size_t bytes)
+{
+    void *moved = realloc(block, bytes);
+    if (moved == NULL) {
+        fputs("plain table: out of memory\n", stderr);
+        exit(EXIT_FAILURE);
+    }
+    return moved;
+}
+
+static bool is_number_within(uint32_t number, uint32_t count)
+{
+    return number != 0 && number <= count;
+}
+
+static const struct subgoal *subgoal_at(const struct plain_table *table, uint32_t number)
+{
+    return &table->subgoals[number - 1];
+}
+
+static const struct answer *answer_at(const struct plain_table *table, uint32_t number)
+{
+    return &table->answers[number - 1];
+}
+
+static bool is_answer_of(const struct plain_table *table, uint32_t answer, uint32_t subgoal)
+{
+    return is_number_within(answer, table->answer_count) &&
+           answer_at(table, answer)->subgoal == subgoal;
+}
+
+/* The number of the subgoal with an equal form, or 0. */
+static uint32_t find_subgoal(const struct plain_table *table, const struct form *form)
+{
+    for (uint32_t number = 1; number <= table->subgoal_count; number++) {
+        if (are_equal(&subgoal_at(table, number)->form, form)) {
+            return number;
+        }
+    }
+    return 0;
+}
+
+/* The number of the answer with an equal form under that subgoal, or 0. */
+static uint32_t find_answer(const struct plain_table *table, uint32_t subgoal,
+                            const struct form *form)
+{
+    for (uint32_t number = 1; number <= table->answer_count; number++) {
+        const struct answer *answer = answer_at(table, number);
+        if (answer->subgoal == subgoal && are_equal(&answer->form, form)) {
+            return number;
+        }
+    }
+    return 0;
+}
+
+static void append_subgoal(struct plain_table *table, const struct form *form)
+{
+    size_t place = table->subgoal_count;
+    table->subgoals = resized(table->subgoals, (place + 1) * sizeof *table->subgoals);
+    table->subgoals[place].form = *form;
+    table->subgoals[place].finished = false;
+    table->subgoal_count++;
+}
+
+static void append_answer(struct plain_table *table, uint32_t subgoal, const struct form *form)
+{
+    size_t place = table->answer_count;
+    table->answers = resized(table->answers, (place + 1) * sizeof *table->answers);
+    table->answers[place].subgoal = subgoal;
+    table->answers[place].form = *form;
+    table->answer_count++;
+}
+
+/* Refusals 10 and 11 of a new subgoal, whose answer root is one more node. */
+static enum refusal judge_new_subgoal(const struct plain_table *table, const struct form *form)
+{
+    size_t new_nodes = prefixes_new_to_subgoals(table, form, table->subgoal_count) + 1;
+    if (nodes_used(table) + new_nodes > table->node_capacity) {
+        return REFUSAL_NODES;
+    }
+    if (table->subgoal_count == table->subgoal_capacity) {
+        return REFUSAL_RECORDS_LEFT;
+    }
+    return REFUSAL_NONE;
+}
+
+/* Refusals 10 and 11 of a new answer. */
+static enum refusal judge_new_answer(const struct plain_table *table, uint32_t subgoal,
+                                     const struct form *form)
+{
+    size_t new_nodes = prefixes_new_to_answers(table, subgoal, form, table->answer_count);
+    if (nodes_used(table) + new_nodes > table->node_capacity) {
+        return REFUSAL_NODES;
+    }
+    if (table->answer_count == table->answer_capacity) {
+        return REFUSAL_RECORDS_LEFT;
+    }
+    return REFUSAL_NONE;
+}
+
+/* Writing to out, and instances */
+
+/* A loop because the standard copying functions forbid a null pointer even for no cells. */
+static void copy_cells(uint32_t *out, const uint32_t *cells, size_t count)
+{
+    for (size_t i = 0; i < count; i++) {
+        out[i] = cells[i];
+    }
+}
+
+/* A run of cells inside a pair form. */
+struct run {
+    const uint32_t *cells;
+    size_t length;
+};
+
+/* Term i of terms one after another, i from 0. */
+static struct run term_at(const struct pair_form *terms, uint32_t i)
+{
+    size_t start = 0;
+    for (uint32_t passed = 0; passed < i; passed++) {
+        start = term_end(terms, start);
+    }
+    return (struct run){&terms->cells[start], term_end(terms, start) - start};
+}
+
+/* What a cell of the subgoal is in the instance: term i for variable i, else the cell itself. */
+static struct run replacement(const uint32_t *cell, const struct pair_form *terms)
+{
+    if (kind_of(*cell) == KIND_VARIABLE) {
+        return term_at(terms, payload_of(*cell));
+    }
+    return (struct run){cell, 1};
+}
+
+static size_t instance_length(const struct pair_form *subgoal, const struct pair_form *terms)
+{
+    size_t length = 0;
+    for (size_t i = 0; i < subgoal->length; i++) {
+        length += replacement(&subgoal->cells[i], terms).length;
+    }
+    return length;
+}
+
+static void write_instance(const struct pair_form *subgoal, const struct pair_form *terms,
+                           uint32_t *out)
+{
+    size_t written = 0;
+    for (size_t i = 0; i < subgoal->length; i++) {
+        struct run run = replacement(&subgoal->cells[i], terms);
+        copy_cells(out + written, run.cells, run.length);
+        written += run.length;
+    }
+}
+
+/* The interface */
 
 struct plain_table *plain_table_open(uint32_t nodes, uint32_t subgoals, uint32_t answers)
 {
-    struct plain_table *table = got(calloc(1, sizeof *table));
-    table->most_nodes = nodes;
-    table->most_subgoals = subgoals;
-    table->most_answers = answers;
+    struct plain_table *table = resized(NULL, sizeof *table);
+    *table = (struct plain_table){
+        .node_capacity = nodes,
+        .subgoal_capacity = subgoals,
+        .answer_capacity = answers,
+    };
     return table;
 }
 
 void plain_table_close(struct plain_table *table)
 {
-    for (uint32_t i = 0; i < table->subgoals; i++)
-        free(table->subgoal[i].form.token);
-    for (uint32_t i = 0; i < table->answers; i++)
-        free(table->answer[i].form.token);
-    free(table->subgoal);
-    free(table->answer);
+    free(table->subgoals);
+    free(table->answers);
     free(table);
 }
 
-/* Reading terms */
-
-static uint32_t kind(uint32_t cell)
-{
-    return cell / (UINT32_C(1) << 28);
-}
-
-static uint32_t payload(uint32_t cell)
-{
-    return cell % (UINT32_C(1) << 28);
-}
-
-/* How many terms follow a cell of pair form; -1 for a cell that is not of pair form. */
-static int arguments(uint32_t cell)
-{
-    switch (kind(cell)) {
-    case VARIABLE:
-    case ATOM:
-    case INTEGER:
-        return 0;
-    case FUNCTOR:
-        return payload(cell) % 16 == 0 ? -1 : (int)(payload(cell) % 16);
-    case PAIR:
-        return payload(cell) == 0 ? 2 : -1;
-    default:
-        return -1;
-    }
-}
-
-/* The place behind the term that begins at `from`; behind count if there is no such term. */
-static size_t term_end(const uint32_t *cells, size_t count, size_t from)
-{
-    if (from >= count || arguments(cells[from]) < 0)
-        return count + 1;
-    size_t at = from + 1;
-    for (int due = arguments(cells[from]); due > 0 && at <= count; due--)
-        at = term_end(cells, count, at);
-    return at;
-}
-
-/* Are the cells exactly so many terms? */
-static bool are_terms(const uint32_t *cells, size_t count, uint32_t terms)
-{
-    size_t at = 0;
-    for (uint32_t i = 0; i < terms && at <= count; i++)
-        at = term_end(cells, count, at);
-    return at == count;
-}
-
-/* The numbered form: a variable's payload is its rank by first meeting. Gives their number. */
-static uint32_t number_variables(const uint32_t *cells, size_t count, struct row *numbered)
-{
-    uint32_t met[MOST_CELLS];
-    uint32_t variables = 0;
-    numbered->count = count;
-    for (size_t i = 0; i < count; i++) {
-        numbered->cell[i] = cells[i];
-        if (kind(cells[i]) != VARIABLE)
-            continue;
-        uint32_t rank = 0;
-        while (rank < variables && met[rank] != cells[i])
-            rank++;
-        if (rank == variables)
-            met[variables++] = cells[i];
-        numbered->cell[i] = ((uint32_t)VARIABLE << 28) + rank;
-    }
-    return variables;
-}
-
-/* Compact form */
-
-static void add(struct row *row, uint32_t cell)
-{
-    if (row->count > MOST_TOKENS) {
-        printf("failed: the plain table met a form of over 383 tokens\n");
-        exit(2);
-    }
-    row->cell[row->count++] = cell;
-}
-
-static size_t compact_term(const struct row *term, size_t from, struct row *form);
-
-/* The list that begins at `from`; its elements are counted first, since [] marks the last. */
-static size_t compact_list(const struct row *term, size_t from, struct row *form)
-{
-    size_t elements = 0, tail = from;
-    for (; kind(term->cell[tail]) == PAIR; elements++)
-        tail = term_end(term->cell, term->count, tail + 1);
-    bool proper = term->cell[tail] == empty_list;
-    add(form, (uint32_t)BLIST << 28);
-    for (size_t at = from; elements > 0; elements--) {
-        if (proper && elements == 1)
-            add(form, (uint32_t)ELIST << 28);
-        at = compact_term(term, at + 1, form);
-    }
-    if (proper)
-        return tail + 1;
-    add(form, (uint32_t)EPAIR << 28);
-    return compact_term(term, tail, form);
-}
-
-/* Adds the compact form of the term that begins at `from`; gives the place behind the term. */
-static size_t compact_term(const struct row *term, size_t from, struct row *form)
-{
-    if (kind(term->cell[from]) == PAIR)
-        return compact_list(term, from, form);
-    add(form, term->cell[from]);
-    size_t at = from + 1;
-    for (int due = arguments(term->cell[from]); due > 0; due--)
-        at = compact_term(term, at, form);
-    return at;
-}
-
-/* The form of so many terms that stand one after another: 0, or the refusal. */
-static uint32_t read_form(const uint32_t *cells, size_t count, uint32_t terms, struct row *form,
-                          uint32_t *variables)
-{
-    struct row numbered;
-    if (count > MOST_CELLS)
-        return 4;
-    if (!are_terms(cells, count, terms))
-        return 3;
-    *variables = number_variables(cells, count, &numbered);
-    if (*variables > MOST_VARIABLES)
-        return 5;
-    form->count = 0;
-    for (size_t at = 0; at < numbered.count;)
-        at = compact_term(&numbered, at, form);
-    return 0;
-}
-
-/* Expanding a stored form, which is legal */
-
-static size_t expand_term(const struct form *form, size_t from, struct row *term);
-
-static size_t expand_list(const struct form *form, size_t from, struct row *term)
-{
-    size_t at = from + 1;
-    while (kind(form->token[at]) != ELIST && kind(form->token[at]) != EPAIR) {
-        add(term, (uint32_t)PAIR << 28);
-        at = expand_term(form, at, term);
-    }
-    if (kind(form->token[at]) == EPAIR)
-        return expand_term(form, at + 1, term);
-    add(term, (uint32_t)PAIR << 28);
-    at = expand_term(form, at + 1, term);
-    add(term, empty_list);
-    return at;
-}
-
-static size_t expand_term(const struct form *form, size_t from, struct row *term)
-{
-    uint32_t token = form->token[from];
-    if (kind(token) == BLIST)
-        return expand_list(form, from, term);
-    add(term, token);
-    size_t at = from + 1;
-    for (int due = arguments(token); due > 0; due--)
-        at = expand_term(form, at, term);
-    return at;
-}
-
-static void expand(const struct form *form, struct row *terms)
-{
-    terms->count = 0;
-    for (size_t at = 0; at < form->count;)
-        at = expand_term(form, at, terms);
-}
-
-/* Nodes */
-
-static size_t shared_beginning(const struct form *one, const struct form *other)
-{
-    size_t length = 0;
-    while (length < one->count && length < other->count &&
-           one->token[length] == other->token[length])
-        length++;
-    return length;
-}
-
-/* The prefixes of subgoal form i that no form before it has: all beyond the longest shared. */
-static size_t subgoal_prefixes(const struct plain_table *table, uint32_t i)
-{
-    const struct form *form = &table->subgoal[i].form;
-    size_t longest = 0;
-    for (uint32_t j = 0; j < i; j++) {
-        size_t length = shared_beginning(form, &table->subgoal[j].form);
-        longest = length > longest ? length : longest;
-    }
-    return form->count - longest;
-}
-
-/* The same of answer form i, among those of the same subgoal. */
-static size_t answer_prefixes(const struct plain_table *table, uint32_t i)
-{
-    const struct answer *answer = &table->answer[i];
-    size_t longest = 0;
-    for (uint32_t j = 0; j < i; j++) {
-        if (table->answer[j].subgoal != answer->subgoal)
-            continue;
-        size_t length = shared_beginning(&answer->form, &table->answer[j].form);
-        longest = length > longest ? length : longest;
-    }
-    return answer->form.count - longest;
-}
-
-/* The distinct prefixes of each trie, and one for each root. */
-static size_t nodes_used(const struct plain_table *table)
-{
-    size_t nodes = 1 + (size_t)table->subgoals;
-    for (uint32_t i = 0; i < table->subgoals; i++)
-        nodes += subgoal_prefixes(table, i);
-    for (uint32_t i = 0; i < table->answers; i++)
-        nodes += answer_prefixes(table, i);
-    return nodes;
-}
-
-/* The calls */
-
-static bool same_form(const struct form *form, const struct row *row)
-{
-    return form->count == row->count &&
-           memcmp(form->token, row->cell, row->count * sizeof *row->cell) == 0;
-}
-
-/* Appends a subgoal, and takes it off again if that makes too many nodes or subgoals. */
-static uint64_t append_subgoal(struct plain_table *table, const struct row *form,
-                               uint32_t variables)
-{
-    uint32_t number = table->subgoals + 1;
-    table->subgoal = got(realloc(table->subgoal, number * sizeof *table->subgoal));
-    table->subgoal[number - 1] = (struct subgoal){kept(form), variables, false};
-    table->subgoals = number;
-    uint32_t refusal = 0;
-    if (nodes_used(table) > table->most_nodes)
-        refusal = 10;
-    else if (number > table->most_subgoals)
-        refusal = 11;
-    if (refusal == 0)
-        return word(NEW, number);
-    free(table->subgoal[number - 1].form.token);
-    table->subgoals = number - 1;
-    return refused(refusal);
-}
-
+/* An equal form is old, else it is appended, open. */
 uint64_t plain_table_call(struct plain_table *table, const uint32_t *term, size_t term_cells)
 {
-    struct row form;
-    uint32_t variables;
-    uint32_t refusal = read_form(term, term_cells, 1, &form, &variables);
-    if (refusal != 0)
+    struct form form;
+    enum refusal refusal = read_terms(term, term_cells, 1, &form);
+    if (refusal != REFUSAL_NONE) {
         return refused(refusal);
-    if (kind(term[0]) != ATOM && kind(term[0]) != FUNCTOR)
-        return refused(6);
-    for (uint32_t i = 0; i < table->subgoals; i++)
-        if (same_form(&table->subgoal[i].form, &form))
-            return word(table->subgoal[i].finished ? OLD_FINISHED : OLD_OPEN, i + 1);
-    return append_subgoal(table, &form, variables);
+    }
+    if (kind_of(term[0]) != KIND_ATOM && kind_of(term[0]) != KIND_FUNCTOR) {
+        return refused(REFUSAL_PREDICATE);
+    }
+    uint32_t old = find_subgoal(table, &form);
+    if (old != 0) {
+        bool finished = subgoal_at(table, old)->finished;
+        return result(finished ? OUTCOME_OLD_FINISHED : OUTCOME_OLD_OPEN, old);
+    }
+    refusal = judge_new_subgoal(table, &form);
+    if (refusal != REFUSAL_NONE) {
+        return refused(refusal);
+    }
+    append_subgoal(table, &form);
+    return result(OUTCOME_NEW, table->subgoal_count);
 }
 
-/* The same for an answer. */
-static uint64_t append_answer(struct plain_table *table, uint32_t subgoal, const struct row *form)
-{
-    uint32_t number = table->answers + 1;
-    table->answer = got(realloc(table->answer, number * sizeof *table->answer));
-    table->answer[number - 1] = (struct answer){subgoal, kept(form)};
-    table->answers = number;
-    uint32_t refusal = 0;
-    if (nodes_used(table) > table->most_nodes)
-        refusal = 10;
-    else if (number > table->most_answers)
-        refusal = 11;
-    if (refusal == 0)
-        return word(NEW, number);
-    free(table->answer[number - 1].form.token);
-    table->answers = number - 1;
-    return refused(refusal);
-}
-
+/* An equal form under that subgoal is old, else it is appended. */
 uint64_t plain_table_answer(struct plain_table *table, uint32_t subgoal, const uint32_t *terms,
                             size_t terms_cells)
 {
-    struct row form;
-    uint32_t variables;
-    if (subgoal == 0 || subgoal > table->subgoals)
-        return refused(7);
-    if (table->subgoal[subgoal - 1].finished)
-        return refused(8);
-    uint32_t refusal =
-        read_form(terms, terms_cells, table->subgoal[subgoal - 1].variables, &form, &variables);
-    if (refusal != 0)
+    if (!is_number_within(subgoal, table->subgoal_count)) {
+        return refused(REFUSAL_NUMBER);
+    }
+    if (subgoal_at(table, subgoal)->finished) {
+        return refused(REFUSAL_STATE);
+    }
+    struct form form;
+    uint32_t term_count = plain_table_variables(table, subgoal);
+    enum refusal refusal = read_terms(terms, terms_cells, term_count, &form);
+    if (refusal != REFUSAL_NONE) {
         return refused(refusal);
-    for (uint32_t i = 0; i < table->answers; i++)
-        if (table->answer[i].subgoal == subgoal && same_form(&table->answer[i].form, &form))
-            return word(OLD, i + 1);
-    return append_answer(table, subgoal, &form);
+    }
+    uint32_t old = find_answer(table, subgoal, &form);
+    if (old != 0) {
+        return result(OUTCOME_OLD, old);
+    }
+    refusal = judge_new_answer(table, subgoal, &form);
+    if (refusal != REFUSAL_NONE) {
+        return refused(refusal);
+    }
+    append_answer(table, subgoal, &form);
+    return result(OUTCOME_NEW, table->answer_count);
 }
 
 uint64_t plain_table_finish(struct plain_table *table, uint32_t subgoal)
 {
-    if (subgoal == 0 || subgoal > table->subgoals)
-        return refused(7);
-    table->subgoal[subgoal - 1].finished = true;
-    return word(DONE, 0);
+    if (!is_number_within(subgoal, table->subgoal_count)) {
+        return refused(REFUSAL_NUMBER);
+    }
+    table->subgoals[subgoal - 1].finished = true;
+    return result(OUTCOME_DONE, 0);
 }
 
+/* The lowest answer number above the given one under that subgoal; 0 is from the start. */
 uint64_t plain_table_next(const struct plain_table *table, uint32_t subgoal, uint32_t after)
 {
-    if (subgoal == 0 || subgoal > table->subgoals || after > table->answers)
-        return refused(7);
-    if (after > 0 && table->answer[after - 1].subgoal != subgoal)
-        return refused(7);
-    for (uint32_t number = after + 1; number <= table->answers; number++)
-        if (table->answer[number - 1].subgoal == subgoal)
-            return word(AT, number);
-    return word(NONE, 0);
+    if (!is_number_within(subgoal, table->subgoal_count)) {
+        return refused(REFUSAL_NUMBER);
+    }
+    if (after != 0 && !is_answer_of(table, after, subgoal)) {
+        return refused(REFUSAL_NUMBER);
+    }
+    for (uint32_t number = after + 1; number <= table->answer_count; number++) {
+        if (answer_at(table, number)->subgoal == subgoal) {
+            return result(OUTCOME_AT, number);
+        }
+    }
+    return result(OUTCOME_NONE, 0);
 }
 
+/* The m terms in pair form, numbered. */
 uint64_t plain_table_load(const struct plain_table *table, uint32_t answer, uint32_t *out,
                           size_t out_cells)
 {
-    struct row terms;
-    if (answer == 0 || answer > table->answers)
-        return refused(7);
-    expand(&table->answer[answer - 1].form, &terms);
-    if (terms.count > out_cells)
-        return word(REFUSED + 12, terms.count);
-    if (terms.count > 0)
-        memcpy(out, terms.cell, terms.count * sizeof *out);
-    return word(CELLS, terms.count);
-}
-
-/*
- * Writes the pattern with variable i replaced by term i, as far as out has room;
- * gives the cells that the whole takes.
- */
-static size_t replace_variables(const struct row *pattern, const struct row *terms, uint32_t *out,
-                                size_t out_cells)
-{
-    size_t written = 0;
-    for (size_t i = 0; i < pattern->count; i++) {
-        const uint32_t *from = &pattern->cell[i];
-        size_t count = 1;
-        if (kind(*from) == VARIABLE) {
-            size_t begin = 0;
-            for (uint32_t rank = payload(*from); rank > 0; rank--)
-                begin = term_end(terms->cell, terms->count, begin);
-            from = &terms->cell[begin];
-            count = term_end(terms->cell, terms->count, begin) - begin;
-        }
-        for (size_t j = 0; j < count; j++, written++)
-            if (written < out_cells)
-                out[written] = from[j];
+    if (!is_number_within(answer, table->answer_count)) {
+        return refused(REFUSAL_NUMBER);
     }
-    return written;
+    struct pair_form terms;
+    expand_terms(&answer_at(table, answer)->form, &terms);
+    if (terms.length > out_cells) {
+        return refused_out(terms.length);
+    }
+    copy_cells(out, terms.cells, terms.length);
+    return result(OUTCOME_CELLS, terms.length);
 }
 
+/* The subgoal with variable i replaced by term i. */
 uint64_t plain_table_instance(const struct plain_table *table, uint32_t answer, uint32_t *out,
                               size_t out_cells)
 {
-    struct row pattern, terms;
-    if (answer == 0 || answer > table->answers)
-        return refused(7);
-    expand(&table->subgoal[table->answer[answer - 1].subgoal - 1].form, &pattern);
-    expand(&table->answer[answer - 1].form, &terms);
-    size_t need = replace_variables(&pattern, &terms, NULL, 0);
-    if (need > out_cells)
-        return word(REFUSED + 12, need);
-    replace_variables(&pattern, &terms, out, out_cells);
-    return word(CELLS, need);
+    if (!is_number_within(answer, table->answer_count)) {
+        return refused(REFUSAL_NUMBER);
+    }
+    struct pair_form terms;
+    struct pair_form subgoal;
+    expand_terms(&answer_at(table, answer)->form, &terms);
+    expand_terms(&subgoal_at(table, answer_at(table, answer)->subgoal)->form, &subgoal);
+    size_t length = instance_length(&subgoal, &terms);
+    if (length > out_cells) {
+        return refused_out(length);
+    }
+    write_instance(&subgoal, &terms, out);
+    return result(OUTCOME_CELLS, length);
 }
 
 uint64_t plain_table_counts(const struct plain_table *table, uint32_t *out, size_t out_cells)
 {
-    if (out_cells < 3)
-        return word(REFUSED + 12, 3);
+    if (out_cells < 3) {
+        return refused_out(3);
+    }
     out[0] = (uint32_t)nodes_used(table);
-    out[1] = table->subgoals;
-    out[2] = table->answers;
-    return word(COUNTS, 3);
+    out[1] = table->subgoal_count;
+    out[2] = table->answer_count;
+    return result(OUTCOME_COUNTS, 3);
 }
 
 uint32_t plain_table_variables(const struct plain_table *table, uint32_t subgoal)
 {
-    return table->subgoal[subgoal - 1].variables;
+    return subgoal_at(table, subgoal)->form.variables;
 }
