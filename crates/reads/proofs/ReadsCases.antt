@@ -1,15 +1,16 @@
 -- A law for each case of counts, next and load.
-use Prim.Native.Nat.{ℕ, _+_, _^_, _<_, _≤_}
+use Prim.Native.Nat.{ℕ, _+_, _-_, _^_, _<_, _≤_}
 use mathlib.Core.Path.{_≡_, refl, sym, ap, _∙_}
-use mathlib.Core.Bool.{Bool, true, false, _&&_}
+use mathlib.Core.Bool.{Bool, true, false}
 use mathlib.Core.List.{List, _++_}
 use native.Mathlib.Omega.{arith}
-use lib.ListN.{length, take, drop, length-append}
-use lib.Seq.{take-at}
+use lib.ListN.{length, take, drop, length-drop}
+use lib.Seq.{take-all}
 use lib.Dec.{eqb, leb}
 use borrow.Author.Tests.{lt-ltb, le-ltb, le-leb, lt-leb, eq-eqb, ne-eqb, leb-true, leb-false, eqb-true, eqb-false}
 use Rattle.basis.specs.Choice.{pick}
 use Rattle.basis.proofs.Cases.{by-cases}
+use Rattle.forms.specs.Cells.{arity16}
 use Rattle.forms.specs.Compact.{pairForm, legalForm}
 use Rattle.forms.specs.Converting.{loading, fitting, fittingTerms, expanding, written}
 use Rattle.forms.specs.declared.Answer as converted
@@ -32,12 +33,12 @@ use Rattle.space.specs.declared.AnswerRead.the-variants as answer
 use Rattle.space.proofs.HeaderLaws.{header-bounds}
 use Rattle.space.proofs.JudgingLaws.{subgoal-bounds, answer-bounds, follows-within, read-subgoal-sound, read-answer-sound}
 use Rattle.trie.proofs.WalkLaws.{both-true}
-use Rattle.trie.specs.Paths.{Path, none, tokens, gather, longest, counted, held}
-use Rattle.trie.specs.declared.Gathered.the-variants as gathered
+use Rattle.trie.specs.Paths.{Path, none, tokens, gather, longest}
 use Rattle.store.specs.Views.{View, viewOf, answerTrie}
 use Rattle.store.specs.Decisions.{Decision, says, gives, refuses, sound, known, soundSubgoal, soundAnswer, soundPair, starting, handed, onward, onPath, loaded, decide}
 use Rattle.store.specs.Calls.{reply, outAfter, under, cellStep}
 use Rattle.store.specs.Replies.{saidCells}
+use Rattle.reads.specs.Reading.{loadedFrom, Leaves}
 
 -- ---- the header
 
@@ -240,10 +241,6 @@ next-step c cs h e s s′ a a′ i j x d = step-says c cs (next s′ a′) h e x
 
 -- ---- what is left in out
 
--- the answer and the lent cells afterwards are those of a decision
-abbrev pub Leaves : View → Decision → List ℕ → Reply → List ℕ → Type 0
-Leaves v d out x out′ = (x ≡ reply v d (length out)) × (out′ ≡ outAfter d out)
-
 pub leaves-says : (v : View) (d : Decision) (out : List ℕ) (x : Reply) → says x ≡ d → Leaves v d out x out
 unfolding reply outAfter
 leaves-says v d out x e = rw (← e) (refl, refl)
@@ -306,39 +303,37 @@ read-bounds v a y g e f t = rw (f, e) (pair-bounds v a t)
 
 -- ---- paths
 
+-- the cells from k on, as a part of a slice gives them
+rest : (ks : List ℕ) (n k : ℕ) → length ks ≤ n + k → take n (drop k ks) ≡ drop k ks
+rest ks n k h = let l : length (drop k ks) ≡ length ks - k = length-drop k ks in take-all n (drop k ks) (omega arith)
+
+-- a path that stands in the cells from k on
+pub path-there : (p : Path) (ks : List ℕ) (n k : ℕ) → length ks ≤ n + k → p ≡ tokens (drop k ks) → tokens (take n (drop k ks)) ≡ p
+path-there p ks n k h e = ap tokens (rest ks n k h) ∙ sym e
+
 module _ (test : Word → Bool) (d : Word → Decision) where
-  pub path-lost : (p : Path) → gathered.Damaged ≡ counted p → refuses 9 ≡ onPath p test d
+  pub path-lost : (p : Path) → p ≡ none → refuses 9 ≡ onPath p test d
   unfolding onPath
-  path-lost none e = refl
-  path-lost (tokens w) e = let z : _≡_ {A = ℕ} 0 1 = cc in absurd (omega arith)
+  path-lost p e = rw e refl
 
-  pub path-found : (p : Path) (n : ℕ) (buffer buffer′ : List ℕ) → gathered.Tokens n ≡ counted p → buffer′ ≡ held p buffer
-      → onPath (tokens (take n buffer′)) test d ≡ onPath p test d
-  path-found none n buffer buffer′ e f = let z : _≡_ {A = ℕ} 0 1 = cc in absurd (omega arith)
-  path-found (tokens w) n buffer buffer′ e f =
-      let l : length w ≡ n = cc in
-      ap (λ (u : Word). onPath (tokens u) test d) (ap (take n) f ∙ take-at w (drop (length w) buffer) n l)
-
-pub path-room : (p : Path) (n : ℕ) (buffer buffer′ : List ℕ) → gathered.Tokens n ≡ counted p → buffer′ ≡ held p buffer → n ≤ length buffer′
-path-room none n buffer buffer′ e f = let z : _≡_ {A = ℕ} 0 1 = cc in absurd (omega arith)
-path-room (tokens w) n buffer buffer′ e f =
-    let l : length w ≡ n = cc in
-    omega (arith, ap length f, length-append w (drop (length w) buffer))
+  pub path-each : (f : Word → Decision) (p : Path) → ((w : Word) → f w ≡ d w) → onPath p test f ≡ onPath p test d
+  unfolding onPath
+  path-each f none e = refl
+  path-each f (tokens w) e = ap (sound (test w)) (e w)
 
 -- ---- load
+
+-- of a path, by an equal one
+pub load-same : (v : View) (p q : Path) (m : ℕ) (out : List ℕ) (x : Reply) (out′ : List ℕ) → p ≡ q → Leaves v (loadedFrom p m) out x out′ → Leaves v (loadedFrom q m) out x out′
+load-same v p q m out x out′ e l = leaves-same v _ _ out x out′ (ap (λ (r : Path). loadedFrom r m) e) l
+
+pub load-lost : (v : View) (p : Path) (m : ℕ) (out : List ℕ) → p ≡ none → Leaves v (loadedFrom p m) out (refused 9) out
+load-lost v p m out e = leaves-says v _ out (refused 9) (path-lost (legalForm arity16 m) (λ w. gives (pairForm arity16 w)) p e)
 
 module _ (c : Coding) (v : View) (a : ℕ) (d : Word → Decision) (y : Answer) (g : Subgoal) (e : y ≡ v .answer a) (f : g ≡ v .subgoal (y .subgoal)) where
   pub loaded-on : onPath (gather longest (answerTrie v) (g .root) (y .leaf)) (λ w. c .legal (g .variables) w) d ≡ loaded c v a d
   unfolding loaded
   loaded-on = rw (f, e) refl
-
-  pub loaded-lost : gathered.Damaged ≡ counted (gather longest (answerTrie v) (g .root) (y .leaf)) → refuses 9 ≡ loaded c v a d
-  loaded-lost x = path-lost (λ w. c .legal (g .variables) w) d (gather longest (answerTrie v) (g .root) (y .leaf)) x ∙ loaded-on
-
-  pub loaded-found : (n : ℕ) (buffer buffer′ : List ℕ) → gathered.Tokens n ≡ counted (gather longest (answerTrie v) (g .root) (y .leaf)) → buffer′ ≡ held (gather longest (answerTrie v) (g .root) (y .leaf)) buffer
-      → onPath (tokens (take n buffer′)) (λ w. c .legal (g .variables) w) d ≡ loaded c v a d
-  loaded-found n buffer buffer′ x z =
-      path-found (λ w. c .legal (g .variables) w) d (gather longest (answerTrie v) (g .root) (y .leaf)) n buffer buffer′ x z ∙ loaded-on
 
 -- expanding says 13 where loading says 9
 abbrev pub saidLoaded : converted.Answer → Reply

@@ -3,12 +3,14 @@ use Prim.Native.Nat.{ℕ, _<_, _≤_}
 use mathlib.Core.Path.{_≡_, refl, ap, _∙_}
 use mathlib.Core.Bool.{Bool, true, false, _&&_}
 use mathlib.Core.List.{List, []}
-use lib.ListN.{length, take}
+use lib.ListN.{length}
 use lib.Dec.{eqb}
 use Rattle.basis.proofs.Cases.{by-cases}
+use Rattle.forms.specs.Cells.{arity16}
+use Rattle.forms.specs.Compact.{legalForm}
 use Rattle.forms.specs.Numbering.{met}
 use Rattle.plain.specs.Words.{Word}
-use Rattle.plain.specs.Coding.{Coding}
+use Rattle.plain.specs.Coding.{Coding, edition1}
 use Rattle.plain.specs.Requests.{instance, Reply, refused, lent}
 use Rattle.space.specs.Layout.{sizes}
 use Rattle.space.specs.Heading.{headerOf}
@@ -16,12 +18,12 @@ use Rattle.space.specs.declared.Head.{Head}
 use Rattle.space.specs.declared.Header.the-variants as header
 use Rattle.space.specs.declared.Subgoal.{Subgoal}
 use Rattle.space.specs.declared.Answer.{Answer}
-use Rattle.trie.specs.Paths.{Path, none, tokens, gather, longest, counted, held}
-use Rattle.trie.specs.declared.Gathered.the-variants as gathered
+use Rattle.trie.specs.Paths.{Path, none, tokens, gather, longest}
 use Rattle.store.specs.Views.{View, viewOf, subgoalTrie, answerTrie}
 use Rattle.store.specs.Decisions.{Decision, gives, refuses, sound, soundPair, onPath, loaded, instanced, decide}
 use Rattle.store.specs.Calls.{cellStep}
-use Rattle.reads.proofs.ReadsCases.{step-refused, step-kept, step-reply, step-out, Leaves, leaves-same, known-zero, known-above, answer-damaged, answer-sound, path-lost, path-found, loaded-found}
+use Rattle.reads.specs.Reading.{instancedFrom, Leaves}
+use Rattle.reads.proofs.ReadsCases.{step-refused, step-kept, step-reply, step-out, leaves-says, leaves-same, known-zero, known-above, answer-damaged, answer-sound, path-lost, path-each, loaded-on}
 
 -- ---- a path that was gathered
 
@@ -39,10 +41,6 @@ module _ (test : Word → Bool) (d : Word → Decision) where
   unfolding onPath
   path-behind none x = refl
   path-behind (tokens w) x = by-cases (test w) (λ t. rw t (x w)) (λ t. rw t refl)
-
-  pub path-then : (f : Word → Decision) (w : Word) → f w ≡ d w → onPath (tokens w) test f ≡ onPath (tokens w) test d
-  unfolding onPath
-  path-then f w e = ap (sound (test w)) e
 
 -- ---- both paths
 
@@ -78,23 +76,25 @@ module _ (c : Coding) (v : View) (a : ℕ) (y : Answer) (g : Subgoal) (e : y ≡
   unfolding instanced
   instanced-on d = rw (f, e) refl
 
-  pub instanced-lost : gathered.Damaged ≡ counted (gather longest (subgoalTrie v) 0 (g .leaf)) → refuses 9 ≡ loaded c v a (instancedBy c v a)
-  unfolding loaded
-  instanced-lost x =
-      path-behind (λ w. c .legal (v .subgoal (v .answer a .subgoal) .variables) w) (instancedBy c v a)
-      (gather longest (answerTrie v) (v .subgoal (v .answer a .subgoal) .root) (v .answer a .leaf))
-      (λ w.
-      path-lost (subgoalTest c (g .variables)) (λ u. gives (c .instanceOf u w)) (gather longest (subgoalTrie v) 0 (g .leaf)) x
-      ∙ instanced-on (λ u. gives (c .instanceOf u w)))
+  pub instanced-both : onPath (gather longest (answerTrie v) (g .root) (y .leaf)) (λ w. c .legal (g .variables) w) (λ w. onPath (gather longest (subgoalTrie v) 0 (g .leaf)) (subgoalTest c (g .variables)) (λ u. gives (c .instanceOf u w)))
+      ≡ loaded c v a (instancedBy c v a)
+  instanced-both =
+      path-each (λ w. c .legal (g .variables) w) (instancedBy c v a) (λ w. onPath (gather longest (subgoalTrie v) 0 (g .leaf)) (subgoalTest c (g .variables)) (λ u. gives (c .instanceOf u w)))
+      (gather longest (answerTrie v) (g .root) (y .leaf)) (λ w. instanced-on (λ u. gives (c .instanceOf u w)))
+      ∙ loaded-on c v a (instancedBy c v a) y g e f
 
-  pub instanced-found : (n : ℕ) (buffer buffer′ : List ℕ) → gathered.Tokens n ≡ counted (gather longest (answerTrie v) (g .root) (y .leaf)) → buffer′ ≡ held (gather longest (answerTrie v) (g .root) (y .leaf)) buffer
-      → (k : ℕ) (other other′ : List ℕ) → gathered.Tokens k ≡ counted (gather longest (subgoalTrie v) 0 (g .leaf)) → other′ ≡ held (gather longest (subgoalTrie v) 0 (g .leaf)) other
-      → onBoth c (g .variables) (take k other′) (take n buffer′) ≡ loaded c v a (instancedBy c v a)
-  instanced-found n buffer buffer′ x z k other other′ x′ z′ =
-      path-then (λ w. c .legal (g .variables) w) (instancedBy c v a) (λ w. onPath (tokens (take k other′)) (subgoalTest c (g .variables)) (λ u. gives (c .instanceOf u w))) (take n buffer′)
-      (path-found (subgoalTest c (g .variables)) (λ u. gives (c .instanceOf u (take n buffer′))) (gather longest (subgoalTrie v) 0 (g .leaf)) k other other′ x′ z′
-      ∙ instanced-on (λ u. gives (c .instanceOf u (take n buffer′))))
-      ∙ loaded-found c v a (instancedBy c v a) y g e f n buffer buffer′ x z
+-- of two paths, by equal ones
+pub instance-same : (v : View) (p p′ q q′ : Path) (m : ℕ) (out : List ℕ) (x : Reply) (out′ : List ℕ) → p ≡ p′ → q ≡ q′ → Leaves v (instancedFrom p q m) out x out′ → Leaves v (instancedFrom p′ q′ m) out x out′
+instance-same v p p′ q q′ m out x out′ e f l =
+    leaves-same v _ _ out x out′ (ap (λ (r : Path). instancedFrom r q m) e ∙ ap (λ (r : Path). instancedFrom p′ r m) f) l
+
+pub instance-lost : (v : View) (p q : Path) (m : ℕ) (out : List ℕ) → p ≡ none → Leaves v (instancedFrom p q m) out (refused 9) out
+instance-lost v p q m out e = leaves-says v _ out (refused 9) (path-lost (legalForm arity16 m) (λ w. onPath q (subgoalTest edition1 m) (λ u. gives (edition1 .instanceOf u w))) p e)
+
+pub instance-under-lost : (v : View) (p q : Path) (m : ℕ) (out : List ℕ) → q ≡ none → Leaves v (instancedFrom p q m) out (refused 9) out
+instance-under-lost v p q m out e =
+    leaves-says v _ out (refused 9) (path-behind (legalForm arity16 m) (λ w. onPath q (subgoalTest edition1 m) (λ u. gives (edition1 .instanceOf u w))) p
+    (λ w. path-lost (subgoalTest edition1 m) (λ u. gives (edition1 .instanceOf u w)) q e))
 
 -- ---- the call
 

@@ -1,7 +1,7 @@
 // Next, load, instance and counts: the calls that only read the space.
-use super::instances::instance_path;
+use super::paths::instance_paths;
+use super::paths::load_path;
 use basis::wide;
-use convert::expand;
 use forms::Answer;
 use space::AnswerRead;
 use space::Head;
@@ -15,21 +15,18 @@ use space::records::subgoal_in;
 use store::Counts;
 use store::CountsAnswer;
 use store::NextAnswer;
-use trie::Gathered;
-use trie::paths::gather_tokens;
 ghost use mathlib.Core.Path.{_≡_};
 ghost use mathlib.Core.Bool.{true};
 ghost use Prim.Native.Nat.{_≤_, _<_};
 ghost use lib.ListN.{length};
 ghost use Rattle.forms.specs.Cells.{arity16};
-ghost use Rattle.forms.specs.Compact.{pairForm, legalForm};
+ghost use Rattle.forms.specs.Compact.{pairForm};
 ghost use Rattle.plain.specs.Coding.{edition1};
 ghost use Rattle.plain.specs.Requests.{next, load, instance, counts};
 ghost use Rattle.space.specs.Layout.{sizes};
 ghost use Rattle.space.specs.Sound.{Bounds};
-ghost use Rattle.trie.specs.Paths.{tokens, longest};
-ghost use Rattle.store.specs.Views.{View, viewOf};
-ghost use Rattle.store.specs.Decisions.{says, gives, soundPair, starting, handed, onward, onPath, loaded, instanced, decide};
+ghost use Rattle.store.specs.Views.{viewOf};
+ghost use Rattle.store.specs.Decisions.{says, gives, soundPair, starting, handed, onward, loaded, instanced, decide};
 ghost use Rattle.store.specs.Calls.{reply, outAfter, cellStep};
 ghost use Rattle.store.specs.Replies.{saidNext, saidCells, saidCounts};
 
@@ -146,31 +143,15 @@ fn pair_sound(space: &[u32], h: Head, a: usize) -> bool
     true
 }
 
-// A gathered path in pair form; what is no legal form is damage.
-fn expand_path(path: &[u32], m: usize, out: &mut [u32]) -> Answer
-    ensures { λ r. ⌜ ((v : View) → (saidCells r ≡ reply v (onPath (tokens (now (path .entry))) (legalForm arity16 m) (λ w. gives (pairForm arity16 w))) (length (now (out .entry)))) × (now (out .exit) ≡ outAfter (onPath (tokens (now (path .entry))) (legalForm arity16 m) (λ w. gives (pairForm arity16 w))) (now (out .entry)))) ⌝ }
-{
-    let expanded = expand(path, m, out);
-    match expanded {
-        Answer::Cells(n) => Answer::Cells(n),
-        Answer::Short(n) => Answer::Short(n),
-        Answer::Refused(_) => Answer::Refused(9),
-    }
-}
-
-// Load of an answer whose records are sound, with cells for the tokens of its path.
-fn load_with(space: &[u32], h: Head, a: usize, path: &mut [u32], out: &mut [u32]) -> Answer
-    requires { ⌜ Bounds (now space) h × (1 ≤ a) × (a ≤ h .answers) × (longest ≤ length (now path)) ⌝ }
+// Load of an answer whose records are sound.
+fn load_with(space: &[u32], h: Head, a: usize, out: &mut [u32]) -> Answer
+    requires { ⌜ Bounds (now space) h × (1 ≤ a) × (a ≤ h .answers) ⌝ }
     requires { ⌜ soundPair (viewOf sizes (now space) h) a ≡ true ⌝ }
     ensures { λ r. ⌜ (saidCells r ≡ reply (viewOf sizes (now (space .entry)) h) (loaded edition1 (viewOf sizes (now (space .entry)) h) a (λ w. gives (pairForm arity16 w))) (length (now (out .entry)))) × (now (out .exit) ≡ outAfter (loaded edition1 (viewOf sizes (now (space .entry)) h) a (λ w. gives (pairForm arity16 w))) (now (out .entry))) ⌝ }
 {
     let y = answer_in(space, h, a);
     let g = subgoal_in(space, h, y.subgoal);
-    let Gathered::Tokens(n) = gather_tokens(space, h.nodes, h.answers, g.root, y.leaf, 383, path)
-    else {
-        return Answer::Refused(9);
-    };
-    expand_path(&path[..n], g.variables, out)
+    load_path(space, h, g.root, y.leaf, g.variables, out)
 }
 
 // Load, under a sound header.
@@ -185,8 +166,7 @@ fn load_in(space: &[u32], h: Head, a: usize, out: &mut [u32]) -> Answer
         return Answer::Refused(7);
     }
     if pair_sound(space, h, a) {
-        let mut path = [0u32; 383];
-        return load_with(space, h, a, &mut path, out);
+        return load_with(space, h, a, out);
     }
     Answer::Refused(9)
 }
@@ -205,29 +185,15 @@ pub fn load(space: &[u32], answer: u32, out: &mut [u32]) -> Answer
     load_in(space, h, wide(answer), out)
 }
 
-// Instance of an answer whose records are sound, with cells for the tokens of both paths.
-fn instance_with(
-    space: &[u32],
-    h: Head,
-    a: usize,
-    form: &mut [u32],
-    path: &mut [u32],
-    out: &mut [u32],
-) -> Answer
-    requires { ⌜ Bounds (now space) h × (1 ≤ a) × (a ≤ h .answers) × (longest ≤ length (now form)) × (longest ≤ length (now path)) ⌝ }
+// Instance of an answer whose records are sound.
+fn instance_with(space: &[u32], h: Head, a: usize, out: &mut [u32]) -> Answer
+    requires { ⌜ Bounds (now space) h × (1 ≤ a) × (a ≤ h .answers) ⌝ }
     requires { ⌜ soundPair (viewOf sizes (now space) h) a ≡ true ⌝ }
     ensures { λ r. ⌜ (saidCells r ≡ reply (viewOf sizes (now (space .entry)) h) (loaded edition1 (viewOf sizes (now (space .entry)) h) a (λ w. instanced edition1 (viewOf sizes (now (space .entry)) h) ((viewOf sizes (now (space .entry)) h) .answer a .subgoal) (λ u. gives (edition1 .instanceOf u w)))) (length (now (out .entry)))) × (now (out .exit) ≡ outAfter (loaded edition1 (viewOf sizes (now (space .entry)) h) a (λ w. instanced edition1 (viewOf sizes (now (space .entry)) h) ((viewOf sizes (now (space .entry)) h) .answer a .subgoal) (λ u. gives (edition1 .instanceOf u w)))) (now (out .entry))) ⌝ }
 {
     let y = answer_in(space, h, a);
     let g = subgoal_in(space, h, y.subgoal);
-    let Gathered::Tokens(n) = gather_tokens(space, h.nodes, h.answers, g.root, y.leaf, 383, form)
-    else {
-        return Answer::Refused(9);
-    };
-    let Gathered::Tokens(k) = gather_tokens(space, h.nodes, h.subgoals, 0, g.leaf, 383, path) else {
-        return Answer::Refused(9);
-    };
-    instance_path(&path[..k], &form[..n], g.variables, out)
+    instance_paths(space, h, g.root, y.leaf, g.leaf, g.variables, out)
 }
 
 // Instance, under a sound header.
@@ -242,9 +208,7 @@ fn instance_in(space: &[u32], h: Head, a: usize, out: &mut [u32]) -> Answer
         return Answer::Refused(7);
     }
     if pair_sound(space, h, a) {
-        let mut form = [0u32; 383];
-        let mut path = [0u32; 383];
-        return instance_with(space, h, a, &mut form, &mut path, out);
+        return instance_with(space, h, a, out);
     }
     Answer::Refused(9)
 }

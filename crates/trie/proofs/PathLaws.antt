@@ -2,14 +2,16 @@
 use Prim.Native.Nat.{ℕ, suc, zero, _+_, _-_, _<_, _≤_}
 use mathlib.Core.Path.{_≡_, refl, sym, ap, _∙_}
 use mathlib.Core.Bool.{true, false}
-use mathlib.Core.List.{List, [], _∷_, _++_}
+use mathlib.Core.List.{List, [], _∷_, _++_, append-nil, append-assoc}
 use native.Mathlib.Omega.{arith}
 use lib.ListN.{length, length-append}
 use lib.Dec.{eqb}
 use borrow.Author.Tests.{eq-eqb, ne-eqb, eqb-true, eqb-false}
 use Rattle.basis.proofs.Cases.{by-cases}
 use Rattle.trie.specs.Siblings.{Trie, sound}
-use Rattle.trie.specs.Paths.{Path, none, tokens, below, ending, gather}
+use Rattle.space.proofs.JudgingLaws.{node-bounds}
+use Rattle.trie.specs.Paths.{Path, none, tokens, below, gather}
+use Rattle.trie.specs.Runs.{onto, Climb, lost, whole, cut, longer, climbed}
 
 module _ (t : Trie) (root n : ℕ) where
   pub gather-unsound : (most : ℕ) → sound t n ≡ false → gather most t root n ≡ none
@@ -65,3 +67,99 @@ gather-within (suc k) t root n =
 
 pub gather-size : (most : ℕ) (t : Trie) (root n : ℕ) (xs : List ℕ) → gather most t root n ≡ tokens xs → length xs ≤ most
 gather-size most t root n xs e = rw e at (gather-within most t root n)
+
+-- ---- a path with further tokens behind it
+
+onto-nothing : (p : Path) → p ≡ onto p []
+onto-nothing none = refl
+onto-nothing (tokens xs) = ap tokens (sym (append-nil xs))
+
+onto-below : (p : Path) (xs : List ℕ) (token : ℕ) → below (onto p xs) token ≡ onto p (xs ++ (token ∷ []))
+onto-below none xs token = refl
+onto-below (tokens ys) xs token = ap tokens (append-assoc ys xs (token ∷ []))
+
+-- ---- the steps of a climb
+
+module _ (t : Trie) (root n levels : ℕ) where
+  pub climbed-unsound : sound t n ≡ false → climbed (suc levels) t root n ≡ lost
+  unfolding climbed
+  climbed-unsound e = simp e
+
+  module _ (e : sound t n ≡ true) where
+    pub climbed-root : t .at n .parent ≡ n → n ≡ root → climbed (suc levels) t root n ≡ whole []
+    unfolding climbed
+    climbed-root p r = simp (e, eq-eqb _ _ p, eq-eqb _ _ r)
+
+    pub climbed-other : t .at n .parent ≡ n → (n ≡ root → ⊥) → climbed (suc levels) t root n ≡ lost
+    unfolding climbed
+    climbed-other p r = simp (e, eq-eqb _ _ p, ne-eqb _ _ r)
+
+    pub climbed-up : (t .at n .parent ≡ n → ⊥) → climbed (suc levels) t root n ≡ longer (climbed levels t root (t .at n .parent)) (t .at n .token)
+    unfolding climbed
+    climbed-up p = simp (e, ne-eqb _ _ p)
+
+-- ---- what a climb of some levels tells of the whole path
+
+abbrev pub Tells : Trie → ℕ → ℕ → ℕ → Climb → Type 0
+Tells t root n levels lost = (most : ℕ) → gather most t root n ≡ none
+Tells t root n levels (whole xs) = (length xs ≤ levels) × ((most : ℕ) → length xs ≤ most → gather most t root n ≡ tokens xs)
+    × ((most : ℕ) → most < length xs → gather most t root n ≡ none)
+Tells t root n levels (cut p xs) = (length xs ≡ levels) × (p ≤ n) × ((most : ℕ) → levels ≤ most → gather most t root n ≡ onto (gather (most - levels) t root p) xs)
+    × ((most : ℕ) → most < levels → gather most t root n ≡ none)
+
+module _ (t : Trie) (root n : ℕ) (e : sound t n ≡ true) (p : t .at n .parent ≡ n → ⊥) where
+  abbrev above : ℕ
+  above = t .at n .parent
+
+  abbrev token : ℕ
+  token = t .at n .token
+
+  higher-none : (most : ℕ) → ((m : ℕ) → m < most → gather m t root above ≡ none) → gather most t root n ≡ none
+  higher-none zero x = gather-deep t root n e p
+  higher-none (suc most) x = gather-up t root n e p most ∙ ap (λ (q : Path). below q token) (x most (omega arith))
+
+  higher-whole : (xs : List ℕ) → ((m : ℕ) → length xs ≤ m → gather m t root above ≡ tokens xs) → (most : ℕ) → length xs + 1 ≤ most
+      → gather most t root n ≡ tokens (xs ++ (token ∷ []))
+  higher-whole xs x zero l = absurd (omega arith)
+  higher-whole xs x (suc most) l = gather-up t root n e p most ∙ ap (λ (q : Path). below q token) (x most (omega arith))
+
+  higher-cut : (levels q : ℕ) (xs : List ℕ) → ((m : ℕ) → levels ≤ m → gather m t root above ≡ onto (gather (m - levels) t root q) xs) → (most : ℕ) → suc levels ≤ most
+      → gather most t root n ≡ onto (gather (most - suc levels) t root q) (xs ++ (token ∷ []))
+  higher-cut levels q xs x zero l = absurd (omega arith)
+  higher-cut levels q xs x (suc most) l =
+      let k : most - levels ≡ suc most - suc levels = omega arith in
+      gather-up t root n e p most ∙ ap (λ (r : Path). below r token) (x most (omega arith))
+      ∙ onto-below (gather (most - levels) t root q) xs token
+      ∙ ap (λ (m : ℕ). onto (gather m t root q) (xs ++ (token ∷ []))) k
+
+  longer-tells : (levels : ℕ) (c : Climb) → Tells t root above levels c → Tells t root n (suc levels) (longer c token)
+  longer-tells levels lost x = λ most. higher-none most (λ m l. x m)
+  longer-tells levels (whole xs) x =
+      let k : length (xs ++ (token ∷ [])) ≡ length xs + 1 = length-append xs (token ∷ []) in
+      let b : length xs ≤ levels = x .0 in (
+        omega arith,
+        λ most l. higher-whole xs (x .1) most (omega arith),
+        λ most l. higher-none most (λ m i. x .2 m (omega arith)),
+      )
+  longer-tells levels (cut q xs) x =
+      let k : length (xs ++ (token ∷ [])) ≡ length xs + 1 = length-append xs (token ∷ []) in
+      let b : length xs ≡ levels = x .0 in
+      let h : q ≤ above = x .1 in
+      let l = node-bounds (t .nodes) (t .links) n (t .at n) e .parent-most in (
+        omega arith,
+        omega arith,
+        λ most i. higher-cut levels q xs (x .2) most i,
+        λ most i. higher-none most (λ m j. x .3 m (omega arith)),
+      )
+
+pub climbed-tells : (t : Trie) (root levels n : ℕ) → Tells t root n levels (climbed levels t root n)
+climbed-tells t root zero n =
+    unfold climbed in (refl, omega arith, λ most l. onto-nothing (gather most t root n) ∙ ap (λ (m : ℕ). onto (gather m t root n) []) (let z : most ≡ most - 0 = omega arith in z), λ most l. absurd (omega arith))
+climbed-tells t root (suc levels) n =
+    by-cases (sound t n) (λ e.
+    by-cases (eqb (t .at n .parent) n) (λ p.
+    by-cases (eqb n root)
+    (λ r. rw (climbed-root t root n levels e (eqb-true _ _ p) (eqb-true _ _ r)) (omega arith, λ most l. gather-root t root n e most (eqb-true _ _ p) (eqb-true _ _ r), λ most l. absurd (omega arith)))
+    (λ r. rw (climbed-other t root n levels e (eqb-true _ _ p) (eqb-false _ _ r)) (λ most. gather-other t root n e most (eqb-true _ _ p) (eqb-false _ _ r))))
+    (λ p. rw (climbed-up t root n levels e (eqb-false _ _ p)) (longer-tells t root n e (eqb-false _ _ p) levels (climbed levels t root (t .at n .parent)) (climbed-tells t root levels (t .at n .parent)))))
+    (λ e. rw (climbed-unsound t root n levels e) (λ most. gather-unsound t root n most e))

@@ -7,6 +7,8 @@ use Rattle.space.specs.Judging.{follows, nodeSound}
 use Rattle.trie.specs.Siblings.{Trie, trieIn, searchSiblings, searchChildren}
 use Rattle.trie.specs.Walks.{whole, stopped, damaged, walkFrom, walk}
 use Rattle.trie.specs.Paths.{none, tokens, gather, longest}
+use Rattle.trie.specs.Runs as runs
+use Rattle.trie.specs.Runs.{cut, lost, climbed}
 use Rattle.trie.specs.Append.{leadCell, appendNode, appendPath}
 use Rattle.trie.specs.declared.Search.the-variants.{Found, Last, Damaged}
 
@@ -42,6 +44,10 @@ gathered : (gather longest small 0 4 ≡ tokens (40 ∷ 72 ∷ [])) × (gather l
     × (gather longest small 3 3 ≡ tokens [])
 unfolding gather nodeSound follows
 gathered = (refl, refl, refl, refl)
+
+in-runs : (climbed 2 small 0 4 ≡ cut 0 (40 ∷ 72 ∷ [])) × (climbed 3 small 0 4 ≡ runs.whole (40 ∷ 72 ∷ [])) × (climbed 3 small 3 4 ≡ lost)
+unfolding climbed nodeSound follows
+in-runs = (refl, refl, refl)
 
 -- the walk that stopped is whole after its tokens are appended
 appended : walk (trieIn sizes (appendPath sizes cells 5 1 4 (73 ∷ 74 ∷ [])) 7 2) 0 (40 ∷ 73 ∷ 74 ∷ []) ≡ whole 6

@@ -18,7 +18,14 @@ pub enum Walked {
     Damaged,
 }
 
-// The number of tokens gathered.
+// The first run of a path: the path is whole, and where its tokens start; or the node from which it goes on.
+pub enum Run {
+    Whole(usize),
+    On(usize),
+    Lost,
+}
+
+// Where the tokens that were gathered start.
 pub enum Gathered {
     Tokens(usize),
     Damaged,

@@ -1,69 +1,137 @@
 // The tokens of a path, gathered from its end up to its root.
 use super::Gathered;
+use super::Run;
 use space::NodeRead;
 use space::records::read_node;
 ghost use mathlib.Core.Path.{_≡_};
-ghost use Prim.Native.Nat.{_<_, _≤_};
-ghost use lib.ListN.{length};
+ghost use Prim.Native.Nat.{_<_, _≤_, _+_, _-_, _*_};
+ghost use lib.ListN.{length, drop};
 ghost use Rattle.space.specs.Layout.{sizes};
 ghost use Rattle.space.specs.Sound.{NodesIn};
 ghost use Rattle.trie.specs.Siblings.{trieIn};
-ghost use Rattle.trie.specs.Paths.{gather, longest, numbered, counted, held};
+ghost use Rattle.trie.specs.Paths.{gather, longest};
+ghost use Rattle.trie.specs.Runs.{onto, climbed, coded, Kept, Placed, Begun, Found};
 
-// One above the longest path: what `climb` answers for none.
-const LOST: usize = 384;
+// What `climb` answers for damage, and the least that it answers for a node to go on from.
+const LOST: usize = 17;
 
-// The tokens from the root down to node n, at most `most` of them: their number, or LOST. The node number falls at each
-// step up. A plain number is answered, and not an enum, since that comes back in a register at every level.
+const ON: usize = 18;
+
+// The tokens of node n and of those above it, at most `left` of them, written to the first `left` cells of run from behind. Where
+// the root is reached: how many cells are left; where no cell is: ON and the node to go on from. The node number falls at each step
+// up. A plain number is answered, and not an enum, since that comes back in a register at every level.
 fn climb(
     space: &[u32],
     nodes: usize,
     links: usize,
     root: usize,
     n: usize,
-    most: usize,
-    out: &mut [u32],
+    left: usize,
+    run: &mut [u32],
 ) -> usize
-    requires { ⌜ NodesIn (now space) nodes × (n < nodes) × (most ≤ length (now out)) × (most ≤ longest) ⌝ }
-    ensures { λ r. ⌜ (r ≡ numbered (gather most (trieIn sizes (now (space .entry)) nodes links) root n)) × (now (out .exit) ≡ held (gather most (trieIn sizes (now (space .entry)) nodes links) root n) (now (out .entry))) ⌝ }
+    requires { ⌜ NodesIn (now space) nodes × (n < nodes) × (1 ≤ left) × (left ≤ 16) × (left ≤ length (now run)) ⌝ }
+    ensures { λ r. ⌜ (r ≡ coded left (climbed left (trieIn sizes (now (space .entry)) nodes links) root n)) × Kept left (climbed left (trieIn sizes (now (space .entry)) nodes links) root n) (now (run .entry)) (now (run .exit)) × (length (now (run .exit)) ≡ length (now (run .entry))) ⌝ }
 {
     let NodeRead::Sound(y) = read_node(space, nodes, links, n) else {
         return LOST;
     };
     if y.parent == n {
         if n == root {
-            return 0;
+            return left;
         }
         return LOST;
     }
-    if most == 0 {
-        return LOST;
+    let at = left - 1;
+    run[at] = y.token;
+    if at == 0 {
+        return ON + y.parent;
     }
     // Lent anew, not handed on: the space would then be copied at each level before its address is read.
-    let k = climb(&space[..], nodes, links, root, y.parent, most - 1, out);
-    if k < most {
-        out[k] = y.token;
-        return k + 1;
-    }
-    LOST
+    climb(&space[..], nodes, links, root, y.parent, at, run)
 }
 
-// The tokens from the root down to node n, at most `most` of them.
-pub fn gather_tokens(
+// The tokens of node n and of those above it, written to the first 16 * runs cells of path from behind: where they start, or 0 for
+// none. The climb is cut into runs of 16 levels, since a processor foresees no more returns than that; one that is not foreseen
+// costs more than the level.
+fn climb_runs(
     space: &[u32],
     nodes: usize,
     links: usize,
     root: usize,
     n: usize,
-    most: usize,
-    out: &mut [u32],
-) -> Gathered
-    requires { ⌜ NodesIn (now space) nodes × (n < nodes) × (most ≤ length (now out)) × (most ≤ longest) ⌝ }
-    ensures { λ r. ⌜ (r ≡ counted (gather most (trieIn sizes (now (space .entry)) nodes links) root n)) × (now (out .exit) ≡ held (gather most (trieIn sizes (now (space .entry)) nodes links) root n) (now (out .entry))) ⌝ }
+    runs: usize,
+    path: &mut [u32],
+) -> usize
+    requires { ⌜ NodesIn (now space) nodes × (n < nodes) × (1 ≤ runs) × (16 * runs ≤ length (now path)) ⌝ }
+    ensures { λ r. ⌜ Placed (16 * runs) (gather (16 * runs - 1) (trieIn sizes (now (space .entry)) nodes links) root n) r (now (path .entry)) (now (path .exit)) × (length (now (path .exit)) ≡ length (now (path .entry))) ⌝ }
 {
-    let k = climb(space, nodes, links, root, n, most, out);
-    if k < LOST {
-        return Gathered::Tokens(k);
+    let from = 16 * (runs - 1);
+    let end = from + 16;
+    let r = climb(&space[..], nodes, links, root, n, 16, &mut path[from..end]);
+    if r < LOST {
+        return from + r;
     }
-    Gathered::Damaged
+    if r == LOST {
+        return 0;
+    }
+    if runs == 1 {
+        return 0;
+    }
+    climb_runs(&space[..], nodes, links, root, r - ON, runs - 1, path)
+}
+
+// The tokens from the root down to node n, or the last 16 of them, written to run from behind. Most paths end here, and need no
+// cells but these.
+pub fn first_run(
+    space: &[u32],
+    nodes: usize,
+    links: usize,
+    root: usize,
+    n: usize,
+    run: &mut [u32],
+) -> Run
+    requires { ⌜ NodesIn (now space) nodes × (n < nodes) × (length (now run) ≡ 16) ⌝ }
+    ensures { λ r. ⌜ Begun (trieIn sizes (now (space .entry)) nodes links) root n r (now (run .exit)) × (length (now (run .exit)) ≡ length (now (run .entry))) ⌝ }
+{
+    let r = climb(space, nodes, links, root, n, 16, run);
+    if r < LOST {
+        return Run::Whole(r);
+    }
+    if r == LOST {
+        return Run::Lost;
+    }
+    Run::On(r - ON)
+}
+
+// Copies a run to the end of path.
+fn copy_run(run: &[u32], path: &mut [u32])
+    requires { ⌜ (length (now run) ≡ 16) × (length (now path) ≡ longest + 1) ⌝ }
+    ensures { λ _. ⌜ (drop 368 (now (path .exit)) ≡ now (run .entry)) × (length (now (path .exit)) ≡ length (now (path .entry))) ⌝ }
+{
+    let mut i = 16;
+    while 0 < i {
+        i -= 1;
+        path[368 + i] = run[i];
+    }
+}
+
+// The tokens from the root down to node n, and those of the first run behind them, up to the end of path.
+pub fn other_runs(
+    space: &[u32],
+    nodes: usize,
+    links: usize,
+    root: usize,
+    n: usize,
+    run: &[u32],
+    path: &mut [u32],
+) -> Gathered
+    requires { ⌜ NodesIn (now space) nodes × (n < nodes) × (length (now run) ≡ 16) × (length (now path) ≡ longest + 1) ⌝ }
+    ensures { λ r. ⌜ Found (onto (gather (longest - 16) (trieIn sizes (now (space .entry)) nodes links) root n) (now (run .entry))) r (now (path .exit)) × (length (now (path .exit)) ≡ length (now (path .entry))) ⌝ }
+{
+    copy_run(run, path);
+    let k = climb_runs(space, nodes, links, root, n, 23, path);
+    if k == 0 {
+        return Gathered::Damaged;
+    }
+    Gathered::Tokens(k)
 }

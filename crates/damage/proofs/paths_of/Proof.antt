@@ -1,17 +1,15 @@
 -- `damage::paths_of` meets its contract.
 use native.Mathlib.Omega.{arith}
 use borrow.Author.Needs.{needs}
-use Prim.Native.Nat.{_≤_, _<_, _+_, _-_}
-use mathlib.Core.Path.{_≡_}
-use lib.ListN.{length}
+use Prim.Native.Nat.{_≤_, _-_}
 use Rattle.damage.proofs.paths_of.Statement.{statement}
 use Rattle.damage.proofs.paths_of.Tie as tie
 
 abbrev Inv-loop : tie.InvT-loop
-Inv-loop space nodes links most t₀ root₀ t root = root ≤ nodes
+Inv-loop space nodes links first t₀ root₀ t root = root ≤ nodes
 
 abbrev μ-loop : tie.MeasureT-loop
-μ-loop space nodes links most t₀ root₀ t root = nodes - root
+μ-loop space nodes links first t₀ root₀ t root = nodes - root
 
 loop-holds : tie.Need-loop-holds Inv-loop μ-loop
 loop-holds c = omega arith

@@ -19,17 +19,14 @@ returns c = search needs
 returns-2 : tie.Need-returns-2
 returns-2 c = search needs
 
-returns-3 : tie.Need-returns-3
-returns-3 c = search needs
-
-gather-tokens-requires : tie.Need-gather-tokens-requires
-gather-tokens-requires c κs = let h = header-bounds (c .before .before .before .before .before .before .before .before .before .before .args .space .now) (c .before .before .before .before .before .h .given .0 .0) (cc) in search needs
-
-gather-number-requires : tie.Need-gather-number-requires
-gather-number-requires c κs = search needs
+count-requires : tie.Need-count-requires
+count-requires c κs = let h = header-bounds (c .before .before .before .before .before .before .before .before .before .before .args .space .now) (c .before .before .before .before .before .h .given .0 .0) (cc) in search needs
 
 same-length : tie.Need-same-length
 same-length c = search needs
+
+returns-3 : tie.Need-returns-3
+returns-3 c = search needs
 
 returns-4 : tie.Need-returns-4
 returns-4 c = search needs
@@ -43,8 +40,7 @@ space-bench-gather-spec =
     enum-told
     returns
     returns-2
-    returns-3
-    gather-tokens-requires
-    gather-number-requires
+    count-requires
     same-length
+    returns-3
     returns-4)

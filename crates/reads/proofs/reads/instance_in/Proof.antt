@@ -9,10 +9,6 @@ use Rattle.basis.proofs.Tests.{told}
 use borrow.Author.Needs.{needs}
 use Rattle.reads.proofs.reads.instance_in.Statement.{statement}
 use Rattle.reads.proofs.reads.instance_in.Tie as tie
-use Rattle.reads.proofs.reads.instance_in.Reads as reads
-use Rattle.reads.proofs.reads.instance_in.Lts as lts
-use Rattle.reads.proofs.reads.instance_with.Reads as instance-with-reads
-use Rattle.reads.proofs.reads.pair_sound.Reads as pair-sound-reads
 
 returns : tie.Need-returns
 returns c = leaves-says (viewOf sizes (c .before .before .before .args .space .now) (c .before .before .before .args .h)) _ (c .before .before .before .args .out .now) _ (instance-zero edition1 (viewOf sizes (c .before .before .before .args .space .now) (c .before .before .before .args .h)) (c .before .before .before .args .a) (c .before .before .before .args .out .now) (search needs))
@@ -23,20 +19,14 @@ returns-2 c = leaves-says (viewOf sizes (c .before .before .before .before .befo
 pair-sound-requires : tie.Need-pair-sound-requires
 pair-sound-requires c κs = search needs
 
-slice-aggregate-instance-with : tie.Need-slice-aggregate-instance-with
-slice-aggregate-instance-with c = search needs
-
-slice-aggregate-instance-with-2 : tie.Need-slice-aggregate-instance-with-2
-slice-aggregate-instance-with-2 c = search needs
-
 instance-with-requires : tie.Need-instance-with-requires
-instance-with-requires c κs = ((search needs, omega arith, search needs, search needs, search needs), told (c .before .before .before .before .pair-sound .ensures) (c .before .before .before .if3 .taken))
+instance-with-requires c κs = ((search needs, omega arith, search needs), told (c .before .before .pair-sound .ensures) (c .before .if3 .taken))
 
 same-length : tie.Need-same-length
 same-length c = search needs
 
 returns-3 : tie.Need-returns-3
-returns-3 c = leaves-same (viewOf sizes (c .before .before .before .before .before .before .before .before .before .before .before .before .before .before .before .args .space .now) (c .before .before .before .before .before .before .before .before .before .before .before .before .before .before .before .args .h)) _ _ (c .before .before .before .before .before .before .before .before .before .before .before .before .before .before .before .args .out .now) _ _ (instance-sound edition1 (viewOf sizes (c .before .before .before .before .before .before .before .before .before .before .before .before .before .before .before .args .space .now) (c .before .before .before .before .before .before .before .before .before .before .before .before .before .before .before .args .h)) (c .before .before .before .before .before .before .before .before .before .before .before .before .before .before .before .args .a) (c .before .before .before .before .before .before .before .before .before .before .before .before .before .before .before .args .out .now) (search needs) (search needs) (told (c .before .before .before .before .before .before .before .before .before .pair-sound .ensures) (c .before .before .before .before .before .before .before .before .if3 .taken))) (c .before .before .before .before .instance-with .ensures)
+returns-3 c = leaves-same (viewOf sizes (c .before .before .before .before .before .before .before .before .before .before .before .args .space .now) (c .before .before .before .before .before .before .before .before .before .before .before .args .h)) _ _ (c .before .before .before .before .before .before .before .before .before .before .before .args .out .now) _ _ (instance-sound edition1 (viewOf sizes (c .before .before .before .before .before .before .before .before .before .before .before .args .space .now) (c .before .before .before .before .before .before .before .before .before .before .before .args .h)) (c .before .before .before .before .before .before .before .before .before .before .before .args .a) (c .before .before .before .before .before .before .before .before .before .before .before .args .out .now) (search needs) (search needs) (told (c .before .before .before .before .before .pair-sound .ensures) (c .before .before .before .before .if3 .taken))) (c .before .before .instance-with .ensures)
 
 returns-4 : tie.Need-returns-4
 returns-4 c = leaves-says (viewOf sizes (c .before .before .before .before .before .before .before .args .space .now) (c .before .before .before .before .before .before .before .args .h)) _ (c .before .before .before .before .before .before .before .args .out .now) _ (instance-damaged edition1 (viewOf sizes (c .before .before .before .before .before .before .before .args .space .now) (c .before .before .before .before .before .before .before .args .h)) (c .before .before .before .before .before .before .before .args .a) (c .before .before .before .before .before .before .before .args .out .now) (search needs) (search needs) (told (c .before .pair-sound .ensures) (c .if3 .left)))
@@ -48,8 +38,6 @@ instance-in-spec =
     returns
     returns-2
     pair-sound-requires
-    slice-aggregate-instance-with
-    slice-aggregate-instance-with-2
     instance-with-requires
     same-length
     returns-3

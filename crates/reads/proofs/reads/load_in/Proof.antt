@@ -18,17 +18,14 @@ returns-2 c = leaves-says (viewOf sizes (c .before .before .before .before .befo
 pair-sound-requires : tie.Need-pair-sound-requires
 pair-sound-requires c κs = search needs
 
-slice-aggregate-load-with : tie.Need-slice-aggregate-load-with
-slice-aggregate-load-with c = search needs
-
 load-with-requires : tie.Need-load-with-requires
-load-with-requires c κs = ((search needs, omega arith, search needs, search needs), told (c .before .before .before .pair-sound .ensures) (c .before .before .if3 .taken))
+load-with-requires c κs = ((search needs, omega arith, search needs), told (c .before .before .pair-sound .ensures) (c .before .if3 .taken))
 
 same-length : tie.Need-same-length
 same-length c = search needs
 
 returns-3 : tie.Need-returns-3
-returns-3 c = leaves-same (viewOf sizes (c .before .before .before .before .before .before .before .before .before .before .before .before .before .args .space .now) (c .before .before .before .before .before .before .before .before .before .before .before .before .before .args .h)) _ _ (c .before .before .before .before .before .before .before .before .before .before .before .before .before .args .out .now) _ _ (load-sound edition1 (viewOf sizes (c .before .before .before .before .before .before .before .before .before .before .before .before .before .args .space .now) (c .before .before .before .before .before .before .before .before .before .before .before .before .before .args .h)) (c .before .before .before .before .before .before .before .before .before .before .before .before .before .args .a) (c .before .before .before .before .before .before .before .before .before .before .before .before .before .args .out .now) (search needs) (search needs) (told (c .before .before .before .before .before .before .before .pair-sound .ensures) (c .before .before .before .before .before .before .if3 .taken))) (c .before .before .before .load-with .ensures)
+returns-3 c = leaves-same (viewOf sizes (c .before .before .before .before .before .before .before .before .before .before .before .args .space .now) (c .before .before .before .before .before .before .before .before .before .before .before .args .h)) _ _ (c .before .before .before .before .before .before .before .before .before .before .before .args .out .now) _ _ (load-sound edition1 (viewOf sizes (c .before .before .before .before .before .before .before .before .before .before .before .args .space .now) (c .before .before .before .before .before .before .before .before .before .before .before .args .h)) (c .before .before .before .before .before .before .before .before .before .before .before .args .a) (c .before .before .before .before .before .before .before .before .before .before .before .args .out .now) (search needs) (search needs) (told (c .before .before .before .before .before .pair-sound .ensures) (c .before .before .before .before .if3 .taken))) (c .before .before .load-with .ensures)
 
 returns-4 : tie.Need-returns-4
 returns-4 c = leaves-says (viewOf sizes (c .before .before .before .before .before .before .before .args .space .now) (c .before .before .before .before .before .before .before .args .h)) _ (c .before .before .before .before .before .before .before .args .out .now) _ (load-damaged edition1 (viewOf sizes (c .before .before .before .before .before .before .before .args .space .now) (c .before .before .before .before .before .before .before .args .h)) (c .before .before .before .before .before .before .before .args .a) (c .before .before .before .before .before .before .before .args .out .now) (search needs) (search needs) (told (c .before .pair-sound .ensures) (c .if3 .left)))
@@ -40,7 +37,6 @@ load-in-spec =
     returns
     returns-2
     pair-sound-requires
-    slice-aggregate-load-with
     load-with-requires
     same-length
     returns-3

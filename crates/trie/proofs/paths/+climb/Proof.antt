@@ -1,12 +1,13 @@
 -- `trie::paths::climb` meets its contract.
-use Rattle.trie.proofs.PathCases.{path-damaged, path-lower, path-root, path-other, path-deep, path-above, path-longer}
+use Rattle.trie.proofs.PathCases.{climb-damaged, climb-lower, climb-root, climb-other, climb-more, climb-cut}
 use Rattle.trie.specs.Siblings.{trieIn}
 use Rattle.space.specs.Layout.{sizes}
 use mathlib.Core.List.{[]}
 use lib.ListN.{length-set}
+use mathlib.Core.Path.{_∙_}
 use borrow.Author.Needs.{needs}
 use native.Mathlib.Omega.{arith}
-use Prim.Native.Nat.{ℕ, _<_}
+use Prim.Native.Nat.{ℕ, _<_, _-_}
 use borrow.Fn.Kinds.{In}
 use borrow.Fn.PlainCycle.{Measures, is, falls, and}
 use Rattle.trie.proofs.paths.climb.Reads as climb
@@ -55,7 +56,7 @@ climb-returns : (t : ℕ) → climb-lts.Need-returns (
   climb-below t,
   climb.Post,
 ) (climb-at t) climb.Post
-climb-returns t c = path-damaged _ (trieIn sizes (c .before .before .before .before .before .args .space .now) (c .before .before .before .before .before .args .nodes) (c .before .before .before .before .before .args .links)) _ _ _ (cc)
+climb-returns t c = climb-damaged _ (trieIn sizes (c .before .before .before .before .before .args .space .now) (c .before .before .before .before .before .args .nodes) (c .before .before .before .before .before .args .links)) _ _ _ (search needs) (cc)
 
 climb-returns-2 : (t : ℕ) → climb-lts.Need-returns-2 (
   read-node-reads.Asked,
@@ -63,7 +64,7 @@ climb-returns-2 : (t : ℕ) → climb-lts.Need-returns-2 (
   climb-below t,
   climb.Post,
 ) (climb-at t) climb.Post
-climb-returns-2 t c = path-root _ (trieIn sizes (c .before .before .before .before .before .before .before .before .before .args .space .now) (c .before .before .before .before .before .before .before .before .before .args .nodes) (c .before .before .before .before .before .before .before .before .before .args .links)) _ _ _ (c .before .before .before .before .y .given .0 .0) (cc) (search needs) (search needs)
+climb-returns-2 t c = climb-root _ (trieIn sizes (c .before .before .before .before .before .before .before .before .before .args .space .now) (c .before .before .before .before .before .before .before .before .before .args .nodes) (c .before .before .before .before .before .before .before .before .before .args .links)) _ _ _ (search needs) (c .before .before .before .before .y .given .0 .0) (cc) (search needs) (search needs)
 
 climb-returns-3 : (t : ℕ) → climb-lts.Need-returns-3 (
   read-node-reads.Asked,
@@ -71,47 +72,31 @@ climb-returns-3 : (t : ℕ) → climb-lts.Need-returns-3 (
   climb-below t,
   climb.Post,
 ) (climb-at t) climb.Post
-climb-returns-3 t c = path-other _ (trieIn sizes (c .before .before .before .before .before .before .before .before .before .args .space .now) (c .before .before .before .before .before .before .before .before .before .args .nodes) (c .before .before .before .before .before .before .before .before .before .args .links)) _ _ _ (c .before .before .before .before .y .given .0 .0) (cc) (search needs) (search needs)
+climb-returns-3 t c = climb-other _ (trieIn sizes (c .before .before .before .before .before .before .before .before .before .args .space .now) (c .before .before .before .before .before .before .before .before .before .args .nodes) (c .before .before .before .before .before .before .before .before .before .args .links)) _ _ _ (search needs) (c .before .before .before .before .y .given .0 .0) (cc) (search needs) (search needs)
 
-climb-returns-4 : (t : ℕ) → climb-lts.Need-returns-4 (
+climb-sub-at : (t : ℕ) → climb-lts.Need-sub-at (
   read-node-reads.Asked,
   read-node-reads.Learnt,
   climb-below t,
   climb.Post,
 ) (climb-at t) climb.Post
-climb-returns-4 t c = path-deep _ (trieIn sizes (c .before .before .before .before .before .before .before .before .before .args .space .now) (c .before .before .before .before .before .before .before .before .before .args .nodes) (c .before .before .before .before .before .before .before .before .before .args .links)) _ _ _ (c .before .before .before .before .y .given .0 .0) (cc) (search needs) (search needs)
+climb-sub-at t c = omega arith
 
-climb-sub-climb : (t : ℕ) → climb-lts.Need-sub-climb (
+climb-mul-run : (t : ℕ) → climb-lts.Need-mul-run (
   read-node-reads.Asked,
   read-node-reads.Learnt,
   climb-below t,
   climb.Post,
 ) (climb-at t) climb.Post
-climb-sub-climb t c = omega arith
+climb-mul-run t c = omega arith
 
-climb-climb-requires : (t : ℕ) → climb-lts.Need-climb-requires (
+climb-slice-write-run : (t : ℕ) → climb-lts.Need-slice-write-run (
   read-node-reads.Asked,
   read-node-reads.Learnt,
   climb-below t,
   climb.Post,
 ) (climb-at t) climb.Post
-climb-climb-requires t c κs = let l = path-lower 0 (trieIn sizes (c .before .before .before .before .before .before .before .before .before .before .args .space .now) (c .before .before .before .before .before .before .before .before .before .before .args .nodes) (c .before .before .before .before .before .before .before .before .before .before .args .links)) 0 (c .before .before .before .before .before .before .before .before .before .before .args .n) [] (c .before .before .before .before .before .y .given .0 .0) (cc) in search needs
-
-climb-mul-out : (t : ℕ) → climb-lts.Need-mul-out (
-  read-node-reads.Asked,
-  read-node-reads.Learnt,
-  climb-below t,
-  climb.Post,
-) (climb-at t) climb.Post
-climb-mul-out t c = omega arith
-
-climb-slice-write-out : (t : ℕ) → climb-lts.Need-slice-write-out (
-  read-node-reads.Asked,
-  read-node-reads.Learnt,
-  climb-below t,
-  climb.Post,
-) (climb-at t) climb.Post
-climb-slice-write-out t c = omega arith
+climb-slice-write-run t c = omega arith
 
 climb-add-result : (t : ℕ) → climb-lts.Need-add-result (
   read-node-reads.Asked,
@@ -119,7 +104,7 @@ climb-add-result : (t : ℕ) → climb-lts.Need-add-result (
   climb-below t,
   climb.Post,
 ) (climb-at t) climb.Post
-climb-add-result t c = omega arith
+climb-add-result t c = let l = climb-lower 1 (trieIn sizes (c .before .before .before .before .before .before .before .before .before .before .args .space .now) (c .before .before .before .before .before .before .before .before .before .before .args .nodes) (c .before .before .before .before .before .before .before .before .before .before .args .links)) 0 (c .before .before .before .before .before .before .before .before .before .before .args .n) [] (omega arith) (c .before .before .before .before .before .y .given .0 .0) (cc) in omega arith
 
 climb-same-length : (t : ℕ) → climb-lts.Need-same-length (
   read-node-reads.Asked,
@@ -129,13 +114,21 @@ climb-same-length : (t : ℕ) → climb-lts.Need-same-length (
 ) (climb-at t) climb.Post
 climb-same-length t c = simp length-set (search needs)
 
-climb-returns-5 : (t : ℕ) → climb-lts.Need-returns-5 (
+climb-returns-4 : (t : ℕ) → climb-lts.Need-returns-4 (
   read-node-reads.Asked,
   read-node-reads.Learnt,
   climb-below t,
   climb.Post,
 ) (climb-at t) climb.Post
-climb-returns-5 t c = path-longer _ (trieIn sizes (c .before .before .before .before .before .before .before .before .before .before .before .before .before .before .args .space .now) (c .before .before .before .before .before .before .before .before .before .before .before .before .before .before .args .nodes) (c .before .before .before .before .before .before .before .before .before .before .before .before .before .before .args .links)) _ _ _ (c .before .before .before .before .before .before .before .before .before .y .given .0 .0) (cc) (search needs) (search needs) _ _ (omega arith) (omega arith) (c .before .before .before .climb .ensures)
+climb-returns-4 t c = climb-cut _ (trieIn sizes (c .before .before .before .before .before .before .before .before .before .before .args .space .now) (c .before .before .before .before .before .before .before .before .before .before .args .nodes) (c .before .before .before .before .before .before .before .before .before .before .args .links)) _ _ _ (search needs) (c .before .before .before .before .before .y .given .0 .0) (cc) (search needs) (search needs) (search needs)
+
+climb-climb-requires : (t : ℕ) → climb-lts.Need-climb-requires (
+  read-node-reads.Asked,
+  read-node-reads.Learnt,
+  climb-below t,
+  climb.Post,
+) (climb-at t) climb.Post
+climb-climb-requires t c κs = let l = climb-lower 1 (trieIn sizes (c .before .before .before .before .before .before .before .before .before .before .args .space .now) (c .before .before .before .before .before .before .before .before .before .before .args .nodes) (c .before .before .before .before .before .before .before .before .before .before .args .links)) 0 (c .before .before .before .before .before .before .before .before .before .before .args .n) [] (omega arith) (c .before .before .before .before .before .y .given .0 .0) (cc) in simp length-set (search needs)
 
 climb-same-length-2 : (t : ℕ) → climb-lts.Need-same-length-2 (
   read-node-reads.Asked,
@@ -143,15 +136,15 @@ climb-same-length-2 : (t : ℕ) → climb-lts.Need-same-length-2 (
   climb-below t,
   climb.Post,
 ) (climb-at t) climb.Post
-climb-same-length-2 t c = search needs
+climb-same-length-2 t c = c .before .before .climb .ensures .2 ∙ length-set (c .before .before .before .before .before .before .before .before .before .before .before .before .before .args .run .now) (c .before .before .before .before .before .before .before .before .before .before .before .before .before .args .left - 1) (c .before .before .before .before .before .before .before .before .y .given .0 .0 .token)
 
-climb-returns-6 : (t : ℕ) → climb-lts.Need-returns-6 (
+climb-returns-5 : (t : ℕ) → climb-lts.Need-returns-5 (
   read-node-reads.Asked,
   read-node-reads.Learnt,
   climb-below t,
   climb.Post,
 ) (climb-at t) climb.Post
-climb-returns-6 t c = path-above _ (trieIn sizes (c .before .before .before .before .before .before .before .before .before .before .before .before .before .before .args .space .now) (c .before .before .before .before .before .before .before .before .before .before .before .before .before .before .args .nodes) (c .before .before .before .before .before .before .before .before .before .before .before .before .before .before .args .links)) _ _ _ (c .before .before .before .before .before .before .before .before .before .y .given .0 .0) (cc) (search needs) (search needs) _ _ (search needs) (c .before .before .before .climb .ensures)
+climb-returns-5 t c = climb-more _ (trieIn sizes (c .before .before .before .before .before .before .before .before .before .before .before .before .before .args .space .now) (c .before .before .before .before .before .before .before .before .before .before .before .before .before .args .nodes) (c .before .before .before .before .before .before .before .before .before .before .before .before .before .args .links)) _ _ _ (search needs) (c .before .before .before .before .before .before .before .before .y .given .0 .0) (cc) (search needs) (search needs) _ _ (c .before .before .climb .ensures)
 
 pub +climb-spec : {M : Type 1} → statement M
 +climb-spec = close μ-climb λ t. climb-lts.spec (
@@ -168,13 +161,12 @@ pub +climb-spec : {M : Type 1} → statement M
     (climb-returns t)
     (climb-returns-2 t)
     (climb-returns-3 t)
-    (climb-returns-4 t)
-    (climb-sub-climb t)
-    (climb-climb-requires t)
-    (climb-mul-out t)
-    (climb-slice-write-out t)
+    (climb-sub-at t)
+    (climb-mul-run t)
+    (climb-slice-write-run t)
     (climb-add-result t)
     (climb-same-length t)
-    (climb-returns-5 t)
+    (climb-returns-4 t)
+    (climb-climb-requires t)
     (climb-same-length-2 t)
-    (climb-returns-6 t)
+    (climb-returns-5 t)

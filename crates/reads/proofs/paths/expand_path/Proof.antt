@@ -1,11 +1,11 @@
--- `reads::reads::expand_path` meets its contract.
+-- `reads::paths::expand_path` meets its contract.
 use Rattle.reads.proofs.ReadsCases.{expanded-path}
 use Rattle.forms.specs.declared.Answer.the-variants.{Cells, Short}
 use Rattle.forms.specs.Cells.{arity16}
 use Rattle.basis.proofs.Tests.{told}
 use borrow.Author.Needs.{needs}
-use Rattle.reads.proofs.reads.expand_path.Statement.{statement}
-use Rattle.reads.proofs.reads.expand_path.Tie as tie
+use Rattle.reads.proofs.paths.expand_path.Statement.{statement}
+use Rattle.reads.proofs.paths.expand_path.Tie as tie
 
 expand-requires : tie.Need-expand-requires
 expand-requires c κs = search needs

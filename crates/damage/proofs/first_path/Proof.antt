@@ -1,0 +1,74 @@
+-- `damage::first_path` meets its contract.
+use native.Mathlib.Omega.{arith}
+use borrow.Author.Needs.{needs}
+use Rattle.damage.proofs.first_path.Statement.{statement}
+use Rattle.damage.proofs.first_path.Tie as tie
+
+slice-aggregate-first-run : tie.Need-slice-aggregate-first-run
+slice-aggregate-first-run c = search needs
+
+first-run-requires : tie.Need-first-run-requires
+first-run-requires c κs = search needs
+
+enum-known-first : tie.Need-enum-known-first
+enum-known-first c = search needs
+
+mul-with-tokens : tie.Need-mul-with-tokens
+mul-with-tokens c = let f = rw (c .before .first .given .1) at (c .before .before .before .before .first-run .ensures .0) in omega (arith, f .0, c .before .before .before .before .first-run .ensures .1)
+
+sub-with-tokens : tie.Need-sub-with-tokens
+sub-with-tokens c = let f = rw (c .before .first .given .1) at (c .before .before .before .before .first-run .ensures .0) in omega (arith, f .0, c .before .before .before .before .first-run .ensures .1)
+
+part-with-tokens-start : tie.Need-part-with-tokens-start
+part-with-tokens-start c = let f = rw (c .before .before .first .given .1) at (c .before .before .before .before .before .first-run .ensures .0) in omega (arith, f .0, c .before .before .before .before .before .first-run .ensures .1)
+
+part-with-tokens-end : tie.Need-part-with-tokens-end
+part-with-tokens-end c = search needs
+
+with-tokens-requires : tie.Need-with-tokens-requires
+with-tokens-requires c κs = search needs
+
+enum-known-first-2 : tie.Need-enum-known-first-2
+enum-known-first-2 c = search needs
+
+mixed-index-requires : tie.Need-mixed-index-requires
+mixed-index-requires c κs = search needs
+
+with-sum-requires : tie.Need-with-sum-requires
+with-sum-requires c κs = search needs
+
+enum-told : tie.Need-enum-told
+enum-told c = search needs
+
+with-damage-requires : tie.Need-with-damage-requires
+with-damage-requires c κs = search needs
+
+returns : tie.Need-returns
+returns c = search needs
+
+returns-2 : tie.Need-returns-2
+returns-2 c = search needs
+
+returns-3 : tie.Need-returns-3
+returns-3 c = search needs
+
+pub first-path-spec : {M : Type 1} → statement M
+first-path-spec =
+    tie.close
+    (tie.spec
+    slice-aggregate-first-run
+    first-run-requires
+    enum-known-first
+    mul-with-tokens
+    sub-with-tokens
+    part-with-tokens-start
+    part-with-tokens-end
+    with-tokens-requires
+    enum-known-first-2
+    mixed-index-requires
+    with-sum-requires
+    enum-told
+    with-damage-requires
+    returns
+    returns-2
+    returns-3)
