@@ -7,7 +7,7 @@ import sys
 LONGEST = 383
 
 # the last tokens of a path that is longer than a run
-RUN = [7] * 16
+RUN = [7] * 12
 NONE = None
 
 

@@ -348,7 +348,7 @@ fn all_walks(space: &[u32], h: Head) -> Tally
 fn first_path(space: &[u32], nodes: usize, links: usize, root: usize, n: usize, t: Tally) -> Tally
     requires { ⌜ NodesIn (now space) nodes × (n < nodes) ⌝ }
 {
-    let mut run = [0u32; 16];
+    let mut run = [0u32; 12];
     let first = first_run(space, nodes, links, root, n, &mut run);
     match first {
         Run::Whole(k) => with_tokens(t, &run[k..]),
@@ -361,9 +361,9 @@ fn first_path(space: &[u32], nodes: usize, links: usize, root: usize, n: usize, 
 fn other_path(space: &[u32], nodes: usize, links: usize, root: usize, n: usize, t: Tally) -> Tally
     requires { ⌜ NodesIn (now space) nodes × (n < nodes) ⌝ }
 {
-    let run = [7u32; 16];
+    let mut run = [7u32; 12];
     let mut path = [0u32; 384];
-    let Gathered::Tokens(k) = other_runs(space, nodes, links, root, n, &run, &mut path) else {
+    let Gathered::Tokens(k) = other_runs(space, nodes, links, root, n, &mut run, &mut path) else {
         return with_damage(t);
     };
     with_tokens(t, &path[k..])

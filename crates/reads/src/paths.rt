@@ -36,12 +36,12 @@ fn load_long(
     h: Head,
     root: usize,
     n: usize,
-    run: &[u32],
+    run: &mut [u32; 12],
     m: usize,
     out: &mut [u32],
 ) -> Answer
-    requires { ⌜ Bounds (now space) h × (n < h .nodes) × (length (now run) ≡ 16) ⌝ }
-    ensures { λ r. ⌜ ((v : View) → Leaves v (loadedFrom (onto (gather (longest - 16) (answerTrie (viewOf sizes (now (space .entry)) h)) root n) (now (run .entry))) m) (now (out .entry)) (saidCells r) (now (out .exit))) ⌝ }
+    requires { ⌜ Bounds (now space) h × (n < h .nodes) × (length (now run) ≡ 12) ⌝ }
+    ensures { λ r. ⌜ ((v : View) → Leaves v (loadedFrom (onto (gather (longest - 12) (answerTrie (viewOf sizes (now (space .entry)) h)) root n) (now (run .entry))) m) (now (out .entry)) (saidCells r) (now (out .exit))) ⌝ }
 {
     let mut path = [0u32; 384];
     let Gathered::Tokens(k) = other_runs(space, h.nodes, h.answers, root, n, run, &mut path) else {
@@ -62,11 +62,11 @@ pub fn load_path(
     requires { ⌜ Bounds (now space) h × (leaf < h .nodes) ⌝ }
     ensures { λ r. ⌜ ((v : View) → Leaves v (loadedFrom (gather longest (answerTrie (viewOf sizes (now (space .entry)) h)) root leaf) m) (now (out .entry)) (saidCells r) (now (out .exit))) ⌝ }
 {
-    let mut run = [0u32; 16];
+    let mut run = [0u32; 12];
     let first = first_run(space, h.nodes, h.answers, root, leaf, &mut run);
     match first {
         Run::Whole(k) => expand_path(&run[k..], m, out),
-        Run::On(n) => load_long(space, h, root, n, &run, m, out),
+        Run::On(n) => load_long(space, h, root, n, &mut run, m, out),
         Run::Lost => Answer::Refused(9),
     }
 }
@@ -76,13 +76,13 @@ fn instance_under_long(
     space: &[u32],
     h: Head,
     n: usize,
-    run: &[u32],
+    run: &mut [u32; 12],
     form: &[u32],
     m: usize,
     out: &mut [u32],
 ) -> Answer
-    requires { ⌜ Bounds (now space) h × (n < h .nodes) × (length (now run) ≡ 16) ⌝ }
-    ensures { λ r. ⌜ ((v : View) → Leaves v (instancedFrom (tokens (now (form .entry))) (onto (gather (longest - 16) (subgoalTrie (viewOf sizes (now (space .entry)) h)) 0 n) (now (run .entry))) m) (now (out .entry)) (saidCells r) (now (out .exit))) ⌝ }
+    requires { ⌜ Bounds (now space) h × (n < h .nodes) × (length (now run) ≡ 12) ⌝ }
+    ensures { λ r. ⌜ ((v : View) → Leaves v (instancedFrom (tokens (now (form .entry))) (onto (gather (longest - 12) (subgoalTrie (viewOf sizes (now (space .entry)) h)) 0 n) (now (run .entry))) m) (now (out .entry)) (saidCells r) (now (out .exit))) ⌝ }
 {
     let mut path = [0u32; 384];
     let Gathered::Tokens(k) = other_runs(space, h.nodes, h.subgoals, 0, n, run, &mut path) else {
@@ -103,11 +103,11 @@ fn instance_under(
     requires { ⌜ Bounds (now space) h × (leaf < h .nodes) ⌝ }
     ensures { λ r. ⌜ ((v : View) → Leaves v (instancedFrom (tokens (now (form .entry))) (gather longest (subgoalTrie (viewOf sizes (now (space .entry)) h)) 0 leaf) m) (now (out .entry)) (saidCells r) (now (out .exit))) ⌝ }
 {
-    let mut run = [0u32; 16];
+    let mut run = [0u32; 12];
     let first = first_run(space, h.nodes, h.subgoals, 0, leaf, &mut run);
     match first {
         Run::Whole(k) => instance_path(&run[k..], form, m, out),
-        Run::On(n) => instance_under_long(space, h, n, &run, form, m, out),
+        Run::On(n) => instance_under_long(space, h, n, &mut run, form, m, out),
         Run::Lost => Answer::Refused(9),
     }
 }
@@ -118,13 +118,13 @@ fn instance_long(
     h: Head,
     root: usize,
     n: usize,
-    run: &[u32],
+    run: &mut [u32; 12],
     subgoal_leaf: usize,
     m: usize,
     out: &mut [u32],
 ) -> Answer
-    requires { ⌜ Bounds (now space) h × (n < h .nodes) × («subgoal_leaf» < h .nodes) × (length (now run) ≡ 16) ⌝ }
-    ensures { λ r. ⌜ ((v : View) → Leaves v (instancedFrom (onto (gather (longest - 16) (answerTrie (viewOf sizes (now (space .entry)) h)) root n) (now (run .entry))) (gather longest (subgoalTrie (viewOf sizes (now (space .entry)) h)) 0 «subgoal_leaf») m) (now (out .entry)) (saidCells r) (now (out .exit))) ⌝ }
+    requires { ⌜ Bounds (now space) h × (n < h .nodes) × («subgoal_leaf» < h .nodes) × (length (now run) ≡ 12) ⌝ }
+    ensures { λ r. ⌜ ((v : View) → Leaves v (instancedFrom (onto (gather (longest - 12) (answerTrie (viewOf sizes (now (space .entry)) h)) root n) (now (run .entry))) (gather longest (subgoalTrie (viewOf sizes (now (space .entry)) h)) 0 «subgoal_leaf») m) (now (out .entry)) (saidCells r) (now (out .exit))) ⌝ }
 {
     let mut path = [0u32; 384];
     let Gathered::Tokens(k) = other_runs(space, h.nodes, h.answers, root, n, run, &mut path) else {
@@ -146,11 +146,11 @@ pub fn instance_paths(
     requires { ⌜ Bounds (now space) h × (leaf < h .nodes) × («subgoal_leaf» < h .nodes) ⌝ }
     ensures { λ r. ⌜ ((v : View) → Leaves v (instancedFrom (gather longest (answerTrie (viewOf sizes (now (space .entry)) h)) root leaf) (gather longest (subgoalTrie (viewOf sizes (now (space .entry)) h)) 0 «subgoal_leaf») m) (now (out .entry)) (saidCells r) (now (out .exit))) ⌝ }
 {
-    let mut run = [0u32; 16];
+    let mut run = [0u32; 12];
     let first = first_run(space, h.nodes, h.answers, root, leaf, &mut run);
     match first {
         Run::Whole(k) => instance_under(space, h, subgoal_leaf, &run[k..], m, out),
-        Run::On(n) => instance_long(space, h, root, n, &run, subgoal_leaf, m, out),
+        Run::On(n) => instance_long(space, h, root, n, &mut run, subgoal_leaf, m, out),
         Run::Lost => Answer::Refused(9),
     }
 }

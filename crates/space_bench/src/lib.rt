@@ -31,8 +31,8 @@ pub extern "C" fn space_bench_walk(space: &[u32], tokens: &[u32]) -> u64 {
 }
 
 // How many tokens a path has that goes on from node n above its first run.
-fn long_count(space: &[u32], h: Head, n: usize, run: &[u32], out: &mut [u32]) -> u64
-    requires { ⌜ Bounds (now space) h × (n < h .nodes) × (length (now run) ≡ 16) × (length (now out) ≡ 384) ⌝ }
+fn long_count(space: &[u32], h: Head, n: usize, run: &mut [u32; 12], out: &mut [u32]) -> u64
+    requires { ⌜ Bounds (now space) h × (n < h .nodes) × (length (now run) ≡ 12) × (length (now out) ≡ 384) ⌝ }
 {
     let Gathered::Tokens(start) = other_runs(space, h.nodes, h.subgoals, 0, n, run, out) else {
         return 18446744073709551615;
@@ -44,11 +44,11 @@ fn long_count(space: &[u32], h: Head, n: usize, run: &[u32], out: &mut [u32]) ->
 fn count(space: &[u32], h: Head, leaf: usize, out: &mut [u32]) -> u64
     requires { ⌜ Bounds (now space) h × (leaf < h .nodes) × (length (now out) ≡ 384) ⌝ }
 {
-    let mut run = [0u32; 16];
+    let mut run = [0u32; 12];
     let first = first_run(space, h.nodes, h.subgoals, 0, leaf, &mut run);
     match first {
-        Run::Whole(start) => (16 - start) as u64,
-        Run::On(n) => long_count(space, h, n, &run, out),
+        Run::Whole(start) => (12 - start) as u64,
+        Run::On(n) => long_count(space, h, n, &mut run, out),
         Run::Lost => 18446744073709551615,
     }
 }

@@ -4,11 +4,11 @@ use mathlib.Core.Path.{_≡_, refl, sym, ap, _∙_}
 use mathlib.Core.Bool.{true}
 use mathlib.Core.List.{List, [], _∷_, _++_, append-nil, append-assoc}
 use native.Mathlib.Omega.{arith}
-use lib.ListN.{length, getD, take, drop, set, length-append, length-drop, length-set, drop-of-length-le}
+use lib.ListN.{length, getD, take, drop, set, length-append, length-set, drop-of-length-le}
 use lib.Dec.{leb}
 use borrow.Author.Tests.{leb-true, leb-false}
 use Rattle.basis.proofs.Cases.{by-cases}
-use lib.Seq.{set-split, drop-at, drop-drop, drop-append-le, drop-append-add, drop-cons, length-take-le}
+use lib.Seq.{set-split, drop-at, drop-drop, drop-append-le, drop-cons, length-take-le}
 use Rattle.space.specs.Judging.{readNode}
 use Rattle.space.specs.declared.Node.{Node}
 use Rattle.space.specs.declared.NodeRead.the-variants as node
@@ -26,7 +26,7 @@ use Rattle.trie.proofs.PathLaws.{climbed-unsound, climbed-root, climbed
 abbrev pub Done : ℕ → Climb → List ℕ → List ℕ → ℕ → Type 0
 Done left c a b r = (r ≡ coded left c) × Kept left c a b × (length b ≡ length a)
 
-done-lost : (left : ℕ) (c : Climb) (a : List ℕ) → c ≡ lost → Done left c a a 17
+done-lost : (left : ℕ) (c : Climb) (a : List ℕ) → c ≡ lost → Done left c a a 13
 done-lost left c a e = rw e (refl, tt, refl)
 
 done-whole : (left : ℕ) (c : Climb) (a : List ℕ) → c ≡ whole [] → Done left c a a left
@@ -60,7 +60,7 @@ module _ (left : ℕ) (t : Trie) (root n : ℕ) (a : List ℕ) (o : 1 ≤ left) 
   one-more : left ≡ suc (left - 1)
   one-more = omega arith
 
-  pub climb-damaged : node.Damaged ≡ readNode (t .nodes) (t .links) (t .at) n → Done left (climbed left t root n) a a 17
+  pub climb-damaged : node.Damaged ≡ readNode (t .nodes) (t .links) (t .at) n → Done left (climbed left t root n) a a 13
   climb-damaged e = done-lost left _ a (ap (λ (m : ℕ). climbed m t root n) one-more ∙ climbed-unsound t root n (left - 1) (read-node-damaged (t .nodes) (t .links) (t .at) n e))
 
   module _ (y : Node) (e : node.Sound y ≡ readNode (t .nodes) (t .links) (t .at) n) where
@@ -79,7 +79,7 @@ module _ (left : ℕ) (t : Trie) (root n : ℕ) (a : List ℕ) (o : 1 ≤ left) 
     pub climb-root : y .parent ≡ n → n ≡ root → Done left (climbed left t root n) a a left
     climb-root p r = done-whole left _ a (ap (λ (m : ℕ). climbed m t root n) one-more ∙ climbed-root t root n (left - 1) judged (sym own ∙ p) r)
 
-    pub climb-other : y .parent ≡ n → (n ≡ root → ⊥) → Done left (climbed left t root n) a a 17
+    pub climb-other : y .parent ≡ n → (n ≡ root → ⊥) → Done left (climbed left t root n) a a 13
     climb-other p r = done-lost left _ a (ap (λ (m : ℕ). climbed m t root n) one-more ∙ climbed-other t root n (left - 1) judged (sym own ∙ p) r)
 
     module _ (p : y .parent ≡ n → ⊥) (h : left ≤ length a) where
@@ -91,180 +91,152 @@ module _ (left : ℕ) (t : Trie) (root n : ℕ) (a : List ℕ) (o : 1 ≤ left) 
       pub climb-more : (b : List ℕ) (r : ℕ) → Done (left - 1) (climbed (left - 1) t root (y .parent)) (set a (left - 1) (y .token)) b r → Done left (climbed left t root n) a b r
       climb-more b r d = rw up (done-longer left (y .token) (climbed (left - 1) t root (y .parent)) a b r o h d)
 
-      pub climb-cut : left - 1 ≡ 0 → Done left (climbed left t root n) a (set a (left - 1) (y .token)) (18 + y .parent)
+      pub climb-cut : left - 1 ≡ 0 → Done left (climbed left t root n) a (set a (left - 1) (y .token)) (14 + y .parent)
       unfolding climbed
-      climb-cut z = climb-more (set a (left - 1) (y .token)) (18 + y .parent) (rw z (refl, refl, refl))
+      climb-cut z = climb-more (set a (left - 1) (y .token)) (14 + y .parent) (rw z (refl, refl, refl))
 
 -- ---- a run of a path
 
--- a path of which the cells of one run were written
-module _ (a sub : List ℕ) (from k : ℕ) (o : from + k ≤ length a) (l : length sub ≡ k) where
-  abbrev pub written : List ℕ
-  written = take from a ++ (sub ++ drop k (drop from a))
+-- a step of copying a run, the last cell first
+pub copied-step : (run path rest : List ℕ) (from i j : ℕ) → j ≡ i + 1 → i < length run → from + i < length path → drop (from + j) path ≡ drop j run ++ rest
+    → drop (from + i) (set path (from + i) (getD run i 0)) ≡ drop i run ++ rest
+copied-step run path rest from i j s h k e =
+    let f : suc (from + i) ≡ from + j = omega arith in
+    let g : j ≡ suc i = omega arith in
+    drop-written path (from + i) (getD run i 0) k
+    ∙ ap (λ (m : ℕ). getD run i 0 ∷ drop m path) f
+    ∙ ap (λ (ys : List ℕ). getD run i 0 ∷ ys) (e ∙ ap (λ (m : ℕ). drop m run ++ rest) g)
+    ∙ ap (λ (ys : List ℕ). ys ++ rest) (sym (drop-cons run i 0 h))
 
-  pub drop-run : (i : ℕ) → i ≤ k → drop (from + i) written ≡ drop i sub ++ drop (from + k) a
-  drop-run i h =
-      let f : length (take from a) ≡ from = length-take-le from a (omega arith) in
-      ap (λ (j : ℕ). drop (j + i) written) (sym f)
-      ∙ drop-append-add (take from a) (sub ++ drop k (drop from a)) i
-      ∙ drop-append-le i sub (drop k (drop from a)) (omega arith)
-      ∙ ap (λ (ys : List ℕ). drop i sub ++ ys) (drop-drop k from a)
+pub copied-none : (run path : List ℕ) (from : ℕ) → length run ≡ 12 → drop (from + 12) path ≡ drop 12 run ++ drop (from + 12) path
+copied-none run path from l = ap (λ (ys : List ℕ). ys ++ drop (from + 12) path) (sym (drop-of-length-le run {i = 12} (omega arith)))
 
-  pub length-written : length written ≡ length a
-  length-written =
-      let f : length (take from a) ≡ from = length-take-le from a (omega arith) in
-      let d : length (drop k (drop from a)) ≡ length (drop from a) - k = length-drop k (drop from a) in
-      let g : length (drop from a) ≡ length a - from = length-drop from a in
-      let x : length written ≡ length (take from a) + length (sub ++ drop k (drop from a)) = length-append (take from a) (sub ++ drop k (drop from a)) in
-      let y : length (sub ++ drop k (drop from a)) ≡ length sub + length (drop k (drop from a)) = length-append sub (drop k (drop from a)) in
-      omega arith
+-- a run as it was climbed, at its end
+tokens-of : (xs before sub : List ℕ) → length before ≡ 12 → drop (12 - length xs) sub ≡ xs ++ drop 12 before → drop (12 - length xs) sub ≡ xs
+tokens-of xs before sub l e = e ∙ ap (λ (ys : List ℕ). xs ++ ys) (drop-of-length-le before {i = 12} (omega arith)) ∙ append-nil xs
 
 -- what climbing the runs is to show, from the last of them on
 abbrev pub Runs : ℕ → Path → ℕ → List ℕ → List ℕ → Type 0
-Runs runs p r a b = Placed (16 * runs) p r a b × (length b ≡ length a)
+Runs runs p r a b = Placed (12 * runs) p r a b × (length b ≡ length a)
 
-module _ (t : Trie) (root n runs k : ℕ) (a sub : List ℕ) (r : ℕ) (one : 1 ≤ runs) (room : 16 * runs ≤ length a) (sixteen : k ≡ 16) where
+module _ (t : Trie) (root n runs : ℕ) (a before sub after : List ℕ) (r : ℕ) (one : 1 ≤ runs) (old : length before ≡ 12) (new : length sub ≡ 12)
+    (put : (drop (12 * (runs - 1)) after ≡ sub ++ drop (12 * (runs - 1) + 12) a) × (length after ≡ length a)) where
   abbrev from : ℕ
-  from = 16 * (runs - 1)
-
-  abbrev before : List ℕ
-  before = take k (drop from a)
-
-  abbrev after : List ℕ
-  after = take from a ++ (sub ++ drop k (drop from a))
-
-  cells : length before ≡ 16
-  cells =
-      let d : length (drop from a) ≡ length a - from = length-drop from a in
-      length-take-le k (drop from a) (omega arith) ∙ sixteen
+  from = 12 * (runs - 1)
 
   -- the cells of the run, and those behind it
-  run-kept : (xs : List ℕ) → length xs ≤ 16 → length sub ≡ length before → drop (16 - length xs) sub ≡ xs ++ drop 16 before
-      → drop (from + (16 - length xs)) after ≡ xs ++ drop (16 * runs) a
-  run-kept xs h l e =
-      let f : from + k ≡ 16 * runs = omega arith in
-      let c = cells in
-      let n : drop 16 before ≡ [] = drop-of-length-le before {i = 16} (omega arith) in
-      drop-run a sub from k (omega arith) (omega arith) (16 - length xs) (omega arith)
-      ∙ ap (λ (ys : List ℕ). ys ++ drop (from + k) a) (e ∙ ap (λ (ys : List ℕ). xs ++ ys) n ∙ append-nil xs)
+  run-kept : (xs : List ℕ) → length xs ≤ 12 → drop (12 - length xs) sub ≡ xs ++ drop 12 before → drop (from + (12 - length xs)) after ≡ xs ++ drop (12 * runs) a
+  run-kept xs h e =
+      let f : from + 12 ≡ 12 * runs = omega arith in
+      sym (drop-drop (12 - length xs) from after)
+      ∙ ap (drop (12 - length xs)) (put .0)
+      ∙ drop-append-le (12 - length xs) sub (drop (from + 12) a) (omega arith)
+      ∙ ap (λ (ys : List ℕ). ys ++ drop (from + 12) a) (tokens-of xs before sub old e)
       ∙ ap (λ (j : ℕ). xs ++ drop j a) f
 
-  run-length : length sub ≡ length before → length after ≡ length a
-  run-length l = let c = cells in length-written a sub from k (omega arith) (omega arith)
-
-  pub whole-run : (c : Climb) → Tells t root n 16 c → Done 16 c before sub r → r < 17 → Runs runs (gather (16 * runs - 1) t root n) (from + r) a after
-  whole-run lost x d h = let e : r ≡ 17 = d .0 in absurd (omega arith)
-  whole-run (cut p xs) x d h = let e : r ≡ 18 + p = d .0 in absurd (omega arith)
+  pub whole-run : (c : Climb) → Tells t root n 12 c → Done 12 c before sub r → r < 13 → Runs runs (gather (12 * runs - 1) t root n) (from + r) a after
+  whole-run lost x d h = let e : r ≡ 13 = d .0 in absurd (omega arith)
+  whole-run (cut p xs) x d h = let e : r ≡ 14 + p = d .0 in absurd (omega arith)
   whole-run (whole xs) x d h =
-      let e : r ≡ 16 - length xs = d .0 in
-      let m : length xs ≤ 16 = x .0 in
-      by-cases (leb (length xs) (16 * runs - 1))
-      (λ b. let s = leb-true _ _ b in rw (x .1 (16 * runs - 1) s) ((omega arith, ap (λ (j : ℕ). drop (from + j) after) e ∙ run-kept xs m (d .2) (d .1)), run-length (d .2)))
-      (λ b. let s = leb-false _ _ b in rw (x .2 (16 * runs - 1) s) (omega arith, run-length (d .2)))
+      let e : r ≡ 12 - length xs = d .0 in
+      let m : length xs ≤ 12 = x .0 in
+      by-cases (leb (length xs) (12 * runs - 1))
+      (λ b. let s = leb-true _ _ b in rw (x .1 (12 * runs - 1) s) ((omega arith, ap (λ (j : ℕ). drop (from + j) after) e ∙ run-kept xs m (d .1)), put .1))
+      (λ b. let s = leb-false _ _ b in rw (x .2 (12 * runs - 1) s) (omega arith, put .1))
 
-  pub lost-run : (c : Climb) → Tells t root n 16 c → Done 16 c before sub r → r ≡ 17 → Runs runs (gather (16 * runs - 1) t root n) 0 a after
-  lost-run lost x d h = rw (x (16 * runs - 1)) (refl, run-length (d .2))
-  lost-run (whole xs) x d h = let e : r ≡ 16 - length xs = d .0 in absurd (omega arith)
-  lost-run (cut p xs) x d h = let e : r ≡ 18 + p = d .0 in absurd (omega arith)
+  pub lost-run : (c : Climb) → Tells t root n 12 c → Done 12 c before sub r → r ≡ 13 → Runs runs (gather (12 * runs - 1) t root n) 0 a after
+  lost-run lost x d h = rw (x (12 * runs - 1)) (refl, put .1)
+  lost-run (whole xs) x d h = let e : r ≡ 12 - length xs = d .0 in absurd (omega arith)
+  lost-run (cut p xs) x d h = let e : r ≡ 14 + p = d .0 in absurd (omega arith)
 
-  pub last-run : (c : Climb) → Tells t root n 16 c → Done 16 c before sub r → 17 < r → runs ≡ 1 → Runs runs (gather (16 * runs - 1) t root n) 0 a after
-  last-run lost x d h i = let e : r ≡ 17 = d .0 in absurd (omega arith)
-  last-run (whole xs) x d h i = let e : r ≡ 16 - length xs = d .0 in absurd (omega arith)
-  last-run (cut p xs) x d h i = rw (x .3 (16 * runs - 1) (omega arith)) (refl, run-length (d .2))
+  pub last-run : (c : Climb) → Tells t root n 12 c → Done 12 c before sub r → 13 < r → runs ≡ 1 → Runs runs (gather (12 * runs - 1) t root n) 0 a after
+  last-run lost x d h i = let e : r ≡ 13 = d .0 in absurd (omega arith)
+  last-run (whole xs) x d h i = let e : r ≡ 12 - length xs = d .0 in absurd (omega arith)
+  last-run (cut p xs) x d h i = rw (x .3 (12 * runs - 1) (omega arith)) (refl, put .1)
 
-  pub next-lower : (c : Climb) → Tells t root n 16 c → Done 16 c before sub r → 17 < r → r - 18 ≤ n
-  next-lower lost x d h = let e : r ≡ 17 = d .0 in absurd (omega arith)
-  next-lower (whole xs) x d h = let e : r ≡ 16 - length xs = d .0 in absurd (omega arith)
-  next-lower (cut p xs) x d h = let e : r ≡ 18 + p = d .0 in let l = x .1 in omega arith
+  pub next-lower : (c : Climb) → Tells t root n 12 c → Done 12 c before sub r → 13 < r → r - 14 ≤ n
+  next-lower lost x d h = let e : r ≡ 13 = d .0 in absurd (omega arith)
+  next-lower (whole xs) x d h = let e : r ≡ 12 - length xs = d .0 in absurd (omega arith)
+  next-lower (cut p xs) x d h = let e : r ≡ 14 + p = d .0 in let l = x .1 in omega arith
 
   -- the runs above, with the tokens of this one behind theirs
-  onto-placed : (p : Path) (xs b : List ℕ) (q : ℕ) → length xs ≡ 16 → drop from after ≡ xs ++ drop (16 * runs) a → Placed from p q after b → Placed (16 * runs) (onto p xs) q a b
+  onto-placed : (p : Path) (xs b : List ℕ) (q : ℕ) → length xs ≡ 12 → drop from after ≡ xs ++ drop (12 * runs) a → Placed from p q after b → Placed (12 * runs) (onto p xs) q a b
   onto-placed none xs b q m e d = d
   onto-placed (tokens ys) xs b q m e d =
       let k : length (ys ++ xs) ≡ length ys + length xs = length-append ys xs in
       let s : q + length ys ≡ from = d .0 in
-      (omega arith, d .1 ∙ ap (λ (zs : List ℕ). ys ++ zs) e ∙ sym (append-assoc ys xs (drop (16 * runs) a)))
+      (omega arith, d .1 ∙ ap (λ (zs : List ℕ). ys ++ zs) e ∙ sym (append-assoc ys xs (drop (12 * runs) a)))
 
-  pub next-run : (c : Climb) → Tells t root n 16 c → Done 16 c before sub r → 17 < r → (runs ≡ 1 → ⊥) → (b : List ℕ) (q : ℕ)
-      → Runs (runs - 1) (gather (from - 1) t root (r - 18)) q after b → Runs runs (gather (16 * runs - 1) t root n) q a b
-  next-run lost x d h i b q u = let e : r ≡ 17 = d .0 in absurd (omega arith)
-  next-run (whole xs) x d h i b q u = let e : r ≡ 16 - length xs = d .0 in absurd (omega arith)
+  pub next-run : (c : Climb) → Tells t root n 12 c → Done 12 c before sub r → 13 < r → (runs ≡ 1 → ⊥) → (b : List ℕ) (q : ℕ)
+      → Runs (runs - 1) (gather (from - 1) t root (r - 14)) q after b → Runs runs (gather (12 * runs - 1) t root n) q a b
+  next-run lost x d h i b q u = let e : r ≡ 13 = d .0 in absurd (omega arith)
+  next-run (whole xs) x d h i b q u = let e : r ≡ 12 - length xs = d .0 in absurd (omega arith)
   next-run (cut p xs) x d h i b q u =
-      let m : length xs ≡ 16 = x .0 in
-      let e : r - 18 ≡ p = let e : r ≡ 18 + p = d .0 in omega arith in
-      let f : from - 1 ≡ 16 * runs - 1 - 16 = omega arith in
-      let z : from + (16 - length xs) ≡ from = omega arith in
-      let w : gather (from - 1) t root (r - 18) ≡ gather (16 * runs - 1 - 16) t root p = ap (λ (j : ℕ). gather j t root (r - 18)) f ∙ ap (gather (16 * runs - 1 - 16) t root) e in
-      rw (x .2 (16 * runs - 1) (omega arith)) (
-        onto-placed (gather (16 * runs - 1 - 16) t root p) xs b q m
-            (ap (λ (j : ℕ). drop j after) (sym z) ∙ run-kept xs (omega arith) (d .2) (d .1))
+      let m : length xs ≡ 12 = x .0 in
+      let e : r - 14 ≡ p = let e : r ≡ 14 + p = d .0 in omega arith in
+      let f : from - 1 ≡ 12 * runs - 1 - 12 = omega arith in
+      let z : from + (12 - length xs) ≡ from = omega arith in
+      let w : gather (from - 1) t root (r - 14) ≡ gather (12 * runs - 1 - 12) t root p = ap (λ (j : ℕ). gather j t root (r - 14)) f ∙ ap (gather (12 * runs - 1 - 12) t root) e in
+      rw (x .2 (12 * runs - 1) (omega arith)) (
+        onto-placed (gather (12 * runs - 1 - 12) t root p) xs b q m
+            (ap (λ (j : ℕ). drop j after) (sym z) ∙ run-kept xs (omega arith) (d .1))
             (rw w at (u .0)),
-        u .1 ∙ run-length (d .2),
+        u .1 ∙ put .1,
       )
 
 -- ---- the first run
 
-run-begun : (t : Trie) (root n : ℕ) (c : Climb) → Tells t root n 16 c → (a b : List ℕ) (r : ℕ) → length a ≡ 16 → Done 16 c a b r → r < 17 → Begun t root n (Whole r) b
-run-begun t root n lost x a b r l d h = let e : r ≡ 17 = d .0 in absurd (omega arith)
-run-begun t root n (cut p xs) x a b r l d h = let e : r ≡ 18 + p = d .0 in absurd (omega arith)
-run-begun t root n (whole xs) x a b r l d h =
-    let e : r ≡ 16 - length xs = d .0 in
-    let m : length xs ≤ 16 = x .0 in
-    let k : length b ≡ length a = d .2 in
-    let f : drop 16 a ≡ [] = drop-of-length-le a {i = 16} (omega arith) in
-    (omega arith, x .1 longest (omega arith) ∙ ap tokens (sym (ap (λ (i : ℕ). drop i b) e ∙ d .1 ∙ ap (λ (ys : List ℕ). xs ++ ys) f ∙ append-nil xs)))
+run-begun : (t : Trie) (root n : ℕ) (c : Climb) → Tells t root n 12 c → (a b : List ℕ) (r : ℕ) → length a ≡ 12 → length b ≡ 12 → Done 12 c a b r → r < 13 → Begun t root n (Whole r) b
+run-begun t root n lost x a b r l m d h = let e : r ≡ 13 = d .0 in absurd (omega arith)
+run-begun t root n (cut p xs) x a b r l m d h = let e : r ≡ 14 + p = d .0 in absurd (omega arith)
+run-begun t root n (whole xs) x a b r l m d h =
+    let e : r ≡ 12 - length xs = d .0 in
+    let k : length xs ≤ 12 = x .0 in
+    (omega arith, x .1 longest (omega arith) ∙ ap tokens (sym (ap (λ (i : ℕ). drop i b) e ∙ tokens-of xs a b l (d .1))))
 
-run-lost : (t : Trie) (root n : ℕ) (c : Climb) → Tells t root n 16 c → (a b : List ℕ) (r : ℕ) → Done 16 c a b r → r ≡ 17 → Begun t root n Lost b
+run-lost : (t : Trie) (root n : ℕ) (c : Climb) → Tells t root n 12 c → (a b : List ℕ) (r : ℕ) → Done 12 c a b r → r ≡ 13 → Begun t root n Lost b
 run-lost t root n lost x a b r d h = x longest
-run-lost t root n (whole xs) x a b r d h = let e : r ≡ 16 - length xs = d .0 in absurd (omega arith)
-run-lost t root n (cut p xs) x a b r d h = let e : r ≡ 18 + p = d .0 in absurd (omega arith)
+run-lost t root n (whole xs) x a b r d h = let e : r ≡ 12 - length xs = d .0 in absurd (omega arith)
+run-lost t root n (cut p xs) x a b r d h = let e : r ≡ 14 + p = d .0 in absurd (omega arith)
 
-run-on : (t : Trie) (root n : ℕ) (c : Climb) → Tells t root n 16 c → (a b : List ℕ) (r : ℕ) → length a ≡ 16 → Done 16 c a b r → 17 < r → n < t .nodes → Begun t root n (On (r - 18)) b
-run-on t root n lost x a b r l d h i = let e : r ≡ 17 = d .0 in absurd (omega arith)
-run-on t root n (whole xs) x a b r l d h i = let e : r ≡ 16 - length xs = d .0 in absurd (omega arith)
+run-on : (t : Trie) (root n : ℕ) (c : Climb) → Tells t root n 12 c → (a b : List ℕ) (r : ℕ) → length a ≡ 12 → Done 12 c a b r → 13 < r → n < t .nodes → Begun t root n (On (r - 14)) b
+run-on t root n lost x a b r l d h i = let e : r ≡ 13 = d .0 in absurd (omega arith)
+run-on t root n (whole xs) x a b r l d h i = let e : r ≡ 12 - length xs = d .0 in absurd (omega arith)
 run-on t root n (cut p xs) x a b r l d h i =
-    let e : r - 18 ≡ p = let e : r ≡ 18 + p = d .0 in omega arith in
-    let m : length xs ≡ 16 = x .0 in
+    let e : r - 14 ≡ p = let e : r ≡ 14 + p = d .0 in omega arith in
+    let m : length xs ≡ 12 = x .0 in
     let q = x .1 in
-    let z : 16 - length xs ≡ 0 = omega arith in
-    let f : drop 16 a ≡ [] = drop-of-length-le a {i = 16} (omega arith) in
-    let s : b ≡ xs = ap (λ (i : ℕ). drop i b) (sym z) ∙ d .1 ∙ ap (λ (ys : List ℕ). xs ++ ys) f ∙ append-nil xs in
-    (omega arith, x .2 longest (omega arith) ∙ ap (λ (j : ℕ). onto (gather (longest - 16) t root j) xs) (sym e) ∙ ap (onto (gather (longest - 16) t root (r - 18))) (sym s))
+    let z : 12 - length xs ≡ 0 = omega arith in
+    let s : b ≡ xs = ap (λ (i : ℕ). drop i b) (sym z) ∙ tokens-of xs a b l (d .1) in
+    (omega arith, x .2 longest (omega arith) ∙ ap (λ (j : ℕ). onto (gather (longest - 12) t root j) xs) (sym e) ∙ ap (onto (gather (longest - 12) t root (r - 14))) (sym s))
 
-module _ (t : Trie) (root n r : ℕ) (a b : List ℕ) (l : length a ≡ 16) (d : Done 16 (climbed 16 t root n) a b r) where
-  pub first-whole : r < 17 → Begun t root n (Whole r) b × (length b ≡ length a)
-  first-whole h = (run-begun t root n (climbed 16 t root n) (climbed-tells t root 16 n) a b r l d h, d .2)
+module _ (t : Trie) (root n r : ℕ) (a b : List ℕ) (l : length a ≡ 12) (m : length b ≡ 12) (d : Done 12 (climbed 12 t root n) a b r) where
+  pub first-whole : r < 13 → Begun t root n (Whole r) b
+  first-whole h = run-begun t root n (climbed 12 t root n) (climbed-tells t root 12 n) a b r l m d h
 
-  pub first-lost : r ≡ 17 → Begun t root n Lost b × (length b ≡ length a)
-  first-lost h = (run-lost t root n (climbed 16 t root n) (climbed-tells t root 16 n) a b r d h, d .2)
+  pub first-lost : r ≡ 13 → Begun t root n Lost b
+  first-lost h = run-lost t root n (climbed 12 t root n) (climbed-tells t root 12 n) a b r d h
 
-  pub first-on : 17 < r → n < t .nodes → Begun t root n (On (r - 18)) b × (length b ≡ length a)
-  first-on h i = (run-on t root n (climbed 16 t root n) (climbed-tells t root 16 n) a b r l d h i, d .2)
+  pub first-on : 13 < r → n < t .nodes → Begun t root n (On (r - 14)) b
+  first-on h i = run-on t root n (climbed 12 t root n) (climbed-tells t root 12 n) a b r l d h i
 
 -- ---- the other runs
 
-pub copied-step : (run path : List ℕ) (i j : ℕ) → j ≡ i + 1 → i < length run → 368 + i < length path → drop (368 + j) path ≡ drop j run → drop (368 + i) (set path (368 + i) (getD run i 0)) ≡ drop i run
-copied-step run path i j s h k e =
-    let f : suc (368 + i) ≡ 368 + j = omega arith in
-    let g : j ≡ suc i = omega arith in
-    drop-written path (368 + i) (getD run i 0) k
-    ∙ ap (λ (m : ℕ). getD run i 0 ∷ drop m path) f
-    ∙ ap (λ (ys : List ℕ). getD run i 0 ∷ ys) (e ∙ ap (λ (m : ℕ). drop m run) g)
-    ∙ sym (drop-cons run i 0 h)
+path-found : (p : Path) (run start a b : List ℕ) (k : ℕ) → length b ≡ 384 → length start ≡ 384 → drop 372 a ≡ run ++ drop 384 start → (k ≡ 0 → ⊥) → Placed 372 p k a b → Found (onto p run) (Tokens k) b
+path-found none run start a b k l m e z d = absurd (z d)
+path-found (tokens xs) run start a b k l m e z d =
+    let f : k + length xs ≡ 372 = d .0 in
+    let n : drop 384 start ≡ [] = drop-of-length-le start {i = 384} (omega arith) in
+    let g : drop 372 a ≡ run = e ∙ ap (λ (ys : List ℕ). run ++ ys) n ∙ append-nil run in
+    (omega arith, ap tokens (sym (d .1 ∙ ap (λ (ys : List ℕ). xs ++ ys) g)))
 
-path-found : (p : Path) (run a b : List ℕ) (k : ℕ) → length b ≡ 384 → drop 368 a ≡ run → length run ≡ 16 → (k ≡ 0 → ⊥) → Placed 368 p k a b → Found (onto p run) (Tokens k) b
-path-found none run a b k l e m z d = absurd (z d)
-path-found (tokens xs) run a b k l e m z d =
-    let f : k + length xs ≡ 368 = d .0 in
-    (omega arith, ap tokens (sym (d .1 ∙ ap (λ (ys : List ℕ). xs ++ ys) e)))
-
-path-lost : (p : Path) (run a b : List ℕ) (k : ℕ) → Within 367 p → k ≡ 0 → Placed 368 p k a b → Found (onto p run) Damaged b
+path-lost : (p : Path) (run a b : List ℕ) (k : ℕ) → Within 371 p → k ≡ 0 → Placed 372 p k a b → Found (onto p run) Damaged b
 path-lost none run a b k w z d = refl
-path-lost (tokens xs) run a b k w z d = let e : k + length xs ≡ 368 = d .0 in absurd (omega arith)
+path-lost (tokens xs) run a b k w z d = let e : k + length xs ≡ 372 = d .0 in absurd (omega arith)
 
-module _ (t : Trie) (root n k : ℕ) (run start a b : List ℕ) (l : length start ≡ 384) (m : length run ≡ 16) (e : (drop 368 a ≡ run) × (length a ≡ length start)) (d : Runs 23 (gather 367 t root n) k a b) where
-  pub other-found : (k ≡ 0 → ⊥) → Found (onto (gather (longest - 16) t root n) run) (Tokens k) b × (length b ≡ length start)
-  other-found z = let f = d .1 in let g = e .1 in (path-found (gather 367 t root n) run a b k (omega arith) (e .0) m z (d .0), omega arith)
+module _ (t : Trie) (root n k : ℕ) (run start a b : List ℕ) (l : length start ≡ 384) (e : (drop 372 a ≡ run ++ drop 384 start) × (length a ≡ length start)) (d : Runs 31 (gather 371 t root n) k a b) where
+  pub other-found : (k ≡ 0 → ⊥) → Found (onto (gather (longest - 12) t root n) run) (Tokens k) b × (length b ≡ length start)
+  other-found z = let f = d .1 in let g = e .1 in (path-found (gather 371 t root n) run start a b k (omega arith) l (e .0) z (d .0), omega arith)
 
-  pub other-lost : k ≡ 0 → Found (onto (gather (longest - 16) t root n) run) Damaged b × (length b ≡ length start)
-  other-lost z = let f = d .1 in let g = e .1 in (path-lost (gather 367 t root n) run a b k (gather-within 367 t root n) z (d .0), omega arith)
+  pub other-lost : k ≡ 0 → Found (onto (gather (longest - 12) t root n) run) Damaged b × (length b ≡ length start)
+  other-lost z = let f = d .1 in let g = e .1 in (path-lost (gather 371 t root n) run a b k (gather-within 371 t root n) z (d .0), omega arith)

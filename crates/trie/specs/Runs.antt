@@ -35,11 +35,11 @@ climbed (suc levels) t root n =
     let up = climbed levels t root (t .at n .parent) in
     pick (sound t n) (pick (eqb (t .at n .parent) n) (pick (eqb n root) (whole []) lost) (longer up (t .at n .token))) lost
 
--- as a number, where a run of at most 16 cells had so many left
+-- as a number, where a run of at most 12 cells had so many left
 abbrev pub coded : ℕ → Climb → ℕ
-coded left lost = 17
+coded left lost = 13
 coded left (whole xs) = left - length xs
-coded left (cut n xs) = 18 + n
+coded left (cut n xs) = 14 + n
 
 -- the first so many cells hold the tokens from behind, and the others stay
 abbrev pub Kept : ℕ → Climb → List ℕ → List ℕ → Type 0
@@ -60,5 +60,5 @@ Found p Damaged cells = p ≡ none
 -- the first run of a path: the same, or the cells hold its last tokens, and it goes on from a node
 abbrev pub Begun : Trie → ℕ → ℕ → Run → List ℕ → Type 0
 Begun t root n (Whole k) cells = (k ≤ length cells) × (gather longest t root n ≡ tokens (drop k cells))
-Begun t root n (On p) cells = (p < t .nodes) × (gather longest t root n ≡ onto (gather (longest - 16) t root p) cells)
+Begun t root n (On p) cells = (p < t .nodes) × (gather longest t root n ≡ onto (gather (longest - 12) t root p) cells)
 Begun t root n Lost cells = gather longest t root n ≡ none

@@ -4,6 +4,7 @@ use super::Run;
 use space::NodeRead;
 use space::records::read_node;
 ghost use mathlib.Core.Path.{_≡_};
+ghost use mathlib.Core.List.{_++_};
 ghost use Prim.Native.Nat.{_<_, _≤_, _+_, _-_, _*_};
 ghost use lib.ListN.{length, drop};
 ghost use Rattle.space.specs.Layout.{sizes};
@@ -13,9 +14,9 @@ ghost use Rattle.trie.specs.Paths.{gather, longest};
 ghost use Rattle.trie.specs.Runs.{onto, climbed, coded, Kept, Placed, Begun, Found};
 
 // What `climb` answers for damage, and the least that it answers for a node to go on from.
-const LOST: usize = 17;
+const LOST: usize = 13;
 
-const ON: usize = 18;
+const ON: usize = 14;
 
 // The tokens of node n and of those above it, at most `left` of them, written to the first `left` cells of run from behind. Where
 // the root is reached: how many cells are left; where no cell is: ON and the node to go on from. The node number falls at each step
@@ -27,9 +28,9 @@ fn climb(
     root: usize,
     n: usize,
     left: usize,
-    run: &mut [u32],
+    run: &mut [u32; 12],
 ) -> usize
-    requires { ⌜ NodesIn (now space) nodes × (n < nodes) × (1 ≤ left) × (left ≤ 16) × (left ≤ length (now run)) ⌝ }
+    requires { ⌜ NodesIn (now space) nodes × (n < nodes) × (1 ≤ left) × (left ≤ 12) × (length (now run) ≡ 12) ⌝ }
     ensures { λ r. ⌜ (r ≡ coded left (climbed left (trieIn sizes (now (space .entry)) nodes links) root n)) × Kept left (climbed left (trieIn sizes (now (space .entry)) nodes links) root n) (now (run .entry)) (now (run .exit)) × (length (now (run .exit)) ≡ length (now (run .entry))) ⌝ }
 {
     let NodeRead::Sound(y) = read_node(space, nodes, links, n) else {
@@ -50,37 +51,7 @@ fn climb(
     climb(&space[..], nodes, links, root, y.parent, at, run)
 }
 
-// The tokens of node n and of those above it, written to the first 16 * runs cells of path from behind: where they start, or 0 for
-// none. The climb is cut into runs of 16 levels, since a processor foresees no more returns than that; one that is not foreseen
-// costs more than the level.
-fn climb_runs(
-    space: &[u32],
-    nodes: usize,
-    links: usize,
-    root: usize,
-    n: usize,
-    runs: usize,
-    path: &mut [u32],
-) -> usize
-    requires { ⌜ NodesIn (now space) nodes × (n < nodes) × (1 ≤ runs) × (16 * runs ≤ length (now path)) ⌝ }
-    ensures { λ r. ⌜ Placed (16 * runs) (gather (16 * runs - 1) (trieIn sizes (now (space .entry)) nodes links) root n) r (now (path .entry)) (now (path .exit)) × (length (now (path .exit)) ≡ length (now (path .entry))) ⌝ }
-{
-    let from = 16 * (runs - 1);
-    let end = from + 16;
-    let r = climb(&space[..], nodes, links, root, n, 16, &mut path[from..end]);
-    if r < LOST {
-        return from + r;
-    }
-    if r == LOST {
-        return 0;
-    }
-    if runs == 1 {
-        return 0;
-    }
-    climb_runs(&space[..], nodes, links, root, r - ON, runs - 1, path)
-}
-
-// The tokens from the root down to node n, or the last 16 of them, written to run from behind. Most paths end here, and need no
+// The tokens from the root down to node n, or the last 12 of them, written to run from behind. Most paths end here, and need no
 // cells but these.
 pub fn first_run(
     space: &[u32],
@@ -88,12 +59,12 @@ pub fn first_run(
     links: usize,
     root: usize,
     n: usize,
-    run: &mut [u32],
+    run: &mut [u32; 12],
 ) -> Run
-    requires { ⌜ NodesIn (now space) nodes × (n < nodes) × (length (now run) ≡ 16) ⌝ }
+    requires { ⌜ NodesIn (now space) nodes × (n < nodes) × (length (now run) ≡ 12) ⌝ }
     ensures { λ r. ⌜ Begun (trieIn sizes (now (space .entry)) nodes links) root n r (now (run .exit)) × (length (now (run .exit)) ≡ length (now (run .entry))) ⌝ }
 {
-    let r = climb(space, nodes, links, root, n, 16, run);
+    let r = climb(space, nodes, links, root, n, 12, run);
     if r < LOST {
         return Run::Whole(r);
     }
@@ -103,33 +74,65 @@ pub fn first_run(
     Run::On(r - ON)
 }
 
-// Copies a run to the end of path.
-fn copy_run(run: &[u32], path: &mut [u32])
-    requires { ⌜ (length (now run) ≡ 16) × (length (now path) ≡ longest + 1) ⌝ }
-    ensures { λ _. ⌜ (drop 368 (now (path .exit)) ≡ now (run .entry)) × (length (now (path .exit)) ≡ length (now (path .entry))) ⌝ }
+// Copies a run to the cells of path from `from` on.
+fn copy_run(run: &[u32; 12], from: usize, path: &mut [u32])
+    requires { ⌜ (length (now run) ≡ 12) × (from + 12 ≤ length (now path)) ⌝ }
+    ensures { λ _. ⌜ (drop from (now (path .exit)) ≡ now (run .entry) ++ drop (from + 12) (now (path .entry))) × (length (now (path .exit)) ≡ length (now (path .entry))) ⌝ }
 {
-    let mut i = 16;
+    let mut i = 12;
     while 0 < i {
         i -= 1;
-        path[368 + i] = run[i];
+        path[from + i] = run[i];
     }
 }
 
-// The tokens from the root down to node n, and those of the first run behind them, up to the end of path.
+// The tokens of node n and of those above it, written to the first 12 * runs cells of path from behind: where they start, or 0 for
+// none. The recursion is cut into runs of 12 levels: beyond some 16 nested calls each level was measured to take four times as
+// long, as if the processor did not foresee so many returns.
+fn climb_runs(
+    space: &[u32],
+    nodes: usize,
+    links: usize,
+    root: usize,
+    n: usize,
+    runs: usize,
+    run: &mut [u32; 12],
+    path: &mut [u32],
+) -> usize
+    requires { ⌜ NodesIn (now space) nodes × (n < nodes) × (1 ≤ runs) × (length (now run) ≡ 12) × (12 * runs ≤ length (now path)) ⌝ }
+    ensures { λ r. ⌜ Placed (12 * runs) (gather (12 * runs - 1) (trieIn sizes (now (space .entry)) nodes links) root n) r (now (path .entry)) (now (path .exit)) × (length (now (path .exit)) ≡ length (now (path .entry))) ⌝ }
+{
+    let r = climb(&space[..], nodes, links, root, n, 12, run);
+    let from = 12 * (runs - 1);
+    copy_run(run, from, path);
+    if r < LOST {
+        return from + r;
+    }
+    if r == LOST {
+        return 0;
+    }
+    if runs == 1 {
+        return 0;
+    }
+    climb_runs(&space[..], nodes, links, root, r - ON, runs - 1, run, path)
+}
+
+// The tokens from the root down to node n, and those of the first run behind them, up to the end of path. The cells of the first
+// run serve the others too.
 pub fn other_runs(
     space: &[u32],
     nodes: usize,
     links: usize,
     root: usize,
     n: usize,
-    run: &[u32],
+    run: &mut [u32; 12],
     path: &mut [u32],
 ) -> Gathered
-    requires { ⌜ NodesIn (now space) nodes × (n < nodes) × (length (now run) ≡ 16) × (length (now path) ≡ longest + 1) ⌝ }
-    ensures { λ r. ⌜ Found (onto (gather (longest - 16) (trieIn sizes (now (space .entry)) nodes links) root n) (now (run .entry))) r (now (path .exit)) × (length (now (path .exit)) ≡ length (now (path .entry))) ⌝ }
+    requires { ⌜ NodesIn (now space) nodes × (n < nodes) × (length (now run) ≡ 12) × (length (now path) ≡ longest + 1) ⌝ }
+    ensures { λ r. ⌜ Found (onto (gather (longest - 12) (trieIn sizes (now (space .entry)) nodes links) root n) (now (run .entry))) r (now (path .exit)) × (length (now (path .exit)) ≡ length (now (path .entry))) ⌝ }
 {
-    copy_run(run, path);
-    let k = climb_runs(space, nodes, links, root, n, 23, path);
+    copy_run(run, 372, path);
+    let k = climb_runs(space, nodes, links, root, n, 31, run, path);
     if k == 0 {
         return Gathered::Damaged;
     }

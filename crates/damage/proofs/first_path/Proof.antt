@@ -4,9 +4,6 @@ use borrow.Author.Needs.{needs}
 use Rattle.damage.proofs.first_path.Statement.{statement}
 use Rattle.damage.proofs.first_path.Tie as tie
 
-slice-aggregate-first-run : tie.Need-slice-aggregate-first-run
-slice-aggregate-first-run c = search needs
-
 first-run-requires : tie.Need-first-run-requires
 first-run-requires c κs = search needs
 
@@ -14,13 +11,13 @@ enum-known-first : tie.Need-enum-known-first
 enum-known-first c = search needs
 
 mul-with-tokens : tie.Need-mul-with-tokens
-mul-with-tokens c = let f = rw (c .before .first .given .1) at (c .before .before .before .before .first-run .ensures .0) in omega (arith, f .0, c .before .before .before .before .first-run .ensures .1)
+mul-with-tokens c = let f = rw (c .before .first .given .1) at (c .before .before .before .first-run .ensures .0) in omega (arith, f .0, c .before .before .before .first-run .ensures .1)
 
 sub-with-tokens : tie.Need-sub-with-tokens
-sub-with-tokens c = let f = rw (c .before .first .given .1) at (c .before .before .before .before .first-run .ensures .0) in omega (arith, f .0, c .before .before .before .before .first-run .ensures .1)
+sub-with-tokens c = let f = rw (c .before .first .given .1) at (c .before .before .before .first-run .ensures .0) in omega (arith, f .0, c .before .before .before .first-run .ensures .1)
 
 part-with-tokens-start : tie.Need-part-with-tokens-start
-part-with-tokens-start c = let f = rw (c .before .before .first .given .1) at (c .before .before .before .before .before .first-run .ensures .0) in omega (arith, f .0, c .before .before .before .before .before .first-run .ensures .1)
+part-with-tokens-start c = let f = rw (c .before .before .first .given .1) at (c .before .before .before .before .first-run .ensures .0) in omega (arith, f .0, c .before .before .before .before .first-run .ensures .1)
 
 part-with-tokens-end : tie.Need-part-with-tokens-end
 part-with-tokens-end c = search needs
@@ -56,7 +53,6 @@ pub first-path-spec : {M : Type 1} → statement M
 first-path-spec =
     tie.close
     (tie.spec
-    slice-aggregate-first-run
     first-run-requires
     enum-known-first
     mul-with-tokens

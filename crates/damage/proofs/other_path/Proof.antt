@@ -7,9 +7,6 @@ use Rattle.damage.proofs.other_path.Tie as tie
 slice-aggregate-other-runs : tie.Need-slice-aggregate-other-runs
 slice-aggregate-other-runs c = search needs
 
-slice-aggregate-other-runs-2 : tie.Need-slice-aggregate-other-runs-2
-slice-aggregate-other-runs-2 c = search needs
-
 other-runs-requires : tie.Need-other-runs-requires
 other-runs-requires c κs = search needs
 
@@ -48,7 +45,6 @@ other-path-spec =
     tie.close
     (tie.spec
     slice-aggregate-other-runs
-    slice-aggregate-other-runs-2
     other-runs-requires
     enum-known-k
     enum-told

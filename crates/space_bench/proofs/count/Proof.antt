@@ -4,9 +4,6 @@ use borrow.Author.Needs.{needs}
 use Rattle.space_bench.proofs.count.Statement.{statement}
 use Rattle.space_bench.proofs.count.Tie as tie
 
-slice-aggregate-first-run : tie.Need-slice-aggregate-first-run
-slice-aggregate-first-run c = search needs
-
 first-run-requires : tie.Need-first-run-requires
 first-run-requires c κs = search needs
 
@@ -14,16 +11,13 @@ enum-known-first : tie.Need-enum-known-first
 enum-known-first c = search needs
 
 sub-result : tie.Need-sub-result
-sub-result c = let f = rw (c .before .first .given .1) at (c .before .before .before .before .first-run .ensures .0) in omega (arith, f .0, c .before .before .before .before .first-run .ensures .1)
+sub-result c = let f = rw (c .before .first .given .1) at (c .before .before .before .first-run .ensures .0) in omega (arith, f .0, c .before .before .before .first-run .ensures .1)
 
 enum-known-first-2 : tie.Need-enum-known-first-2
 enum-known-first-2 c = search needs
 
-slice-aggregate-long-count : tie.Need-slice-aggregate-long-count
-slice-aggregate-long-count c = search needs
-
 long-count-requires : tie.Need-long-count-requires
-long-count-requires c κs = let f = rw (c .before .before .before .first2 .given .1) at (c .before .before .before .before .before .before .first-run .ensures .0) in (search needs, f .0, c .before .before .before .before .before .before .first-run .ensures .1, search needs)
+long-count-requires c κs = let f = rw (c .before .before .before .first2 .given .1) at (c .before .before .before .before .before .first-run .ensures .0) in (search needs, f .0, c .before .before .before .before .before .first-run .ensures .1, search needs)
 
 enum-told : tie.Need-enum-told
 enum-told c = search needs
@@ -44,12 +38,10 @@ pub count-spec : {M : Type 1} → statement M
 count-spec =
     tie.close
     (tie.spec
-    slice-aggregate-first-run
     first-run-requires
     enum-known-first
     sub-result
     enum-known-first-2
-    slice-aggregate-long-count
     long-count-requires
     enum-told
     returns

@@ -15,7 +15,7 @@ use Rattle.reads.proofs.paths.instance_long.Statement.{statement}
 use Rattle.reads.proofs.paths.instance_long.Tie as tie
 
 -- where the answer's path stands
-there : (c : tie.After-k) → Found (onto (gather (longest - 16) (answerTrie (viewOf sizes (c .before .before .before .before .before .before .before .before .args .space .now) (c .before .before .before .before .before .before .before .before .args .h))) (c .before .before .before .before .before .before .before .before .args .root) (c .before .before .before .before .before .before .before .before .args .n)) (c .before .before .before .before .before .before .before .before .args .run .now)) (Tokens (c .k .given .0 .0)) (c .before .before .before .other-runs .last .1 .1 .1 .1 .1 .1 .0)
+there : (c : tie.After-k) → Found (onto (gather (longest - 12) (answerTrie (viewOf sizes (c .before .before .before .before .before .before .before .before .args .space .now) (c .before .before .before .before .before .before .before .before .args .h))) (c .before .before .before .before .before .before .before .before .args .root) (c .before .before .before .before .before .before .before .before .args .n)) (c .before .before .before .before .before .before .before .before .args .run .now)) (Tokens (c .k .given .0 .0)) (c .before .before .before .other-runs .last .1 .1 .1 .1 .1 .1 .0)
 there c = rw (c .k .given .1) at (c .before .before .before .other-runs .ensures .0)
 
 room : (c : tie.After-k) → length (c .before .before .before .other-runs .last .1 .1 .1 .1 .1 .1 .0) ≡ 384
@@ -34,7 +34,7 @@ enum-told : tie.Need-enum-told
 enum-told c = search needs
 
 returns : tie.Need-returns
-returns c = λ v. instance-lost v (onto (gather (longest - 16) (answerTrie (viewOf sizes (c .before .before .before .before .before .before .before .before .args .space .now) (c .before .before .before .before .before .before .before .before .args .h))) (c .before .before .before .before .before .before .before .before .args .root) (c .before .before .before .before .before .before .before .before .args .n)) (c .before .before .before .before .before .before .before .before .args .run .now)) (gather longest (subgoalTrie (viewOf sizes (c .before .before .before .before .before .before .before .before .args .space .now) (c .before .before .before .before .before .before .before .before .args .h))) 0 (c .before .before .before .before .before .before .before .before .args .subgoal-leaf)) (c .before .before .before .before .before .before .before .before .args .m) (c .before .before .before .before .before .before .before .before .args .out .now) (rw (c .enum-told .given .1) at (c .before .before .before .other-runs .ensures .0))
+returns c = λ v. instance-lost v (onto (gather (longest - 12) (answerTrie (viewOf sizes (c .before .before .before .before .before .before .before .before .args .space .now) (c .before .before .before .before .before .before .before .before .args .h))) (c .before .before .before .before .before .before .before .before .args .root) (c .before .before .before .before .before .before .before .before .args .n)) (c .before .before .before .before .before .before .before .before .args .run .now)) (gather longest (subgoalTrie (viewOf sizes (c .before .before .before .before .before .before .before .before .args .space .now) (c .before .before .before .before .before .before .before .before .args .h))) 0 (c .before .before .before .before .before .before .before .before .args .subgoal-leaf)) (c .before .before .before .before .before .before .before .before .args .m) (c .before .before .before .before .before .before .before .before .args .out .now) (rw (c .enum-told .given .1) at (c .before .before .before .other-runs .ensures .0))
 
 mul-instance-under : tie.Need-mul-instance-under
 mul-instance-under c = omega (arith, there (c .before) .0, room (c .before))
@@ -55,7 +55,7 @@ same-length : tie.Need-same-length
 same-length c = search needs
 
 returns-2 : tie.Need-returns-2
-returns-2 c = λ v. instance-same v _ (onto (gather (longest - 16) (answerTrie (viewOf sizes (c .before .before .before .before .before .before .before .before .before .before .before .before .before .before .before .args .space .now) (c .before .before .before .before .before .before .before .before .before .before .before .before .before .before .before .args .h))) (c .before .before .before .before .before .before .before .before .before .before .before .before .before .before .before .args .root) (c .before .before .before .before .before .before .before .before .before .before .before .before .before .before .before .args .n)) (c .before .before .before .before .before .before .before .before .before .before .before .before .before .before .before .args .run .now)) (gather longest (subgoalTrie (viewOf sizes (c .before .before .before .before .before .before .before .before .before .before .before .before .before .before .before .args .space .now) (c .before .before .before .before .before .before .before .before .before .before .before .before .before .before .before .args .h))) 0 (c .before .before .before .before .before .before .before .before .before .before .before .before .before .before .before .args .subgoal-leaf)) (gather longest (subgoalTrie (viewOf sizes (c .before .before .before .before .before .before .before .before .before .before .before .before .before .before .before .args .space .now) (c .before .before .before .before .before .before .before .before .before .before .before .before .before .before .before .args .h))) 0 (c .before .before .before .before .before .before .before .before .before .before .before .before .before .before .before .args .subgoal-leaf)) (c .before .before .before .before .before .before .before .before .before .before .before .before .before .before .before .args .m) (c .before .before .before .before .before .before .before .before .before .before .before .before .before .before .before .args .out .now) _ _ (path-there (onto (gather (longest - 16) (answerTrie (viewOf sizes (c .before .before .before .before .before .before .before .before .before .before .before .before .before .before .before .args .space .now) (c .before .before .before .before .before .before .before .before .before .before .before .before .before .before .before .args .h))) (c .before .before .before .before .before .before .before .before .before .before .before .before .before .before .before .args .root) (c .before .before .before .before .before .before .before .before .before .before .before .before .before .before .before .args .n)) (c .before .before .before .before .before .before .before .before .before .before .before .before .before .before .before .args .run .now)) (c .before .before .before .before .before .before .before .before .before .before .other-runs .last .1 .1 .1 .1 .1 .1 .0) (384 - c .before .before .before .before .before .before .before .k .given .0 .0) (c .before .before .before .before .before .before .before .k .given .0 .0) (omega (arith, there (c .before .before .before .before .before .before .before) .0, room (c .before .before .before .before .before .before .before))) (there (c .before .before .before .before .before .before .before) .1)) refl (c .before .before .instance-under .ensures v)
+returns-2 c = λ v. instance-same v _ (onto (gather (longest - 12) (answerTrie (viewOf sizes (c .before .before .before .before .before .before .before .before .before .before .before .before .before .before .before .args .space .now) (c .before .before .before .before .before .before .before .before .before .before .before .before .before .before .before .args .h))) (c .before .before .before .before .before .before .before .before .before .before .before .before .before .before .before .args .root) (c .before .before .before .before .before .before .before .before .before .before .before .before .before .before .before .args .n)) (c .before .before .before .before .before .before .before .before .before .before .before .before .before .before .before .args .run .now)) (gather longest (subgoalTrie (viewOf sizes (c .before .before .before .before .before .before .before .before .before .before .before .before .before .before .before .args .space .now) (c .before .before .before .before .before .before .before .before .before .before .before .before .before .before .before .args .h))) 0 (c .before .before .before .before .before .before .before .before .before .before .before .before .before .before .before .args .subgoal-leaf)) (gather longest (subgoalTrie (viewOf sizes (c .before .before .before .before .before .before .before .before .before .before .before .before .before .before .before .args .space .now) (c .before .before .before .before .before .before .before .before .before .before .before .before .before .before .before .args .h))) 0 (c .before .before .before .before .before .before .before .before .before .before .before .before .before .before .before .args .subgoal-leaf)) (c .before .before .before .before .before .before .before .before .before .before .before .before .before .before .before .args .m) (c .before .before .before .before .before .before .before .before .before .before .before .before .before .before .before .args .out .now) _ _ (path-there (onto (gather (longest - 12) (answerTrie (viewOf sizes (c .before .before .before .before .before .before .before .before .before .before .before .before .before .before .before .args .space .now) (c .before .before .before .before .before .before .before .before .before .before .before .before .before .before .before .args .h))) (c .before .before .before .before .before .before .before .before .before .before .before .before .before .before .before .args .root) (c .before .before .before .before .before .before .before .before .before .before .before .before .before .before .before .args .n)) (c .before .before .before .before .before .before .before .before .before .before .before .before .before .before .before .args .run .now)) (c .before .before .before .before .before .before .before .before .before .before .other-runs .last .1 .1 .1 .1 .1 .1 .0) (384 - c .before .before .before .before .before .before .before .k .given .0 .0) (c .before .before .before .before .before .before .before .k .given .0 .0) (omega (arith, there (c .before .before .before .before .before .before .before) .0, room (c .before .before .before .before .before .before .before))) (there (c .before .before .before .before .before .before .before) .1)) refl (c .before .before .instance-under .ensures v)
 
 pub instance-long-spec : {M : Type 1} → statement M
 instance-long-spec =

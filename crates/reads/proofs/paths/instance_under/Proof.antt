@@ -15,17 +15,14 @@ use Rattle.reads.proofs.paths.instance_under.Statement.{statement}
 use Rattle.reads.proofs.paths.instance_under.Tie as tie
 
 -- where the subgoal's path stands, or its first run
-whole : (c : tie.After-first) → Begun (subgoalTrie (viewOf sizes (c .before .before .before .before .before .before .before .before .args .space .now) (c .before .before .before .before .before .before .before .before .args .h))) 0 (c .before .before .before .before .before .before .before .before .args .leaf) (Whole (c .first .given .0 .0)) (c .before .before .before .first-run .last .1 .1 .1 .1 .1 .0)
-whole c = rw (c .first .given .1) at (c .before .before .before .first-run .ensures .0)
+whole : (c : tie.After-first) → Begun (subgoalTrie (viewOf sizes (c .before .before .before .before .before .before .before .args .space .now) (c .before .before .before .before .before .before .before .args .h))) 0 (c .before .before .before .before .before .before .before .args .leaf) (Whole (c .first .given .0 .0)) (c .before .before .first-run .last .1 .1 .1 .1 .1 .0)
+whole c = rw (c .first .given .1) at (c .before .before .first-run .ensures .0)
 
-room : (c : tie.After-first) → length (c .before .before .before .first-run .last .1 .1 .1 .1 .1 .0) ≡ 16
-room c = c .before .before .before .first-run .ensures .1
+room : (c : tie.After-first) → length (c .before .before .first-run .last .1 .1 .1 .1 .1 .0) ≡ 12
+room c = c .before .before .first-run .ensures .1
 
-on : (c : tie.After-first2) → Begun (subgoalTrie (viewOf sizes (c .before .before .before .before .before .before .before .before .args .space .now) (c .before .before .before .before .before .before .before .before .args .h))) 0 (c .before .before .before .before .before .before .before .before .args .leaf) (On (c .first2 .given .0 .0)) (c .before .before .before .first-run .last .1 .1 .1 .1 .1 .0)
-on c = rw (c .first2 .given .1) at (c .before .before .before .first-run .ensures .0)
-
-slice-aggregate-first-run : tie.Need-slice-aggregate-first-run
-slice-aggregate-first-run c = search needs
+on : (c : tie.After-first2) → Begun (subgoalTrie (viewOf sizes (c .before .before .before .before .before .before .before .args .space .now) (c .before .before .before .before .before .before .before .args .h))) 0 (c .before .before .before .before .before .before .before .args .leaf) (On (c .first2 .given .0 .0)) (c .before .before .first-run .last .1 .1 .1 .1 .1 .0)
+on c = rw (c .first2 .given .1) at (c .before .before .first-run .ensures .0)
 
 first-run-requires : tie.Need-first-run-requires
 first-run-requires c κs = search needs
@@ -51,11 +48,8 @@ instance-path-requires c κs = search needs
 enum-known-first-2 : tie.Need-enum-known-first-2
 enum-known-first-2 c = search needs
 
-slice-aggregate-instance-under-long : tie.Need-slice-aggregate-instance-under-long
-slice-aggregate-instance-under-long c = search needs
-
 instance-under-long-requires : tie.Need-instance-under-long-requires
-instance-under-long-requires c κs = (search needs, on (c .before .before .before) .0, c .before .before .before .before .before .before .first-run .ensures .1)
+instance-under-long-requires c κs = (search needs, on (c .before .before .before) .0, c .before .before .before .before .before .first-run .ensures .1)
 
 enum-told : tie.Need-enum-told
 enum-told c = search needs
@@ -64,22 +58,21 @@ same-length : tie.Need-same-length
 same-length c = search needs
 
 returns : tie.Need-returns
-returns c = λ v. instance-same v (tokens (c .before .before .before .before .before .before .before .before .before .before .before .before .before .before .before .args .form .now)) (tokens (c .before .before .before .before .before .before .before .before .before .before .before .before .before .before .before .args .form .now)) _ (gather longest (subgoalTrie (viewOf sizes (c .before .before .before .before .before .before .before .before .before .before .before .before .before .before .before .args .space .now) (c .before .before .before .before .before .before .before .before .before .before .before .before .before .before .before .args .h))) 0 (c .before .before .before .before .before .before .before .before .before .before .before .before .before .before .before .args .leaf)) (c .before .before .before .before .before .before .before .before .before .before .before .before .before .before .before .args .m) (c .before .before .before .before .before .before .before .before .before .before .before .before .before .before .before .args .out .now) _ _ refl (path-there (gather longest (subgoalTrie (viewOf sizes (c .before .before .before .before .before .before .before .before .before .before .before .before .before .before .before .args .space .now) (c .before .before .before .before .before .before .before .before .before .before .before .before .before .before .before .args .h))) 0 (c .before .before .before .before .before .before .before .before .before .before .before .before .before .before .before .args .leaf)) (c .before .before .before .before .before .before .before .before .before .before .first-run .last .1 .1 .1 .1 .1 .0) (16 - c .before .before .before .before .before .before .before .first .given .0 .0) (c .before .before .before .before .before .before .before .first .given .0 .0) (omega (arith, whole (c .before .before .before .before .before .before .before) .0, room (c .before .before .before .before .before .before .before))) (whole (c .before .before .before .before .before .before .before) .1)) (c .before .before .instance-path .ensures v)
+returns c = λ v. instance-same v (tokens (c .before .before .before .before .before .before .before .before .before .before .before .before .before .before .args .form .now)) (tokens (c .before .before .before .before .before .before .before .before .before .before .before .before .before .before .args .form .now)) _ (gather longest (subgoalTrie (viewOf sizes (c .before .before .before .before .before .before .before .before .before .before .before .before .before .before .args .space .now) (c .before .before .before .before .before .before .before .before .before .before .before .before .before .before .args .h))) 0 (c .before .before .before .before .before .before .before .before .before .before .before .before .before .before .args .leaf)) (c .before .before .before .before .before .before .before .before .before .before .before .before .before .before .args .m) (c .before .before .before .before .before .before .before .before .before .before .before .before .before .before .args .out .now) _ _ refl (path-there (gather longest (subgoalTrie (viewOf sizes (c .before .before .before .before .before .before .before .before .before .before .before .before .before .before .args .space .now) (c .before .before .before .before .before .before .before .before .before .before .before .before .before .before .args .h))) 0 (c .before .before .before .before .before .before .before .before .before .before .before .before .before .before .args .leaf)) (c .before .before .before .before .before .before .before .before .before .first-run .last .1 .1 .1 .1 .1 .0) (12 - c .before .before .before .before .before .before .before .first .given .0 .0) (c .before .before .before .before .before .before .before .first .given .0 .0) (omega (arith, whole (c .before .before .before .before .before .before .before) .0, room (c .before .before .before .before .before .before .before))) (whole (c .before .before .before .before .before .before .before) .1)) (c .before .before .instance-path .ensures v)
 
 same-length-2 : tie.Need-same-length-2
 same-length-2 c = search needs
 
 returns-2 : tie.Need-returns-2
-returns-2 c = λ v. instance-same v (tokens (c .before .before .before .before .before .before .before .before .before .before .before .before .before .before .args .form .now)) (tokens (c .before .before .before .before .before .before .before .before .before .before .before .before .before .before .args .form .now)) _ (gather longest (subgoalTrie (viewOf sizes (c .before .before .before .before .before .before .before .before .before .before .before .before .before .before .args .space .now) (c .before .before .before .before .before .before .before .before .before .before .before .before .before .before .args .h))) 0 (c .before .before .before .before .before .before .before .before .before .before .before .before .before .before .args .leaf)) (c .before .before .before .before .before .before .before .before .before .before .before .before .before .before .args .m) (c .before .before .before .before .before .before .before .before .before .before .before .before .before .before .args .out .now) _ _ refl (sym (on (c .before .before .before .before .before .before) .1)) (c .before .before .instance-under-long .ensures v)
+returns-2 c = λ v. instance-same v (tokens (c .before .before .before .before .before .before .before .before .before .before .before .before .before .args .form .now)) (tokens (c .before .before .before .before .before .before .before .before .before .before .before .before .before .args .form .now)) _ (gather longest (subgoalTrie (viewOf sizes (c .before .before .before .before .before .before .before .before .before .before .before .before .before .args .space .now) (c .before .before .before .before .before .before .before .before .before .before .before .before .before .args .h))) 0 (c .before .before .before .before .before .before .before .before .before .before .before .before .before .args .leaf)) (c .before .before .before .before .before .before .before .before .before .before .before .before .before .args .m) (c .before .before .before .before .before .before .before .before .before .before .before .before .before .args .out .now) _ _ refl (sym (on (c .before .before .before .before .before .before) .1)) (c .before .before .instance-under-long .ensures v)
 
 returns-3 : tie.Need-returns-3
-returns-3 c = λ v. instance-under-lost v (tokens (c .before .before .before .before .before .before .before .before .args .form .now)) (gather longest (subgoalTrie (viewOf sizes (c .before .before .before .before .before .before .before .before .args .space .now) (c .before .before .before .before .before .before .before .before .args .h))) 0 (c .before .before .before .before .before .before .before .before .args .leaf)) (c .before .before .before .before .before .before .before .before .args .m) (c .before .before .before .before .before .before .before .before .args .out .now) (rw (c .enum-told .given .1) at (c .before .before .before .first-run .ensures .0))
+returns-3 c = λ v. instance-under-lost v (tokens (c .before .before .before .before .before .before .before .args .form .now)) (gather longest (subgoalTrie (viewOf sizes (c .before .before .before .before .before .before .before .args .space .now) (c .before .before .before .before .before .before .before .args .h))) 0 (c .before .before .before .before .before .before .before .args .leaf)) (c .before .before .before .before .before .before .before .args .m) (c .before .before .before .before .before .before .before .args .out .now) (rw (c .enum-told .given .1) at (c .before .before .first-run .ensures .0))
 
 pub instance-under-spec : {M : Type 1} → statement M
 instance-under-spec =
     tie.close
     (tie.spec
-    slice-aggregate-first-run
     first-run-requires
     enum-known-first
     mul-instance-path
@@ -88,7 +81,6 @@ instance-under-spec =
     part-instance-path-end
     instance-path-requires
     enum-known-first-2
-    slice-aggregate-instance-under-long
     instance-under-long-requires
     enum-told
     same-length

@@ -15,7 +15,7 @@ use Rattle.reads.proofs.paths.instance_under_long.Statement.{statement}
 use Rattle.reads.proofs.paths.instance_under_long.Tie as tie
 
 -- where the subgoal's path stands
-there : (c : tie.After-k) → Found (onto (gather (longest - 16) (subgoalTrie (viewOf sizes (c .before .before .before .before .before .before .before .before .before .args .space .now) (c .before .before .before .before .before .before .before .before .before .args .h))) 0 (c .before .before .before .before .before .before .before .before .before .args .n)) (c .before .before .before .before .before .before .before .before .before .args .run .now)) (Tokens (c .k .given .0 .0)) (c .before .before .before .other-runs .last .1 .1 .1 .1 .1 .1 .0)
+there : (c : tie.After-k) → Found (onto (gather (longest - 12) (subgoalTrie (viewOf sizes (c .before .before .before .before .before .before .before .before .before .args .space .now) (c .before .before .before .before .before .before .before .before .before .args .h))) 0 (c .before .before .before .before .before .before .before .before .before .args .n)) (c .before .before .before .before .before .before .before .before .before .args .run .now)) (Tokens (c .k .given .0 .0)) (c .before .before .before .other-runs .last .1 .1 .1 .1 .1 .1 .0)
 there c = rw (c .k .given .1) at (c .before .before .before .other-runs .ensures .0)
 
 room : (c : tie.After-k) → length (c .before .before .before .other-runs .last .1 .1 .1 .1 .1 .1 .0) ≡ 384
@@ -34,7 +34,7 @@ enum-told : tie.Need-enum-told
 enum-told c = search needs
 
 returns : tie.Need-returns
-returns c = λ v. instance-under-lost v (tokens (c .before .before .before .before .before .before .before .before .before .args .form .now)) (onto (gather (longest - 16) (subgoalTrie (viewOf sizes (c .before .before .before .before .before .before .before .before .before .args .space .now) (c .before .before .before .before .before .before .before .before .before .args .h))) 0 (c .before .before .before .before .before .before .before .before .before .args .n)) (c .before .before .before .before .before .before .before .before .before .args .run .now)) (c .before .before .before .before .before .before .before .before .before .args .m) (c .before .before .before .before .before .before .before .before .before .args .out .now) (rw (c .enum-told .given .1) at (c .before .before .before .other-runs .ensures .0))
+returns c = λ v. instance-under-lost v (tokens (c .before .before .before .before .before .before .before .before .before .args .form .now)) (onto (gather (longest - 12) (subgoalTrie (viewOf sizes (c .before .before .before .before .before .before .before .before .before .args .space .now) (c .before .before .before .before .before .before .before .before .before .args .h))) 0 (c .before .before .before .before .before .before .before .before .before .args .n)) (c .before .before .before .before .before .before .before .before .before .args .run .now)) (c .before .before .before .before .before .before .before .before .before .args .m) (c .before .before .before .before .before .before .before .before .before .args .out .now) (rw (c .enum-told .given .1) at (c .before .before .before .other-runs .ensures .0))
 
 mul-instance-path : tie.Need-mul-instance-path
 mul-instance-path c = omega (arith, there (c .before) .0, room (c .before))
@@ -55,7 +55,7 @@ same-length : tie.Need-same-length
 same-length c = search needs
 
 returns-2 : tie.Need-returns-2
-returns-2 c = λ v. instance-same v (tokens (c .before .before .before .before .before .before .before .before .before .before .before .before .before .before .before .before .args .form .now)) (tokens (c .before .before .before .before .before .before .before .before .before .before .before .before .before .before .before .before .args .form .now)) _ (onto (gather (longest - 16) (subgoalTrie (viewOf sizes (c .before .before .before .before .before .before .before .before .before .before .before .before .before .before .before .before .args .space .now) (c .before .before .before .before .before .before .before .before .before .before .before .before .before .before .before .before .args .h))) 0 (c .before .before .before .before .before .before .before .before .before .before .before .before .before .before .before .before .args .n)) (c .before .before .before .before .before .before .before .before .before .before .before .before .before .before .before .before .args .run .now)) (c .before .before .before .before .before .before .before .before .before .before .before .before .before .before .before .before .args .m) (c .before .before .before .before .before .before .before .before .before .before .before .before .before .before .before .before .args .out .now) _ _ refl (path-there (onto (gather (longest - 16) (subgoalTrie (viewOf sizes (c .before .before .before .before .before .before .before .before .before .before .before .before .before .before .before .before .args .space .now) (c .before .before .before .before .before .before .before .before .before .before .before .before .before .before .before .before .args .h))) 0 (c .before .before .before .before .before .before .before .before .before .before .before .before .before .before .before .before .args .n)) (c .before .before .before .before .before .before .before .before .before .before .before .before .before .before .before .before .args .run .now)) (c .before .before .before .before .before .before .before .before .before .before .other-runs .last .1 .1 .1 .1 .1 .1 .0) (384 - c .before .before .before .before .before .before .before .k .given .0 .0) (c .before .before .before .before .before .before .before .k .given .0 .0) (omega (arith, there (c .before .before .before .before .before .before .before) .0, room (c .before .before .before .before .before .before .before))) (there (c .before .before .before .before .before .before .before) .1)) (c .before .before .instance-path .ensures v)
+returns-2 c = λ v. instance-same v (tokens (c .before .before .before .before .before .before .before .before .before .before .before .before .before .before .before .before .args .form .now)) (tokens (c .before .before .before .before .before .before .before .before .before .before .before .before .before .before .before .before .args .form .now)) _ (onto (gather (longest - 12) (subgoalTrie (viewOf sizes (c .before .before .before .before .before .before .before .before .before .before .before .before .before .before .before .before .args .space .now) (c .before .before .before .before .before .before .before .before .before .before .before .before .before .before .before .before .args .h))) 0 (c .before .before .before .before .before .before .before .before .before .before .before .before .before .before .before .before .args .n)) (c .before .before .before .before .before .before .before .before .before .before .before .before .before .before .before .before .args .run .now)) (c .before .before .before .before .before .before .before .before .before .before .before .before .before .before .before .before .args .m) (c .before .before .before .before .before .before .before .before .before .before .before .before .before .before .before .before .args .out .now) _ _ refl (path-there (onto (gather (longest - 12) (subgoalTrie (viewOf sizes (c .before .before .before .before .before .before .before .before .before .before .before .before .before .before .before .before .args .space .now) (c .before .before .before .before .before .before .before .before .before .before .before .before .before .before .before .before .args .h))) 0 (c .before .before .before .before .before .before .before .before .before .before .before .before .before .before .before .before .args .n)) (c .before .before .before .before .before .before .before .before .before .before .before .before .before .before .before .before .args .run .now)) (c .before .before .before .before .before .before .before .before .before .before .other-runs .last .1 .1 .1 .1 .1 .1 .0) (384 - c .before .before .before .before .before .before .before .k .given .0 .0) (c .before .before .before .before .before .before .before .k .given .0 .0) (omega (arith, there (c .before .before .before .before .before .before .before) .0, room (c .before .before .before .before .before .before .before))) (there (c .before .before .before .before .before .before .before) .1)) (c .before .before .instance-path .ensures v)
 
 pub instance-under-long-spec : {M : Type 1} → statement M
 instance-under-long-spec =

@@ -14,17 +14,14 @@ use Rattle.reads.proofs.paths.load_path.Statement.{statement}
 use Rattle.reads.proofs.paths.load_path.Tie as tie
 
 -- where the path stands, or its first run
-whole : (c : tie.After-first) → Begun (answerTrie (viewOf sizes (c .before .before .before .before .before .before .before .args .space .now) (c .before .before .before .before .before .before .before .args .h))) (c .before .before .before .before .before .before .before .args .root) (c .before .before .before .before .before .before .before .args .leaf) (Whole (c .first .given .0 .0)) (c .before .before .before .first-run .last .1 .1 .1 .1 .1 .0)
-whole c = rw (c .first .given .1) at (c .before .before .before .first-run .ensures .0)
+whole : (c : tie.After-first) → Begun (answerTrie (viewOf sizes (c .before .before .before .before .before .before .args .space .now) (c .before .before .before .before .before .before .args .h))) (c .before .before .before .before .before .before .args .root) (c .before .before .before .before .before .before .args .leaf) (Whole (c .first .given .0 .0)) (c .before .before .first-run .last .1 .1 .1 .1 .1 .0)
+whole c = rw (c .first .given .1) at (c .before .before .first-run .ensures .0)
 
-room : (c : tie.After-first) → length (c .before .before .before .first-run .last .1 .1 .1 .1 .1 .0) ≡ 16
-room c = c .before .before .before .first-run .ensures .1
+room : (c : tie.After-first) → length (c .before .before .first-run .last .1 .1 .1 .1 .1 .0) ≡ 12
+room c = c .before .before .first-run .ensures .1
 
-on : (c : tie.After-first2) → Begun (answerTrie (viewOf sizes (c .before .before .before .before .before .before .before .args .space .now) (c .before .before .before .before .before .before .before .args .h))) (c .before .before .before .before .before .before .before .args .root) (c .before .before .before .before .before .before .before .args .leaf) (On (c .first2 .given .0 .0)) (c .before .before .before .first-run .last .1 .1 .1 .1 .1 .0)
-on c = rw (c .first2 .given .1) at (c .before .before .before .first-run .ensures .0)
-
-slice-aggregate-first-run : tie.Need-slice-aggregate-first-run
-slice-aggregate-first-run c = search needs
+on : (c : tie.After-first2) → Begun (answerTrie (viewOf sizes (c .before .before .before .before .before .before .args .space .now) (c .before .before .before .before .before .before .args .h))) (c .before .before .before .before .before .before .args .root) (c .before .before .before .before .before .before .args .leaf) (On (c .first2 .given .0 .0)) (c .before .before .first-run .last .1 .1 .1 .1 .1 .0)
+on c = rw (c .first2 .given .1) at (c .before .before .first-run .ensures .0)
 
 first-run-requires : tie.Need-first-run-requires
 first-run-requires c κs = search needs
@@ -50,11 +47,8 @@ expand-path-requires c κs = search needs
 enum-known-first-2 : tie.Need-enum-known-first-2
 enum-known-first-2 c = search needs
 
-slice-aggregate-load-long : tie.Need-slice-aggregate-load-long
-slice-aggregate-load-long c = search needs
-
 load-long-requires : tie.Need-load-long-requires
-load-long-requires c κs = (search needs, on (c .before .before .before) .0, c .before .before .before .before .before .before .first-run .ensures .1)
+load-long-requires c κs = (search needs, on (c .before .before .before) .0, c .before .before .before .before .before .first-run .ensures .1)
 
 enum-told : tie.Need-enum-told
 enum-told c = search needs
@@ -63,22 +57,21 @@ same-length : tie.Need-same-length
 same-length c = search needs
 
 returns : tie.Need-returns
-returns c = λ v. load-same v _ (gather longest (answerTrie (viewOf sizes (c .before .before .before .before .before .before .before .before .before .before .before .before .before .before .args .space .now) (c .before .before .before .before .before .before .before .before .before .before .before .before .before .before .args .h))) (c .before .before .before .before .before .before .before .before .before .before .before .before .before .before .args .root) (c .before .before .before .before .before .before .before .before .before .before .before .before .before .before .args .leaf)) (c .before .before .before .before .before .before .before .before .before .before .before .before .before .before .args .m) (c .before .before .before .before .before .before .before .before .before .before .before .before .before .before .args .out .now) _ _ (path-there (gather longest (answerTrie (viewOf sizes (c .before .before .before .before .before .before .before .before .before .before .before .before .before .before .args .space .now) (c .before .before .before .before .before .before .before .before .before .before .before .before .before .before .args .h))) (c .before .before .before .before .before .before .before .before .before .before .before .before .before .before .args .root) (c .before .before .before .before .before .before .before .before .before .before .before .before .before .before .args .leaf)) (c .before .before .before .before .before .before .before .before .before .before .first-run .last .1 .1 .1 .1 .1 .0) (16 - c .before .before .before .before .before .before .before .first .given .0 .0) (c .before .before .before .before .before .before .before .first .given .0 .0) (omega (arith, whole (c .before .before .before .before .before .before .before) .0, room (c .before .before .before .before .before .before .before))) (whole (c .before .before .before .before .before .before .before) .1)) (c .before .before .expand-path .ensures v)
+returns c = λ v. load-same v _ (gather longest (answerTrie (viewOf sizes (c .before .before .before .before .before .before .before .before .before .before .before .before .before .args .space .now) (c .before .before .before .before .before .before .before .before .before .before .before .before .before .args .h))) (c .before .before .before .before .before .before .before .before .before .before .before .before .before .args .root) (c .before .before .before .before .before .before .before .before .before .before .before .before .before .args .leaf)) (c .before .before .before .before .before .before .before .before .before .before .before .before .before .args .m) (c .before .before .before .before .before .before .before .before .before .before .before .before .before .args .out .now) _ _ (path-there (gather longest (answerTrie (viewOf sizes (c .before .before .before .before .before .before .before .before .before .before .before .before .before .args .space .now) (c .before .before .before .before .before .before .before .before .before .before .before .before .before .args .h))) (c .before .before .before .before .before .before .before .before .before .before .before .before .before .args .root) (c .before .before .before .before .before .before .before .before .before .before .before .before .before .args .leaf)) (c .before .before .before .before .before .before .before .before .before .first-run .last .1 .1 .1 .1 .1 .0) (12 - c .before .before .before .before .before .before .before .first .given .0 .0) (c .before .before .before .before .before .before .before .first .given .0 .0) (omega (arith, whole (c .before .before .before .before .before .before .before) .0, room (c .before .before .before .before .before .before .before))) (whole (c .before .before .before .before .before .before .before) .1)) (c .before .before .expand-path .ensures v)
 
 same-length-2 : tie.Need-same-length-2
 same-length-2 c = search needs
 
 returns-2 : tie.Need-returns-2
-returns-2 c = λ v. load-same v _ (gather longest (answerTrie (viewOf sizes (c .before .before .before .before .before .before .before .before .before .before .before .before .before .args .space .now) (c .before .before .before .before .before .before .before .before .before .before .before .before .before .args .h))) (c .before .before .before .before .before .before .before .before .before .before .before .before .before .args .root) (c .before .before .before .before .before .before .before .before .before .before .before .before .before .args .leaf)) (c .before .before .before .before .before .before .before .before .before .before .before .before .before .args .m) (c .before .before .before .before .before .before .before .before .before .before .before .before .before .args .out .now) _ _ (sym (on (c .before .before .before .before .before .before) .1)) (c .before .before .load-long .ensures v)
+returns-2 c = λ v. load-same v _ (gather longest (answerTrie (viewOf sizes (c .before .before .before .before .before .before .before .before .before .before .before .before .args .space .now) (c .before .before .before .before .before .before .before .before .before .before .before .before .args .h))) (c .before .before .before .before .before .before .before .before .before .before .before .before .args .root) (c .before .before .before .before .before .before .before .before .before .before .before .before .args .leaf)) (c .before .before .before .before .before .before .before .before .before .before .before .before .args .m) (c .before .before .before .before .before .before .before .before .before .before .before .before .args .out .now) _ _ (sym (on (c .before .before .before .before .before .before) .1)) (c .before .before .load-long .ensures v)
 
 returns-3 : tie.Need-returns-3
-returns-3 c = λ v. load-lost v (gather longest (answerTrie (viewOf sizes (c .before .before .before .before .before .before .before .args .space .now) (c .before .before .before .before .before .before .before .args .h))) (c .before .before .before .before .before .before .before .args .root) (c .before .before .before .before .before .before .before .args .leaf)) (c .before .before .before .before .before .before .before .args .m) (c .before .before .before .before .before .before .before .args .out .now) (rw (c .enum-told .given .1) at (c .before .before .before .first-run .ensures .0))
+returns-3 c = λ v. load-lost v (gather longest (answerTrie (viewOf sizes (c .before .before .before .before .before .before .args .space .now) (c .before .before .before .before .before .before .args .h))) (c .before .before .before .before .before .before .args .root) (c .before .before .before .before .before .before .args .leaf)) (c .before .before .before .before .before .before .args .m) (c .before .before .before .before .before .before .args .out .now) (rw (c .enum-told .given .1) at (c .before .before .first-run .ensures .0))
 
 pub load-path-spec : {M : Type 1} → statement M
 load-path-spec =
     tie.close
     (tie.spec
-    slice-aggregate-first-run
     first-run-requires
     enum-known-first
     mul-expand-path
@@ -87,7 +80,6 @@ load-path-spec =
     part-expand-path-end
     expand-path-requires
     enum-known-first-2
-    slice-aggregate-load-long
     load-long-requires
     enum-told
     same-length

@@ -4,10 +4,9 @@ use Rattle.trie.specs.Siblings.{trieIn}
 use Rattle.space.specs.Layout.{sizes}
 use mathlib.Core.List.{[]}
 use lib.ListN.{length-set}
-use mathlib.Core.Path.{_∙_}
 use borrow.Author.Needs.{needs}
 use native.Mathlib.Omega.{arith}
-use Prim.Native.Nat.{ℕ, _<_, _-_}
+use Prim.Native.Nat.{ℕ, _<_}
 use borrow.Fn.Kinds.{In}
 use borrow.Fn.PlainCycle.{Measures, is, falls, and}
 use Rattle.trie.proofs.paths.climb.Reads as climb
@@ -56,7 +55,7 @@ climb-returns : (t : ℕ) → climb-lts.Need-returns (
   climb-below t,
   climb.Post,
 ) (climb-at t) climb.Post
-climb-returns t c = climb-damaged _ (trieIn sizes (c .before .before .before .before .before .args .space .now) (c .before .before .before .before .before .args .nodes) (c .before .before .before .before .before .args .links)) _ _ _ (search needs) (cc)
+climb-returns t c = climb-damaged _ (trieIn sizes (c .before .before .before .before .args .space .now) (c .before .before .before .before .args .nodes) (c .before .before .before .before .args .links)) _ _ _ (search needs) (cc)
 
 climb-returns-2 : (t : ℕ) → climb-lts.Need-returns-2 (
   read-node-reads.Asked,
@@ -64,7 +63,7 @@ climb-returns-2 : (t : ℕ) → climb-lts.Need-returns-2 (
   climb-below t,
   climb.Post,
 ) (climb-at t) climb.Post
-climb-returns-2 t c = climb-root _ (trieIn sizes (c .before .before .before .before .before .before .before .before .before .args .space .now) (c .before .before .before .before .before .before .before .before .before .args .nodes) (c .before .before .before .before .before .before .before .before .before .args .links)) _ _ _ (search needs) (c .before .before .before .before .y .given .0 .0) (cc) (search needs) (search needs)
+climb-returns-2 t c = climb-root _ (trieIn sizes (c .before .before .before .before .before .before .before .before .args .space .now) (c .before .before .before .before .before .before .before .before .args .nodes) (c .before .before .before .before .before .before .before .before .args .links)) _ _ _ (search needs) (c .before .before .before .before .y .given .0 .0) (cc) (search needs) (search needs)
 
 climb-returns-3 : (t : ℕ) → climb-lts.Need-returns-3 (
   read-node-reads.Asked,
@@ -72,7 +71,7 @@ climb-returns-3 : (t : ℕ) → climb-lts.Need-returns-3 (
   climb-below t,
   climb.Post,
 ) (climb-at t) climb.Post
-climb-returns-3 t c = climb-other _ (trieIn sizes (c .before .before .before .before .before .before .before .before .before .args .space .now) (c .before .before .before .before .before .before .before .before .before .args .nodes) (c .before .before .before .before .before .before .before .before .before .args .links)) _ _ _ (search needs) (c .before .before .before .before .y .given .0 .0) (cc) (search needs) (search needs)
+climb-returns-3 t c = climb-other _ (trieIn sizes (c .before .before .before .before .before .before .before .before .args .space .now) (c .before .before .before .before .before .before .before .before .args .nodes) (c .before .before .before .before .before .before .before .before .args .links)) _ _ _ (search needs) (c .before .before .before .before .y .given .0 .0) (cc) (search needs) (search needs)
 
 climb-sub-at : (t : ℕ) → climb-lts.Need-sub-at (
   read-node-reads.Asked,
@@ -90,13 +89,13 @@ climb-mul-run : (t : ℕ) → climb-lts.Need-mul-run (
 ) (climb-at t) climb.Post
 climb-mul-run t c = omega arith
 
-climb-slice-write-run : (t : ℕ) → climb-lts.Need-slice-write-run (
+climb-element-write-run : (t : ℕ) → climb-lts.Need-element-write-run (
   read-node-reads.Asked,
   read-node-reads.Learnt,
   climb-below t,
   climb.Post,
 ) (climb-at t) climb.Post
-climb-slice-write-run t c = omega arith
+climb-element-write-run t c = omega arith
 
 climb-add-result : (t : ℕ) → climb-lts.Need-add-result (
   read-node-reads.Asked,
@@ -104,15 +103,7 @@ climb-add-result : (t : ℕ) → climb-lts.Need-add-result (
   climb-below t,
   climb.Post,
 ) (climb-at t) climb.Post
-climb-add-result t c = let l = climb-lower 1 (trieIn sizes (c .before .before .before .before .before .before .before .before .before .before .args .space .now) (c .before .before .before .before .before .before .before .before .before .before .args .nodes) (c .before .before .before .before .before .before .before .before .before .before .args .links)) 0 (c .before .before .before .before .before .before .before .before .before .before .args .n) [] (omega arith) (c .before .before .before .before .before .y .given .0 .0) (cc) in omega arith
-
-climb-same-length : (t : ℕ) → climb-lts.Need-same-length (
-  read-node-reads.Asked,
-  read-node-reads.Learnt,
-  climb-below t,
-  climb.Post,
-) (climb-at t) climb.Post
-climb-same-length t c = simp length-set (search needs)
+climb-add-result t c = let l = climb-lower 1 (trieIn sizes (c .before .before .before .before .before .before .before .before .before .args .space .now) (c .before .before .before .before .before .before .before .before .before .args .nodes) (c .before .before .before .before .before .before .before .before .before .args .links)) 0 (c .before .before .before .before .before .before .before .before .before .args .n) [] (omega arith) (c .before .before .before .before .before .y .given .0 .0) (cc) in omega arith
 
 climb-returns-4 : (t : ℕ) → climb-lts.Need-returns-4 (
   read-node-reads.Asked,
@@ -120,7 +111,7 @@ climb-returns-4 : (t : ℕ) → climb-lts.Need-returns-4 (
   climb-below t,
   climb.Post,
 ) (climb-at t) climb.Post
-climb-returns-4 t c = climb-cut _ (trieIn sizes (c .before .before .before .before .before .before .before .before .before .before .args .space .now) (c .before .before .before .before .before .before .before .before .before .before .args .nodes) (c .before .before .before .before .before .before .before .before .before .before .args .links)) _ _ _ (search needs) (c .before .before .before .before .before .y .given .0 .0) (cc) (search needs) (search needs) (search needs)
+climb-returns-4 t c = climb-cut _ (trieIn sizes (c .before .before .before .before .before .before .before .before .before .args .space .now) (c .before .before .before .before .before .before .before .before .before .args .nodes) (c .before .before .before .before .before .before .before .before .before .args .links)) _ _ _ (search needs) (c .before .before .before .before .before .y .given .0 .0) (cc) (search needs) (omega arith) (search needs)
 
 climb-climb-requires : (t : ℕ) → climb-lts.Need-climb-requires (
   read-node-reads.Asked,
@@ -128,15 +119,7 @@ climb-climb-requires : (t : ℕ) → climb-lts.Need-climb-requires (
   climb-below t,
   climb.Post,
 ) (climb-at t) climb.Post
-climb-climb-requires t c κs = let l = climb-lower 1 (trieIn sizes (c .before .before .before .before .before .before .before .before .before .before .args .space .now) (c .before .before .before .before .before .before .before .before .before .before .args .nodes) (c .before .before .before .before .before .before .before .before .before .before .args .links)) 0 (c .before .before .before .before .before .before .before .before .before .before .args .n) [] (omega arith) (c .before .before .before .before .before .y .given .0 .0) (cc) in simp length-set (search needs)
-
-climb-same-length-2 : (t : ℕ) → climb-lts.Need-same-length-2 (
-  read-node-reads.Asked,
-  read-node-reads.Learnt,
-  climb-below t,
-  climb.Post,
-) (climb-at t) climb.Post
-climb-same-length-2 t c = c .before .before .climb .ensures .2 ∙ length-set (c .before .before .before .before .before .before .before .before .before .before .before .before .before .args .run .now) (c .before .before .before .before .before .before .before .before .before .before .before .before .before .args .left - 1) (c .before .before .before .before .before .before .before .before .y .given .0 .0 .token)
+climb-climb-requires t c κs = let l = climb-lower 1 (trieIn sizes (c .before .before .before .before .before .before .before .before .before .args .space .now) (c .before .before .before .before .before .before .before .before .before .args .nodes) (c .before .before .before .before .before .before .before .before .before .args .links)) 0 (c .before .before .before .before .before .before .before .before .before .args .n) [] (omega arith) (c .before .before .before .before .before .y .given .0 .0) (cc) in simp length-set (search needs)
 
 climb-returns-5 : (t : ℕ) → climb-lts.Need-returns-5 (
   read-node-reads.Asked,
@@ -144,7 +127,7 @@ climb-returns-5 : (t : ℕ) → climb-lts.Need-returns-5 (
   climb-below t,
   climb.Post,
 ) (climb-at t) climb.Post
-climb-returns-5 t c = climb-more _ (trieIn sizes (c .before .before .before .before .before .before .before .before .before .before .before .before .before .args .space .now) (c .before .before .before .before .before .before .before .before .before .before .before .before .before .args .nodes) (c .before .before .before .before .before .before .before .before .before .before .before .before .before .args .links)) _ _ _ (search needs) (c .before .before .before .before .before .before .before .before .y .given .0 .0) (cc) (search needs) (search needs) _ _ (c .before .before .climb .ensures)
+climb-returns-5 t c = climb-more _ (trieIn sizes (c .before .before .before .before .before .before .before .before .before .before .args .space .now) (c .before .before .before .before .before .before .before .before .before .before .args .nodes) (c .before .before .before .before .before .before .before .before .before .before .args .links)) _ _ _ (search needs) (c .before .before .before .before .before .before .y .given .0 .0) (cc) (search needs) (omega arith) _ _ (c .climb .ensures)
 
 pub +climb-spec : {M : Type 1} → statement M
 +climb-spec = close μ-climb λ t. climb-lts.spec (
@@ -163,10 +146,8 @@ pub +climb-spec : {M : Type 1} → statement M
     (climb-returns-3 t)
     (climb-sub-at t)
     (climb-mul-run t)
-    (climb-slice-write-run t)
+    (climb-element-write-run t)
     (climb-add-result t)
-    (climb-same-length t)
     (climb-returns-4 t)
     (climb-climb-requires t)
-    (climb-same-length-2 t)
     (climb-returns-5 t)

@@ -10,36 +10,17 @@ use Rattle.trie.proofs.paths.first_run.Tie as tie
 climb-requires : tie.Need-climb-requires
 climb-requires c κs = search needs
 
-same-length : tie.Need-same-length
-same-length c = search needs
-
 returns : tie.Need-returns
-returns c = first-whole (trieIn sizes (c .before .before .before .before .before .before .before .args .space .now) (c .before .before .before .before .before .before .before .args .nodes) (c .before .before .before .before .before .before .before .args .links)) _ _ _ _ _ (search needs) (c .before .before .before .climb .ensures) (search needs)
-
-same-length-2 : tie.Need-same-length-2
-same-length-2 c = search needs
+returns c = (first-whole (trieIn sizes (c .before .before .before .before .args .space .now) (c .before .before .before .before .args .nodes) (c .before .before .before .before .args .links)) _ _ _ (c .before .before .before .before .args .run .now) (c .before .climb .last .1 .1 .1 .1 .1 .1 .0) (search needs) (omega (arith, c .before .climb .ensures .2)) (c .before .climb .ensures) (search needs), c .before .climb .ensures .2)
 
 returns-2 : tie.Need-returns-2
-returns-2 c = first-lost (trieIn sizes (c .before .before .before .before .before .before .before .before .args .space .now) (c .before .before .before .before .before .before .before .before .args .nodes) (c .before .before .before .before .before .before .before .before .args .links)) _ _ _ _ _ (search needs) (c .before .before .before .before .climb .ensures) (search needs)
+returns-2 c = (first-lost (trieIn sizes (c .before .before .before .before .before .args .space .now) (c .before .before .before .before .before .args .nodes) (c .before .before .before .before .before .args .links)) _ _ _ (c .before .before .before .before .before .args .run .now) (c .before .before .climb .last .1 .1 .1 .1 .1 .1 .0) (search needs) (omega (arith, c .before .before .climb .ensures .2)) (c .before .before .climb .ensures) (search needs), c .before .before .climb .ensures .2)
 
-sub-t11 : tie.Need-sub-t11
-sub-t11 c = search needs
-
-same-length-3 : tie.Need-same-length-3
-same-length-3 c = search needs
+sub-t10 : tie.Need-sub-t10
+sub-t10 c = search needs
 
 returns-3 : tie.Need-returns-3
-returns-3 c = first-on (trieIn sizes (c .before .before .before .before .before .before .before .before .args .space .now) (c .before .before .before .before .before .before .before .before .args .nodes) (c .before .before .before .before .before .before .before .before .args .links)) _ _ _ _ _ (search needs) (c .before .before .before .before .climb .ensures) (omega arith) (search needs)
+returns-3 c = (first-on (trieIn sizes (c .before .before .before .before .before .args .space .now) (c .before .before .before .before .before .args .nodes) (c .before .before .before .before .before .args .links)) _ _ _ (c .before .before .before .before .before .args .run .now) (c .before .before .climb .last .1 .1 .1 .1 .1 .1 .0) (search needs) (omega (arith, c .before .before .climb .ensures .2)) (c .before .before .climb .ensures) (omega arith) (search needs), c .before .before .climb .ensures .2)
 
 pub first-run-spec : {M : Type 1} → statement M
-first-run-spec =
-    tie.close
-    (tie.spec
-    climb-requires
-    same-length
-    returns
-    same-length-2
-    returns-2
-    sub-t11
-    same-length-3
-    returns-3)
+first-run-spec = tie.close (tie.spec climb-requires returns returns-2 sub-t10 returns-3)

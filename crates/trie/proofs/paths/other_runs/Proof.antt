@@ -16,13 +16,13 @@ same-length : tie.Need-same-length
 same-length c = search needs
 
 returns : tie.Need-returns
-returns c = other-lost (trieIn sizes (c .before .before .before .before .before .before .before .before .before .before .before .before .args .space .now) (c .before .before .before .before .before .before .before .before .before .before .before .before .args .nodes) (c .before .before .before .before .before .before .before .before .before .before .before .before .args .links)) _ _ _ (c .before .before .before .before .before .before .before .before .before .before .before .before .args .run .now) (c .before .before .before .before .before .before .before .before .before .before .before .before .args .path .now) _ _ (search needs) (search needs) (c .before .before .before .before .before .before .before .copy-run .ensures) (c .before .before .before .climb-runs .ensures) (search needs)
+returns c = other-lost (trieIn sizes (c .before .before .before .before .before .before .before .before .before .before .before .before .before .args .space .now) (c .before .before .before .before .before .before .before .before .before .before .before .before .before .args .nodes) (c .before .before .before .before .before .before .before .before .before .before .before .before .before .args .links)) _ _ _ (c .before .before .before .before .before .before .before .before .before .before .before .before .before .args .run .now) (c .before .before .before .before .before .before .before .before .before .before .before .before .before .args .path .now) _ _ (search needs) (c .before .before .before .before .before .before .before .before .copy-run .ensures) (c .before .before .before .climb-runs .ensures) (search needs)
 
 same-length-2 : tie.Need-same-length-2
 same-length-2 c = search needs
 
 returns-2 : tie.Need-returns-2
-returns-2 c = other-found (trieIn sizes (c .before .before .before .before .before .before .before .before .before .before .before .before .args .space .now) (c .before .before .before .before .before .before .before .before .before .before .before .before .args .nodes) (c .before .before .before .before .before .before .before .before .before .before .before .before .args .links)) _ _ _ (c .before .before .before .before .before .before .before .before .before .before .before .before .args .run .now) (c .before .before .before .before .before .before .before .before .before .before .before .before .args .path .now) _ _ (search needs) (search needs) (c .before .before .before .before .before .before .before .copy-run .ensures) (c .before .before .before .climb-runs .ensures) (search needs)
+returns-2 c = other-found (trieIn sizes (c .before .before .before .before .before .before .before .before .before .before .before .before .before .args .space .now) (c .before .before .before .before .before .before .before .before .before .before .before .before .before .args .nodes) (c .before .before .before .before .before .before .before .before .before .before .before .before .before .args .links)) _ _ _ (c .before .before .before .before .before .before .before .before .before .before .before .before .before .args .run .now) (c .before .before .before .before .before .before .before .before .before .before .before .before .before .args .path .now) _ _ (search needs) (c .before .before .before .before .before .before .before .before .copy-run .ensures) (c .before .before .before .climb-runs .ensures) (search needs)
 
 pub other-runs-spec : {M : Type 1} → statement M
 other-runs-spec =
