@@ -79,14 +79,17 @@ __attribute__((noinline)) static uint64_t plain_walk(const uint32_t *space, size
 __attribute__((noinline)) static uint64_t plain_gather(const uint32_t *space, size_t length, size_t leaf, uint32_t *out, size_t room) {
     struct head h;
     if (!read_head(space, length, &h) || h.nodes <= leaf || room != ROOM) return DAMAGED;
-    size_t n = leaf, left = ROOM;
+    const uint32_t *nodes = space + 8;
+    size_t n = leaf;
+    uint32_t *first = out + ROOM;
     for (;;) {
-        const uint32_t *y = space + 8 + 5 * n;
+        const uint32_t *y = nodes + 5 * n;
+        size_t parent = y[3];
         if (!sound(y, h.nodes, h.subgoals, n)) return DAMAGED;
-        if (y[3] == n) return n == 0 ? ROOM - left : DAMAGED;
-        if (left == 1) return DAMAGED;
-        out[--left] = y[0];
-        n = y[3];
+        if (parent == n) return n == 0 ? (uint64_t)(out + ROOM - first) : DAMAGED;
+        if (first == out + 1) return DAMAGED;
+        *--first = y[0];
+        n = parent;
     }
 }
 
