@@ -460,6 +460,38 @@ static void check_lists(const char *rule, uint32_t functors, uint32_t lists, uin
     check_chain(rule, tokens, load, instance);
 }
 
+/* Paths of every length that a term may have: all of their tokens, in order. */
+static void check_lengths(void)
+{
+    static const char rule[] = "a path of some length";
+    uint32_t out[300];
+    for (uint32_t tokens = 1; tokens <= 256; tokens++) {
+        size_t cells = sizeof chain_space / sizeof *chain_space;
+        check_deep(rule, tokens, SAID(TABLES_CELLS, tokens), SAID(TABLES_CELLS, tokens + 1));
+        for (uint32_t i = 0; i < tokens; i++) /* so that no two are alike */
+            chain_tokens[i] = i + 1 < tokens ? TABLES_FUNCTOR_CELL(i + 1, 1) : B;
+        write_chain(tokens);
+        tables_load(chain_space, cells, 1, out, 300);
+        check(memcmp(out, chain_tokens, tokens * sizeof *out) == 0, rule, "cells loaded");
+        tables_instance(chain_space, cells, 1, out, 300);
+        check(memcmp(out + 1, chain_tokens, tokens * sizeof *out) == 0, rule, "cells of instance");
+    }
+}
+
+/* A long path with one cell of one node changed, at each node in turn: damage. */
+static void check_broken(const char *rule, size_t field, uint32_t change)
+{
+    enum { TOKENS = 100 };
+    for (uint32_t place = 0; place < TOKENS; place++) {
+        uint32_t out[300];
+        size_t cells = sizeof chain_space / sizeof *chain_space;
+        check_deep(rule, TOKENS, SAID(TABLES_CELLS, TOKENS), SAID(TABLES_CELLS, TOKENS + 1));
+        chain_space[8 + 5 * (place + 4) + field] += change;
+        check(tables_load(chain_space, cells, 1, out, 300) == DAMAGED, rule, "load");
+        check(tables_instance(chain_space, cells, 1, out, 300) == DAMAGED, rule, "instance");
+    }
+}
+
 /* A list of so many different variables. */
 static void check_variables(const char *rule, uint32_t variables, uint64_t load, uint64_t instance)
 {
@@ -482,6 +514,13 @@ static void check_paths(void)
     check_deep("a path as long as the table", LONGEST_PATH, DAMAGED, DAMAGED);
     check_lists("a path of 383 tokens", 1, 127, SAID(TABLES_CELLS, 256), SAID(TABLES_CELLS, 257));
     check_lists("a path of 384 tokens, lists", 2, 127, DAMAGED, DAMAGED);
+    check_lengths();
+    check_broken("a long path, a node that is its own parent", PARENT, 1);
+    check_broken("a long path, a parent above its node", PARENT, 2);
+    check_broken("a long path, a sibling out of range", SIBLING, 1000);
+    check_broken("a long path, a child out of range", CHILD, 1000);
+    check_broken("a long path, a child not above its node", CHILD, UINT32_MAX);
+    check_broken("a long path, a link out of range", LINK, 2);
     check_variables("32 variables", 32, SAID(TABLES_CELLS, 65), SAID(TABLES_CELLS, 66));
     check_variables("33 variables", 33, DAMAGED, DAMAGED);
 }
