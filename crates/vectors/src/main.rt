@@ -238,8 +238,8 @@ fn malformed_terms() {
     both(b"cells for no terms", &[0x30000001], 0);
 }
 
-// What is no compact form: figures 4, 5 and 6 of source 001 among them.
-fn other_forms() {
+// The forms of other approaches, which are no compact form: figures 4, 5 and 6 of source 001.
+fn other_approaches() {
     back(
         b"001 fig 4 standard list",
         &[
@@ -287,6 +287,10 @@ fn other_forms() {
         &[0x60000000, 0x30000001, 0x70000000, 0x30000002, 0x30000003],
         1,
     );
+}
+
+// What else is no compact form.
+fn other_forms() {
     back(
         b"M7 BLIST EPAIR 1",
         &[0x60000000, 0x80000000, 0x30000001],
@@ -446,6 +450,7 @@ fn main() {
     tries();
     lists();
     malformed_terms();
+    other_approaches();
     other_forms();
     cells_256();
     tokens_383();
