@@ -1,4 +1,4 @@
-/* Times the exported calls against the plain store on the same tables in one run. */
+/* Times the exported calls against the plain store, or what is linked in its place, on the same tables in one run. */
 #define _POSIX_C_SOURCE 200809L
 
 #include "../include/tables.h"
@@ -24,6 +24,13 @@ enum {
     ANSWER_CELLS = 3
 };
 
+/* The edition of the spaces. */
+#ifndef BENCH_EDITION
+#define BENCH_EDITION TABLES_EDITION_1
+#endif
+
+enum { EDITION = BENCH_EDITION };
+
 /* How long a row is timed, both sides together, unless the fewest rounds take longer. */
 static const double nanoseconds_per_row = 4e9;
 
@@ -38,8 +45,7 @@ static uint64_t word(enum said said, uint32_t value)
 /* The two sides */
 
 struct side {
-    const char *name;
-    uint64_t (*fresh)(uint32_t *, size_t, uint32_t, uint32_t, uint32_t);
+    uint64_t (*fresh)(uint32_t *, size_t, uint32_t, uint32_t, uint32_t, uint32_t);
     uint64_t (*call)(uint32_t *, size_t, const uint32_t *, size_t);
     uint64_t (*answer)(uint32_t *, size_t, uint32_t, const uint32_t *, size_t);
     uint64_t (*finish)(uint32_t *, size_t, uint32_t);
@@ -52,11 +58,14 @@ struct side {
 enum { OURS, PLAIN, SIDES };
 
 static const struct side sides[SIDES] = {
-    [OURS] = {"ours", tables_fresh, tables_call, tables_answer, tables_finish, tables_next, tables_load,
+    [OURS] = {tables_fresh, tables_call, tables_answer, tables_finish, tables_next, tables_load,
               tables_instance, tables_counts},
-    [PLAIN] = {"plain", plain_fresh, plain_call, plain_answer, plain_finish, plain_next, plain_load,
+    [PLAIN] = {plain_fresh, plain_call, plain_answer, plain_finish, plain_next, plain_load,
                plain_instance, plain_counts},
 };
+
+/* What they are called in the report. */
+static const char *side_names[SIDES] = {[OURS] = "ours", [PLAIN] = "plain"};
 
 /* Workloads */
 
@@ -114,8 +123,8 @@ static struct workload subgoal_workload(void)
     make_room(&workload, 5, 3 + 4 * ITEMS);
     for (uint32_t i = 0; i < ITEMS; i++) {
         uint32_t *term = workload.terms + 5 * i;
-        term[0] = TABLES_FUNCTOR_CELL(1, 3);
-        term[1] = TABLES_FUNCTOR_CELL(2, 1);
+        term[0] = TABLES_FUNCTOR_CELL(EDITION, 1, 3);
+        term[1] = TABLES_FUNCTOR_CELL(EDITION, 2, 1);
         term[2] = TABLES_CELL(TABLES_INTEGER, i);
         term[3] = TABLES_CELL(TABLES_VARIABLE, 7);
         term[4] = TABLES_CELL(TABLES_VARIABLE, 3);
@@ -128,7 +137,7 @@ static struct workload pair_workload(void)
 {
     struct workload workload = {
         .name = "answers (A, I)",
-        .goal = {TABLES_FUNCTOR_CELL(3, 2), TABLES_CELL(TABLES_VARIABLE, 7),
+        .goal = {TABLES_FUNCTOR_CELL(EDITION, 3, 2), TABLES_CELL(TABLES_VARIABLE, 7),
                  TABLES_CELL(TABLES_VARIABLE, 3)},
         .goal_cells = 3,
     };
@@ -155,7 +164,7 @@ static struct workload list_workload(const char *name, enum difference differenc
 {
     struct workload workload = {
         .name = name,
-        .goal = {TABLES_FUNCTOR_CELL(4, 1), TABLES_CELL(TABLES_VARIABLE, 7)},
+        .goal = {TABLES_FUNCTOR_CELL(EDITION, 4, 1), TABLES_CELL(TABLES_VARIABLE, 7)},
         .goal_cells = 2,
     };
     uint32_t different = difference == FIRST_DIFFERENT ? 0 : elements - 1;
@@ -226,7 +235,7 @@ static void compare_fresh(struct comparison *comparison)
     for (int i = 0; i < SIDES; i++) {
         memset(comparison->space[i], 0xa5, workload->space_cells * sizeof *comparison->space[i]);
         said[i] = sides[i].fresh(comparison->space[i], workload->space_cells, workload->nodes,
-                                 subgoal_capacity(workload), answer_capacity(workload));
+                                 subgoal_capacity(workload), answer_capacity(workload), EDITION);
     }
     check(comparison, "fresh", 0, word(DONE, 0), said);
     compare_counts(comparison, 0, 0);
@@ -473,7 +482,7 @@ static double now(void)
 static void empty_table(const struct workload *workload, uint32_t *space)
 {
     plain_fresh(space, workload->space_cells, workload->nodes, subgoal_capacity(workload),
-                answer_capacity(workload));
+                answer_capacity(workload), EDITION);
     if (workload->goal_cells > 0)
         plain_call(space, workload->space_cells, workload->goal, workload->goal_cells);
 }
@@ -524,6 +533,16 @@ static void time_sides(const struct operation *operation, const struct workload 
         best[i] = best_time(&timings[i], ITEMS / operation->together);
 }
 
+static void print_heading(FILE *tsv)
+{
+    const char *ours = side_names[OURS], *plain = side_names[PLAIN];
+    printf("\n%-10s  %-36s  %5s, ns  %5s, ns  %6s, 1/s  %6s, 1/s  ratio\n", "", "", ours, plain, ours,
+           plain);
+    if (tsv != NULL)
+        fprintf(tsv, "call\ttable\t%s ns\t%s ns\t%s a second\t%s a second\tratio\n", ours, plain, ours,
+                plain);
+}
+
 static void report(FILE *tsv, const char *call, const char *table, const double best[SIDES])
 {
     double ours = best[OURS], plain = best[PLAIN];
@@ -555,8 +574,7 @@ static void time_all(FILE *tsv)
         list_workload("lists of 60, first element different", FIRST_DIFFERENT, EMPTY_ENDING, 60),
         list_workload("lists of 60, last element different", LAST_DIFFERENT, EMPTY_ENDING, 60),
     };
-    printf("\n%-10s  %-36s  %9s  %9s  %11s  %11s  %5s\n", "", "", "ours, ns", "plain, ns",
-           "ours, 1/s", "plain, 1/s", "ratio");
+    print_heading(tsv);
     compare_sides(&subgoals);
     time_workload(tsv, &subgoals, calling, sizeof calling / sizeof *calling);
     free(subgoals.terms);
@@ -567,7 +585,10 @@ static void time_all(FILE *tsv)
     }
 }
 
-/* The file named by the first argument receives the table as tab-separated values. */
+/*
+ * The file named by the first argument receives the table as tab-separated
+ * values; two more name the sides.
+ */
 int main(int argc, char **argv)
 {
     FILE *tsv = argc > 1 ? fopen(argv[1], "w") : NULL;
@@ -575,8 +596,8 @@ int main(int argc, char **argv)
         perror(argv[1]);
         return 1;
     }
-    if (tsv != NULL)
-        fprintf(tsv, "call\ttable\tours ns\tplain ns\tours a second\tplain a second\tratio\n");
+    for (int i = 0; i < SIDES && argc > 3; i++)
+        side_names[i] = argv[2 + i];
     for (int difference = FIRST_DIFFERENT; difference <= LAST_DIFFERENT; difference++)
         for (int ending = EMPTY_ENDING; ending <= TERM_ENDING; ending++)
             compare_published_nodes((enum difference)difference, (enum ending)ending);

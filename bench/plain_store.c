@@ -8,7 +8,8 @@ enum {
     TERM_CELLS = 256,
     TERM_VARIABLES = 32,
     FORM_TOKENS = 383,
-    MOST_RECORDS = 1048576
+    MOST_RECORDS = 1048576,
+    LAST_EDITION = 2
 };
 
 /* Kinds of cells, and the cells that mark lists. */
@@ -40,7 +41,7 @@ enum { ANSWER_LEAF, ANSWER_SUBGOAL, ANSWER_NEXT, ANSWER_CELLS };
 enum refusal {
     ACCEPTED = 0,
     BAD_HEADER = 1,
-    BAD_CAPACITIES = 2,
+    BAD_FRESH = 2,
     BAD_TERM = 3,
     TOO_LONG = 4,
     TOO_MANY_VARIABLES = 5,
@@ -91,9 +92,10 @@ static inline uint32_t payload(uint32_t cell)
     return cell & 0x0fffffffu;
 }
 
-static inline uint32_t arity(uint32_t functor)
+/* The bits of a functor that are its arity, by edition. */
+static inline uint32_t arity_bits(uint32_t edition)
 {
-    return functor & 15;
+    return edition == 1 ? 15 : 255;
 }
 
 static inline bool is_constant(uint32_t cell)
@@ -108,6 +110,7 @@ struct head {
     size_t nodes, subgoals, answers; /* used */
     size_t node_capacity, subgoal_capacity, answer_capacity;
     size_t subgoal_offset, answer_offset;
+    uint32_t arity_bits;
 };
 
 /* Sets the number of records of so many cells between two offsets, if it is whole and in range. */
@@ -118,9 +121,15 @@ static inline bool read_capacity(uint32_t low, uint32_t high, uint32_t cells, si
     return high >= low && span % cells == 0 && *capacity <= MOST_RECORDS;
 }
 
+static inline bool is_edition(uint32_t edition)
+{
+    return edition != 0 && edition <= LAST_EDITION;
+}
+
 static inline bool read_head(const uint32_t *space, size_t space_cells, struct head *head)
 {
-    if (space_cells < HEADER_CELLS || space[EDITION] != 1 || space[NODE_OFFSET] != HEADER_CELLS)
+    if (space_cells < HEADER_CELLS || !is_edition(space[EDITION]) ||
+        space[NODE_OFFSET] != HEADER_CELLS)
         return false;
     uint32_t subgoals_at = space[SUBGOAL_OFFSET], answers_at = space[ANSWER_OFFSET];
     if (!read_capacity(HEADER_CELLS, subgoals_at, NODE_CELLS, &head->node_capacity) ||
@@ -132,6 +141,7 @@ static inline bool read_head(const uint32_t *space, size_t space_cells, struct h
     head->answers = space[ANSWERS_USED];
     head->subgoal_offset = subgoals_at;
     head->answer_offset = answers_at;
+    head->arity_bits = arity_bits(space[EDITION]);
     return space[END] <= space_cells && head->nodes != 0 && head->nodes <= head->node_capacity &&
            head->subgoals <= head->subgoal_capacity && head->answers <= head->answer_capacity;
 }
@@ -204,6 +214,7 @@ static const struct cursor wrong = {NULL, NULL};
  */
 struct compaction {
     const uint32_t *end;                /* of the input */
+    uint32_t arity_bits;                /* of the edition */
     size_t variables;                   /* distinct variables met, at most 33 */
     uint32_t names[TERM_VARIABLES + 1]; /* one more for the name sought */
     uint32_t tokens[FORM_TOKENS];
@@ -228,6 +239,7 @@ static struct cursor compact_list(struct compaction *c, struct cursor at);
 /* Reads so many terms. */
 static struct cursor compact_terms(struct compaction *c, struct cursor at, size_t due)
 {
+    uint32_t arity_bits = c->arity_bits;
     while (due > 0) {
         if (at.in == c->end)
             return wrong;
@@ -236,9 +248,9 @@ static struct cursor compact_terms(struct compaction *c, struct cursor at, size_
             *at.out++ = cell;
         } else if (kind(cell) == VARIABLE) {
             *at.out++ = number_variable(c, cell);
-        } else if (kind(cell) == FUNCTOR && arity(cell) > 0) {
+        } else if (kind(cell) == FUNCTOR && (cell & arity_bits) > 0) {
             *at.out++ = cell;
-            due += arity(cell);
+            due += cell & arity_bits;
         } else {
             if (cell != pair_cell)
                 return wrong;
@@ -286,8 +298,10 @@ static struct cursor compact_list(struct compaction *c, struct cursor at)
 }
 
 /* Reads exactly m terms. */
-static enum refusal compact(struct compaction *c, const uint32_t *terms, size_t cells, size_t m)
+static enum refusal compact(struct compaction *c, const struct head *head, const uint32_t *terms,
+                            size_t cells, size_t m)
 {
+    c->arity_bits = head->arity_bits;
     c->variables = 0;
     c->count = 0;
     if (cells > TERM_CELLS)
@@ -495,6 +509,7 @@ static bool gather(const uint32_t *space, size_t nodes, size_t links, size_t roo
  */
 struct expansion {
     const uint32_t *end;                 /* of the input */
+    uint32_t arity_bits;                 /* of the edition */
     uint32_t variables;                  /* distinct variables met, at most 32 */
     uint32_t count;                      /* of the cells */
     uint32_t starts[TERM_VARIABLES + 1]; /* where each term starts, and where the last ends */
@@ -506,6 +521,7 @@ static struct cursor expand_list(struct expansion *e, struct cursor at);
 /* Reads one term in compact form. */
 static struct cursor expand_term(struct expansion *e, struct cursor at)
 {
+    uint32_t arity_bits = e->arity_bits;
     size_t due = 1;
     do {
         if (at.in == e->end)
@@ -518,9 +534,9 @@ static struct cursor expand_term(struct expansion *e, struct cursor at)
                 return wrong;
             e->variables += payload(token) == e->variables;
             *at.out++ = token;
-        } else if (kind(token) == FUNCTOR && arity(token) > 0) {
+        } else if (kind(token) == FUNCTOR && (token & arity_bits) > 0) {
             *at.out++ = token;
-            due += arity(token);
+            due += token & arity_bits;
         } else {
             if (token != blist_token)
                 return wrong;
@@ -575,10 +591,12 @@ static struct cursor expand_list(struct expansion *e, struct cursor at)
 }
 
 /* Reads a path as exactly m legal terms; answers whether it is that. */
-static bool expand(struct expansion *e, const struct path *path, uint32_t m)
+static bool expand(struct expansion *e, const struct head *head, const struct path *path,
+                   uint32_t m)
 {
     struct cursor at = {path->first, e->cells};
     e->end = path_end(path);
+    e->arity_bits = head->arity_bits;
     e->variables = 0;
     for (uint32_t i = 0; i < m; i++) {
         e->starts[i] = (uint32_t)(at.out - e->cells);
@@ -626,17 +644,18 @@ static void write_instance(const struct expansion *subgoal, const struct expansi
 /* The calls */
 
 uint64_t plain_fresh(uint32_t *space, size_t space_cells, uint32_t nodes, uint32_t subgoals,
-                     uint32_t answers)
+                     uint32_t answers, uint32_t edition)
 {
-    if (nodes == 0 || nodes > MOST_RECORDS || subgoals > MOST_RECORDS || answers > MOST_RECORDS)
-        return refuse(BAD_CAPACITIES);
+    if (!is_edition(edition) || nodes == 0 || nodes > MOST_RECORDS || subgoals > MOST_RECORDS ||
+        answers > MOST_RECORDS)
+        return refuse(BAD_FRESH);
     uint32_t subgoals_at = HEADER_CELLS + NODE_CELLS * nodes;
     uint32_t answers_at = subgoals_at + SUBGOAL_CELLS * subgoals;
     uint32_t end = answers_at + ANSWER_CELLS * answers;
     if (end > space_cells)
-        return refuse(BAD_CAPACITIES);
+        return refuse(BAD_FRESH);
     memset(space, 0, end * sizeof *space);
-    space[EDITION] = 1;
+    space[EDITION] = edition;
     space[NODES_USED] = 1;
     space[NODE_OFFSET] = HEADER_CELLS;
     space[SUBGOAL_OFFSET] = subgoals_at;
@@ -664,7 +683,7 @@ uint64_t plain_call(uint32_t *space, size_t space_cells, const uint32_t *term, s
     struct place place;
     if (!read_head(space, space_cells, &head))
         return refuse(BAD_HEADER);
-    enum refusal refusal = compact(&form, term, term_cells, 1);
+    enum refusal refusal = compact(&form, &head, term, term_cells, 1);
     if (refusal != ACCEPTED)
         return refuse(refusal);
     if (kind(term[0]) != ATOM && kind(term[0]) != FUNCTOR)
@@ -707,7 +726,7 @@ uint64_t plain_answer(uint32_t *space, size_t space_cells, uint32_t subgoal, con
         return refuse(DAMAGED);
     if (record[STATE] != 0)
         return refuse(FINISHED);
-    enum refusal refusal = compact(&form, terms, terms_cells, record[VARIABLES]);
+    enum refusal refusal = compact(&form, &head, terms, terms_cells, record[VARIABLES]);
     if (refusal != ACCEPTED)
         return refuse(refusal);
     if (!walk(space, head.nodes, head.answers, record[ROOT], form.tokens, form.count, &place))
@@ -766,7 +785,7 @@ static enum refusal expand_answer(const uint32_t *space, const struct head *head
     if (!subgoal_is_sound(*subgoal, head))
         return DAMAGED;
     if (!gather(space, head->nodes, head->answers, (*subgoal)[ROOT], record[ANSWER_LEAF], &path) ||
-        !expand(terms, &path, (*subgoal)[VARIABLES]))
+        !expand(terms, head, &path, (*subgoal)[VARIABLES]))
         return DAMAGED;
     return ACCEPTED;
 }
@@ -802,7 +821,7 @@ uint64_t plain_instance(const uint32_t *space, size_t space_cells, uint32_t answ
     if (refusal != ACCEPTED)
         return refuse(refusal);
     if (!gather(space, head.nodes, head.subgoals, 0, subgoal[LEAF], &path) ||
-        !expand(&goal, &path, 1) || goal.variables != subgoal[VARIABLES])
+        !expand(&goal, &head, &path, 1) || goal.variables != subgoal[VARIABLES])
         return refuse(DAMAGED);
     size_t need = instance_cells(&goal, &terms);
     if (need > out_cells)

@@ -11,7 +11,7 @@
  * the same cells written.
  */
 uint64_t plain_fresh(uint32_t *space, size_t space_cells, uint32_t nodes, uint32_t subgoals,
-                     uint32_t answers);
+                     uint32_t answers, uint32_t edition);
 uint64_t plain_call(uint32_t *space, size_t space_cells, const uint32_t *term, size_t term_cells);
 uint64_t plain_answer(uint32_t *space, size_t space_cells, uint32_t subgoal, const uint32_t *terms,
                       size_t terms_cells);

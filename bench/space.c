@@ -31,7 +31,7 @@ static int capacity(size_t least, size_t size, size_t low, size_t high, size_t *
 /* the whole header, as every call of a table reads it */
 __attribute__((noinline)) static int read_head(const uint32_t *space, size_t length, struct head *h) {
     size_t n, f, a;
-    if (length < 8 || space[0] != 1 || space[4] != 8) return 0;
+    if (length < 8 || (space[0] != 1 && space[0] != 2) || space[4] != 8) return 0;
     if (!capacity(1, 5, 8, space[5], &n)) return 0;
     if (!capacity(0, 6, space[5], space[6], &f)) return 0;
     if (!capacity(0, 3, space[6], space[7], &a)) return 0;

@@ -41,8 +41,8 @@ static const struct belt belts[] = {
 
 enum { BELTS = sizeof belts / sizeof *belts };
 
-/* The space: the engine owns it and lends it to every call. */
-enum { NODES = 1000, SUBGOALS = 20, ANSWERS = 200 };
+/* The space: the engine owns it and lends it to every call. Functor cells are made for its edition. */
+enum { NODES = 1000, SUBGOALS = 20, ANSWERS = 200, EDITION = TABLES_EDITION_2 };
 enum { SPACE_CELLS = TABLES_SPACE_CELLS(NODES, SUBGOALS, ANSWERS) };
 
 static uint32_t space[SPACE_CELLS];
@@ -55,7 +55,7 @@ static uint64_t checked(const char *call, uint64_t word)
 {
     static const char *const reasons[] = {
         [TABLES_REFUSED_HEADER] = "the space has no sound header",
-        [TABLES_REFUSED_FRESH] = "the capacities do not fit the space",
+        [TABLES_REFUSED_FRESH] = "the capacities do not fit the space, or no such edition",
         [TABLES_REFUSED_TERM] = "not the terms that are due",
         [TABLES_REFUSED_LENGTH] = "over 256 cells",
         [TABLES_REFUSED_VARIABLES] = "over 32 variables",
@@ -85,7 +85,7 @@ static uint32_t atom(enum place place)
 /* Calls reach(P, X, S), and if that is new, the subgoals that its second rule needs. */
 static void call_reach(enum place place)
 {
-    const uint32_t term[] = {TABLES_FUNCTOR_CELL(1, 3), atom(place),
+    const uint32_t term[] = {TABLES_FUNCTOR_CELL(EDITION, 1, 3), atom(place),
                              TABLES_CELL(TABLES_VARIABLE, 0), TABLES_CELL(TABLES_VARIABLE, 1)};
     uint64_t word = checked("tables_call", tables_call(space, SPACE_CELLS, term, 4));
     if (tables_what(word) != TABLES_NEW)
@@ -199,7 +199,7 @@ static void print_closed(void)
 int main(void)
 {
     uint32_t counts[3];
-    checked("tables_fresh", tables_fresh(space, SPACE_CELLS, NODES, SUBGOALS, ANSWERS));
+    checked("tables_fresh", tables_fresh(space, SPACE_CELLS, NODES, SUBGOALS, ANSWERS, EDITION));
     call_reach(CHECK_IN_1);
     call_reach(CHECK_IN_2);
     int turns = 1;

@@ -22,7 +22,7 @@ enum tables_kind {
     TABLES_VARIABLE = 1, /* the caller's name for it, 0 to 2^28 - 1 */
     TABLES_ATOM = 2,     /* its number; atom 0 is the empty list [] */
     TABLES_INTEGER = 3,  /* its value, 0 to 2^28 - 1 */
-    TABLES_FUNCTOR = 4,  /* name * 16 + arity, arity 1 to 15 */
+    TABLES_FUNCTOR = 4,  /* name and arity, as the edition says */
     TABLES_PAIR = 5,     /* 0; pair form only */
     TABLES_BLIST = 6,    /* 0; compact form only: a list begins */
     TABLES_ELIST = 7,    /* 0; compact form only: the last element follows, then [] */
@@ -33,8 +33,39 @@ enum tables_kind {
 #define TABLES_KIND(cell) ((uint32_t)(cell) >> 28)
 #define TABLES_PAYLOAD(cell) ((uint32_t)(cell) & UINT32_C(0x0fffffff))
 
-#define TABLES_FUNCTOR_CELL(name, arity) \
-    TABLES_CELL(TABLES_FUNCTOR, (uint32_t)(name) << 4 | (uint32_t)(arity))
+/*
+ * Editions
+ *
+ * A space has an edition, which tables_fresh is given and every later call
+ * reads in the space itself. It says how a functor's payload is read:
+ *
+ *     edition 1   name * 16 + arity, arity 1 to 15, name 0 to 16,777,215
+ *     edition 2   name * 256 + arity, arity 1 to 255, name 0 to 1,048,575
+ *
+ * Nothing else differs. Cells made for one edition are mostly legal in the
+ * other, with another name and arity: an engine makes its functor cells for the
+ * edition of the space that it calls. The converters take the edition too.
+ */
+#define TABLES_EDITION_1 1
+#define TABLES_EDITION_2 2
+
+#define TABLES_ARITY_BITS(edition) ((edition) == TABLES_EDITION_1 ? 4 : 8)
+#define TABLES_MOST_ARITY(edition) ((edition) == TABLES_EDITION_1 ? 15 : 255)
+#define TABLES_MOST_NAME(edition) ((edition) == TABLES_EDITION_1 ? 16777215 : 1048575)
+
+/*
+ * The cell of a functor. A name or an arity that is out of range, and an edition
+ * that there is not, give 0, which is no cell of a term (refusal 3): they never
+ * spill into another name, arity or kind. A constant expression where its
+ * arguments are; it may evaluate each of them more than once.
+ */
+#define TABLES_FUNCTOR_CELL(edition, name, arity) \
+    (((edition) == TABLES_EDITION_1 || (edition) == TABLES_EDITION_2) && \
+             (uint64_t)(name) <= TABLES_MOST_NAME(edition) && (uint64_t)(arity) >= 1 && \
+             (uint64_t)(arity) <= TABLES_MOST_ARITY(edition) \
+         ? TABLES_CELL(TABLES_FUNCTOR, \
+                       (uint32_t)(name) << TABLES_ARITY_BITS(edition) | (uint32_t)(arity)) \
+         : UINT32_C(0))
 #define TABLES_EMPTY_LIST TABLES_CELL(TABLES_ATOM, 0)
 #define TABLES_PAIR_CELL TABLES_CELL(TABLES_PAIR, 0)
 
@@ -76,8 +107,10 @@ enum tables_kind {
  * (11), form (13), out (12).
  */
 enum tables_refusal {
-    TABLES_REFUSED_HEADER = 1,        /* the space has no sound header, or is cut short */
-    TABLES_REFUSED_FRESH = 2,         /* a capacity out of range, or too few cells for it */
+    TABLES_REFUSED_HEADER = 1,        /* the space has no sound header, or is cut short; from a
+                                         converter: an edition that there is not */
+    TABLES_REFUSED_FRESH = 2,         /* a capacity out of range, too few cells for it, or an
+                                         edition that there is not */
     TABLES_REFUSED_TERM = 3,          /* not exactly the terms due; for a converter also a byte
                                          count not divisible by 4 */
     TABLES_REFUSED_LENGTH = 4,        /* over 256 cells */
@@ -100,7 +133,8 @@ enum tables_refusal {
  * many records of each sort it may hold; nothing grows later.
  *
  *     static uint32_t space[TABLES_SPACE_CELLS(1000, 50, 100)];
- *     uint64_t word = tables_fresh(space, TABLES_SPACE_CELLS(1000, 50, 100), 1000, 50, 100);
+ *     uint64_t word = tables_fresh(space, TABLES_SPACE_CELLS(1000, 50, 100), 1000, 50, 100,
+ *                                  TABLES_EDITION_2);
  *
  * A node is needed for each cell of compact form that no other entry of the
  * same trie shares, and one more for each subgoal, and one for the whole table.
@@ -175,11 +209,12 @@ static inline uint32_t tables_refused_by(uint64_t word)
 }
 
 /*
- * Makes the cells an empty table with room for so many nodes, subgoals and
- * answers, whatever they held. TABLES_DONE. Refused by 2.
+ * Makes the cells an empty table of an edition (TABLES_EDITION_1 or
+ * TABLES_EDITION_2) with room for so many nodes, subgoals and answers, whatever
+ * they held. TABLES_DONE. Refused by 2.
  */
 uint64_t tables_fresh(uint32_t *space, size_t space_cells, uint32_t nodes, uint32_t subgoals,
-                      uint32_t answers);
+                      uint32_t answers, uint32_t edition);
 
 /*
  * Enters a subgoal: one term, which begins with an atom or a functor. Terms that
@@ -232,7 +267,7 @@ uint64_t tables_load(const uint32_t *space, size_t space_cells, uint32_t answer,
  * TABLES_INSTANCE_CELLS cells always suffice, or ask first with none, and 12
  * says how many.
  */
-#define TABLES_INSTANCE_CELLS 61201
+#define TABLES_INSTANCE_CELLS 65281 /* f/255 of one variable, for which 256 cells are put */
 uint64_t tables_instance(const uint32_t *space, size_t space_cells, uint32_t answer, uint32_t *out,
                          size_t out_cells);
 
@@ -245,10 +280,12 @@ uint64_t tables_counts(const uint32_t *space, size_t space_cells, uint32_t *out,
 /*
  * The two converters
  *
- * They stand alone, without a space. A converter returns the number of cells
- * written, at least 1, or TABLES_REFUSED plus the refusal's number.
+ * They stand alone, without a space, so they are told the edition by which a
+ * functor is read: TABLES_EDITION_1 or TABLES_EDITION_2. A converter returns the
+ * number of cells written, at least 1, or TABLES_REFUSED plus the refusal's
+ * number.
  *
- *     uint32_t result = tables_compact(in, in_bytes, out, out_bytes);
+ *     uint32_t result = tables_compact(in, in_bytes, out, out_bytes, TABLES_EDITION_2);
  *     if (TABLES_IS_REFUSED(result))
  *         complain(TABLES_REFUSAL(result));
  */
@@ -279,13 +316,14 @@ uint64_t tables_counts(const uint32_t *space, size_t space_cells, uint32_t *out,
 /*
  * Writes the compact form of a term given in pair form.
  *
- * Refused, the first that applies: TABLES_REFUSED_TERM if in_bytes is not
- * divisible by 4; TABLES_REFUSED_LENGTH; TABLES_REFUSED_TERM if the cells are
- * not exactly one term (a kind other than 1 to 5, a functor of arity 0, a pair
- * with a payload, cells missing or left over); TABLES_REFUSED_VARIABLES;
- * TABLES_REFUSED_OUT.
+ * Refused, the first that applies: TABLES_REFUSED_HEADER if the edition is
+ * neither 1 nor 2; TABLES_REFUSED_TERM if in_bytes is not divisible by 4;
+ * TABLES_REFUSED_LENGTH; TABLES_REFUSED_TERM if the cells are not exactly one
+ * term (a kind other than 1 to 5, a functor of arity 0, a pair with a payload,
+ * cells missing or left over); TABLES_REFUSED_VARIABLES; TABLES_REFUSED_OUT.
  */
-uint32_t tables_compact(const uint8_t *in, size_t in_bytes, uint8_t *out, size_t out_bytes);
+uint32_t tables_compact(const uint8_t *in, size_t in_bytes, uint8_t *out, size_t out_bytes,
+                        uint32_t edition);
 
 /*
  * Writes the pair form of a term given in compact form. Its variables keep
@@ -293,13 +331,15 @@ uint32_t tables_compact(const uint8_t *in, size_t in_bytes, uint8_t *out, size_t
  * the result gives the term with its variables so numbered; for every form
  * that tables_expand accepts, compacting the result gives the form again.
  *
- * Refused, the first that applies: TABLES_REFUSED_TERM if in_bytes is not
- * divisible by 4; TABLES_REFUSED_FORM if the cells are not exactly the compact
- * form of one legal term, so also if the term would have more than 256 cells
- * or 32 variables, or if its variables are not numbered by first meeting;
+ * Refused, the first that applies: TABLES_REFUSED_HEADER if the edition is
+ * neither 1 nor 2; TABLES_REFUSED_TERM if in_bytes is not divisible by 4;
+ * TABLES_REFUSED_FORM if the cells are not exactly the compact form of one
+ * legal term, so also if the term would have more than 256 cells or 32
+ * variables, or if its variables are not numbered by first meeting;
  * TABLES_REFUSED_OUT.
  */
-uint32_t tables_expand(const uint8_t *in, size_t in_bytes, uint8_t *out, size_t out_bytes);
+uint32_t tables_expand(const uint8_t *in, size_t in_bytes, uint8_t *out, size_t out_bytes,
+                       uint32_t edition);
 
 #ifdef __cplusplus
 }

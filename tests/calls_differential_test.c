@@ -1,8 +1,9 @@
-/* Compares the exported calls with the plain table, call by call, over random lists of calls. */
+/* Compares the exported calls with the plain table, call by call, over random lists of calls in both editions. */
 #define _DEFAULT_SOURCE
 
 #include "../include/tables.h"
 #include "drawing.h"
+#include "editions.h"
 #include "lending.h"
 #include "plain_table.h"
 #include "requests.h"
@@ -14,7 +15,8 @@
 #include <string.h>
 #include <unistd.h>
 
-enum { LISTS = 60000, MOST_FAILURES = 10, SPACE_CELLS = 12000, OUT_CELLS = 62000, SECONDS = 50 };
+enum { LISTS = 60000, LONGEST_LIST = 50, MOST_FAILURES = 10, SECONDS = 50 };
+enum { SPACE_CELLS = 12000, OUT_CELLS = TABLES_INSTANCE_CELLS + 20 };
 
 static uint64_t seed = 1;
 static unsigned lists = LISTS;
@@ -57,6 +59,14 @@ enum met_case {
     VARIABLES_32,
     INSTANCE_LONG,
     LAST_NODE,
+    ARITY_40,
+    ARITY_255,
+    OTHER_ARITY,
+    ARITY_WRITTEN,
+    LOW_BITS,
+    TAKEN_IN_1,
+    TAKEN_IN_2,
+    TAKEN_IN_BOTH,
     MET_CASES
 };
 
@@ -70,7 +80,13 @@ static const char *const case_names[MET_CASES] = {
     [EMPTY_ANSWER_NEW] = "empty answer new", [EMPTY_ANSWER_OLD] = "empty answer old",
     [CELLS_256] = "256 cells taken",         [FORM_383] = "383 tokens entered",
     [VARIABLES_32] = "32 variables taken",   [INSTANCE_LONG] = "instance over 256",
-    [LAST_NODE] = "last node taken",
+    [LAST_NODE] = "last node taken",         [ARITY_40] = "arity 40 taken",
+    [ARITY_255] = "arity 255 taken",         [OTHER_ARITY] = "another from 16 to 254 taken",
+    [ARITY_WRITTEN] = "arity from 16 to 255 written",
+    [LOW_BITS] = "such a payload taken in edition 1",
+    [TAKEN_IN_1] = "cells taken in edition 1 alone",
+    [TAKEN_IN_2] = "cells taken in edition 2 alone",
+    [TAKEN_IN_BOTH] = "cells with functors taken in both",
 };
 
 static uint64_t met[MET_CASES];
@@ -79,6 +95,7 @@ static uint64_t met[MET_CASES];
 
 struct run {
     unsigned list, call;
+    uint32_t edition;
     uint32_t most_nodes, most_subgoals, most_answers;
     size_t space_cells;
     uint32_t *space;
@@ -97,14 +114,14 @@ static void fail(const struct run *run, const char *call, const char *what, uint
 {
     if (++failures > MOST_FAILURES)
         return;
-    printf("failed: seed %" PRIu64 ", list %u, call %u, %s: %s: %#" PRIx64 " instead of %#" PRIx64
-           "\n",
-           seed, run->list, run->call, call, what, got, expected);
+    printf("failed: seed %" PRIu64 ", list %u, edition %u, call %u, %s: %s: %#" PRIx64
+           " instead of %#" PRIx64 "\n",
+           seed, run->list, (unsigned)run->edition, run->call, call, what, got, expected);
 }
 
 static void count_result(const struct run *run, unsigned row, uint64_t word)
 {
-    if (!tally_result(possible, row, word))
+    if (!tally_result(possible, run->edition, row, word))
         fail(run, row == FRESH ? "fresh" : request_names[row], "no result of this call", word,
              word);
 }
@@ -132,7 +149,8 @@ static void check_fresh_cells(const struct run *run, size_t end)
 {
     uint32_t subgoal_offset = 8 + 5 * run->most_nodes;
     uint32_t answer_offset = subgoal_offset + 6 * run->most_subgoals;
-    const uint32_t header[8] = {1, 1, 0, 0, 8, subgoal_offset, answer_offset, (uint32_t)end};
+    const uint32_t header[8] = {run->edition, 1, 0, 0, 8, subgoal_offset, answer_offset,
+                                (uint32_t)end};
     if (!same_cells(run->space, header, 8))
         fail(run, "fresh", "header", 0, 0);
     for (size_t i = 8; i < end; i++)
@@ -142,14 +160,15 @@ static void check_fresh_cells(const struct run *run, size_t end)
         fail(run, "fresh", "cells past the end", 0, 0);
 }
 
-/* A fresh that is refused: a capacity out of range, or a cell too few. */
+/* A fresh that is refused: a capacity out of range, a cell too few, or no edition. */
 static void refuse_fresh(struct run *run)
 {
     uint32_t capacity[3] = {run->most_nodes, run->most_subgoals, run->most_answers};
     static const uint32_t too_many[] = {TABLES_MOST_RECORDS + 1, UINT32_MAX, UINT32_C(1) << 31,
                                         858993459};
     size_t cells = run->space_cells;
-    switch (below(4)) {
+    uint32_t edition = run->edition;
+    switch (below(5)) {
     case 0:
         capacity[0] = 0;
         break;
@@ -159,10 +178,13 @@ static void refuse_fresh(struct run *run)
     case 2:
         capacity[below(3)] = TABLES_MOST_RECORDS;
         break;
+    case 3:
+        edition = draw_no_edition();
+        break;
     default:
         cells = TABLES_SPACE_CELLS(capacity[0], capacity[1], capacity[2]) - between(1, 9);
     }
-    uint64_t word = tables_fresh(run->space, cells, capacity[0], capacity[1], capacity[2]);
+    uint64_t word = tables_fresh(run->space, cells, capacity[0], capacity[1], capacity[2], edition);
     if (word != (uint64_t)(TABLES_REFUSED_BY + TABLES_REFUSED_FRESH) << 32)
         fail(run, "fresh", "result", word,
              (uint64_t)(TABLES_REFUSED_BY + TABLES_REFUSED_FRESH) << 32);
@@ -171,23 +193,25 @@ static void refuse_fresh(struct run *run)
     count_result(run, FRESH, word);
 }
 
-/* Tiny capacities, or now and then enough for long terms. */
-static void draw_capacities(struct run *run)
+/* The edition and the capacities: tiny, or now and then enough for long terms. */
+static void draw_table(struct run *run)
 {
     bool large = chance(12);
+    run->edition = draw_edition();
     run->most_nodes = (uint32_t)(large ? between(300, 1800) : between(1, chance(50) ? 20 : 60));
     run->most_subgoals = (uint32_t)between(chance(90) ? 1 : 0, large ? 9 : 6);
     run->most_answers = (uint32_t)between(chance(90) ? 1 : 0, large ? 20 : 9);
-    open_drawer(&run->drawer, large ? 40 : 4, 8, chance(50) ? 4 : 9);
+    open_drawer(&run->drawer, run->edition, large ? 40 : 4, 8, chance(50) ? 4 : 9);
 }
 
-/* Fresh, and the empty plain table, with the capacities set. */
+/* Fresh, and the empty plain table, with the edition and the capacities set. */
 static void open_run(struct run *run)
 {
     size_t end = TABLES_SPACE_CELLS(run->most_nodes, run->most_subgoals, run->most_answers);
     run->space_cells = end + below(4);
     run->space = lend(&space_arena, run->space_cells, chance(50));
-    run->plain = plain_table_open(run->most_nodes, run->most_subgoals, run->most_answers);
+    run->plain =
+        plain_table_open(run->most_nodes, run->most_subgoals, run->most_answers, run->edition);
     memset(&run->known, 0, sizeof run->known);
     run->counts[0] = 1;
     run->counts[1] = run->counts[2] = 0;
@@ -196,7 +220,7 @@ static void open_run(struct run *run)
     if (chance(20))
         refuse_fresh(run);
     uint64_t word = tables_fresh(run->space, run->space_cells, run->most_nodes, run->most_subgoals,
-                                 run->most_answers);
+                                 run->most_answers, run->edition);
     if (word != TABLES_DONE)
         fail(run, "fresh", "result", word, TABLES_DONE);
     count_result(run, FRESH, word);
@@ -339,6 +363,34 @@ static void count_argument_cases(const struct request *request, uint32_t refusal
     met[VARIABLES_AND_PREDICATE] += refusal == 5 && no_predicate;
 }
 
+/* Is there a functor among the cells whose arity, as the edition reads it, is one of these? */
+static bool has_arity(const uint32_t *cells, size_t count, uint32_t edition, uint32_t least,
+                      uint32_t most)
+{
+    for (size_t i = 0; i < count; i++) {
+        uint32_t arity = arity_in(edition, cells[i]);
+        if (TABLES_KIND(cells[i]) == TABLES_FUNCTOR && arity >= least && arity <= most)
+            return true;
+    }
+    return false;
+}
+
+/* Of an argument that was new, or of what a call wrote to out. */
+static void count_arities(uint32_t edition, uint32_t what, const struct argument *argument,
+                          size_t written)
+{
+    const uint32_t *cells = argument->cell;
+    size_t count = what == TABLES_NEW ? argument->count : 0;
+    bool wide = edition == TABLES_EDITION_2;
+    met[ARITY_40] += wide && has_arity(cells, count, edition, 40, 40);
+    met[ARITY_255] += wide && has_arity(cells, count, edition, 255, 255);
+    met[OTHER_ARITY] += wide && (has_arity(cells, count, edition, 16, 39) ||
+                                 has_arity(cells, count, edition, 41, 254));
+    met[ARITY_WRITTEN] += wide && what == TABLES_CELLS &&
+                          has_arity(out_expected, written, edition, 16, 255);
+    met[LOW_BITS] += !wide && has_arity(cells, count, TABLES_EDITION_2, 16, 255);
+}
+
 /* With the counts as they were before the call, and after it. */
 static void count_cases(const struct run *run, const struct request *request, uint64_t word,
                         size_t room, const uint32_t before[3])
@@ -350,6 +402,7 @@ static void count_cases(const struct run *run, const struct request *request, ui
     size_t cells = request->argument.count;
     if (enters)
         count_argument_cases(request, refusal);
+    count_arities(run->edition, what, &request->argument, tables_value(word));
     met[NUMBER_AND_OUT] += refusal == 7 && !enters && request->kind >= LOAD && room == 0;
     met[PREDICATE_AND_NODES] += refusal == 6 && before[0] == run->most_nodes;
     met[NODES_AND_RECORDS] += refusal == 10 && full;
@@ -391,31 +444,85 @@ static enum request_kind draw_kind(const struct known *known)
     return kinds[below(sizeof kinds / sizeof *kinds)];
 }
 
+/* One list as it was drawn, and what came of each request. */
+static struct {
+    size_t count;
+    struct request request[LONGEST_LIST];
+    uint64_t word[LONGEST_LIST];
+} drawn;
+
+static uint64_t run_request(struct run *run, const struct request *request)
+{
+    uint32_t before[3];
+    bool writes_out =
+        request->kind == LOAD || request->kind == INSTANCE || request->kind == COUNTS;
+    size_t room = writes_out ? draw_room(run, request) : 0;
+    memcpy(before, run->counts, sizeof before);
+    run->call++;
+    uint64_t word = compare_request(run, request, room);
+    compare_counts(run, request_names[request->kind]);
+    count_cases(run, request, word, room, before);
+    return word;
+}
+
+/* Draws a list for a table of an edition, and makes its requests. */
+static void run_drawn(struct run *run)
+{
+    draw_table(run);
+    open_run(run);
+    drawn.count = between(1, LONGEST_LIST);
+    for (size_t i = 0; i < drawn.count; i++) {
+        struct request *request = &drawn.request[i];
+        draw_request(&run->drawer, draw_kind(&run->known), &run->known, request);
+        drawn.word[i] = run_request(run, request);
+        learn(run, request, drawn.word[i]);
+    }
+    plain_table_close(run->plain);
+}
+
+/* Was the argument taken, new or old? */
+static bool is_taken(uint64_t word)
+{
+    return tables_what(word) >= TABLES_NEW && tables_what(word) <= TABLES_OLD_FINISHED;
+}
+
+/* Counts what the two editions say of the same cells. */
+static void count_both(const struct request *request, uint32_t edition, uint64_t word,
+                       uint64_t other_word)
+{
+    uint64_t in_1 = edition == TABLES_EDITION_1 ? word : other_word;
+    uint64_t in_2 = edition == TABLES_EDITION_1 ? other_word : word;
+    bool enters = request->kind == CALL || request->kind == ANSWER;
+    met[TAKEN_IN_1] += enters && is_taken(in_1) && tables_refused_by(in_2) == TABLES_REFUSED_TERM;
+    met[TAKEN_IN_2] += enters && is_taken(in_2) && tables_refused_by(in_1) == TABLES_REFUSED_TERM;
+    met[TAKEN_IN_BOTH] += enters && is_taken(in_1) && is_taken(in_2) &&
+                          has_arity(request->argument.cell, request->argument.count,
+                                    TABLES_EDITION_1, 1, 15);
+}
+
+/* The same requests for a table of the other edition, with the same capacities. */
+static void run_again(struct run *run)
+{
+    run->edition = other_edition(run->edition);
+    open_run(run);
+    for (size_t i = 0; i < drawn.count; i++) {
+        uint64_t word = run_request(run, &drawn.request[i]);
+        count_both(&drawn.request[i], run->edition, word, drawn.word[i]);
+    }
+    plain_table_close(run->plain);
+}
+
 static void run_list(unsigned list)
 {
     static struct run run;
-    static struct request request;
     run.list = list;
     run.call = 0;
-    draw_capacities(&run);
-    open_run(&run);
-    for (size_t calls = between(1, 50); calls > 0 && failures < MOST_FAILURES; calls--) {
-        uint32_t before[3];
-        run.call++;
-        memcpy(before, run.counts, sizeof before);
-        draw_request(&run.drawer, draw_kind(&run.known), &run.known, &request);
-        bool writes_out =
-            request.kind == LOAD || request.kind == INSTANCE || request.kind == COUNTS;
-        size_t room = writes_out ? draw_room(&run, &request) : 0;
-        uint64_t word = compare_request(&run, &request, room);
-        compare_counts(&run, request_names[request.kind]);
-        count_cases(&run, &request, word, room, before);
-        learn(&run, &request, word);
-    }
-    plain_table_close(run.plain);
+    run_drawn(&run);
+    run.call = 0;
+    run_again(&run);
 }
 
-/* The published lists of calls, which hold the plain table to the request too */
+/* The published lists of calls, written for edition 1, which hold the plain table to the request too */
 
 struct published {
     struct request request;
@@ -424,9 +531,10 @@ struct published {
 
 #define WORD(what, value) (((uint64_t)(what) << 32) + (value))
 #define REFUSED_WORD(number) WORD(TABLES_REFUSED_BY + (number), 0)
-#define F2 TABLES_FUNCTOR_CELL(1, 2)
-#define G1 TABLES_FUNCTOR_CELL(2, 1)
-#define H1 TABLES_FUNCTOR_CELL(3, 1)
+#define F2 TABLES_FUNCTOR_CELL(TABLES_EDITION_1, 1, 2)
+#define G1 TABLES_FUNCTOR_CELL(TABLES_EDITION_1, 2, 1)
+#define G2 TABLES_FUNCTOR_CELL(TABLES_EDITION_1, 2, 2)
+#define H1 TABLES_FUNCTOR_CELL(TABLES_EDITION_1, 3, 1)
 #define X TABLES_CELL(TABLES_VARIABLE, 7)
 #define Y TABLES_CELL(TABLES_VARIABLE, 9)
 #define A TABLES_CELL(TABLES_ATOM, 4)
@@ -450,12 +558,12 @@ static const struct published session[] = {
 /* M9, with 11 nodes and with 10; M10. */
 static const struct published three_subgoals[] = {
     {{CALL, 0, 0, {3, {F2, X, A}}}, WORD(TABLES_NEW, 1)},
-    {{CALL, 0, 0, {3, {TABLES_FUNCTOR_CELL(2, 2), X, Y}}}, WORD(TABLES_NEW, 2)},
+    {{CALL, 0, 0, {3, {G2, X, Y}}}, WORD(TABLES_NEW, 2)},
     {{CALL, 0, 0, {3, {F2, Y, ONE}}}, WORD(TABLES_NEW, 3)},
 };
 static const struct published node_short[] = {
     {{CALL, 0, 0, {3, {F2, X, A}}}, WORD(TABLES_NEW, 1)},
-    {{CALL, 0, 0, {3, {TABLES_FUNCTOR_CELL(2, 2), X, Y}}}, WORD(TABLES_NEW, 2)},
+    {{CALL, 0, 0, {3, {G2, X, Y}}}, WORD(TABLES_NEW, 2)},
     {{CALL, 0, 0, {3, {F2, Y, ONE}}}, REFUSED_WORD(10)},
 };
 static const struct published ground_subgoal[] = {
@@ -464,19 +572,27 @@ static const struct published ground_subgoal[] = {
     {{ANSWER, 1, 0, {0, {0}}}, WORD(TABLES_OLD, 1)},
 };
 
-/* Makes the calls with so many nodes; both tables must use `nodes_used` of them. */
-static void run_published(const struct published *rows, size_t count, uint32_t nodes,
-                          uint32_t nodes_used)
+static void recode_argument(struct argument *argument, uint32_t edition)
+{
+    for (size_t i = 0; i < argument->count; i++)
+        argument->cell[i] = recoded(edition, argument->cell[i]);
+}
+
+/* Makes the calls in an edition with so many nodes; both tables must use `nodes_used` of them. */
+static void run_published(const struct published *rows, size_t count, uint32_t edition,
+                          uint32_t nodes, uint32_t nodes_used)
 {
     static struct run run;
-    run = (struct run){.most_nodes = nodes, .most_subgoals = 50, .most_answers = 100};
+    run = (struct run){
+        .edition = edition, .most_nodes = nodes, .most_subgoals = 50, .most_answers = 100};
     open_run(&run);
     for (size_t i = 0; i < count; i++) {
-        const struct request *request = &rows[i].request;
-        uint64_t word = compare_request(&run, request, request->kind == INSTANCE ? 9 : 0);
+        struct request request = rows[i].request;
+        recode_argument(&request.argument, edition);
+        uint64_t word = compare_request(&run, &request, request.kind == INSTANCE ? 9 : 0);
         if (word != rows[i].word)
-            fail(&run, request_names[request->kind], "published", word, rows[i].word);
-        compare_counts(&run, request_names[request->kind]);
+            fail(&run, request_names[request.kind], "published", word, rows[i].word);
+        compare_counts(&run, request_names[request.kind]);
         run.call++;
     }
     if (run.counts[0] != nodes_used)
@@ -484,15 +600,16 @@ static void run_published(const struct published *rows, size_t count, uint32_t n
     plain_table_close(run.plain);
 }
 
-static void check_published(void)
+static void check_published(uint32_t edition)
 {
-    static const uint32_t instance[] = {F2, G1, A, H1, A};
-    run_published(session, sizeof session / sizeof *session, 1000, 11);
-    if (!same_cells(out_arena.lent, instance, 5))
-        fail(&(struct run){0}, "instance", "published cells", 0, 0);
-    run_published(three_subgoals, 3, 11, 11);
-    run_published(node_short, 3, 10, 9);
-    run_published(ground_subgoal, 3, 4, 4);
+    struct argument instance = {5, {F2, G1, A, H1, A}};
+    recode_argument(&instance, edition);
+    run_published(session, sizeof session / sizeof *session, edition, 1000, 11);
+    if (!same_cells(out_arena.lent, instance.cell, instance.count))
+        fail(&(struct run){.edition = edition}, "instance", "published cells", 0, 0);
+    run_published(three_subgoals, 3, edition, 11, 11);
+    run_published(node_short, 3, edition, 10, 9);
+    run_published(ground_subgoal, 3, edition, 4, 4);
 }
 
 /* The report */
@@ -524,7 +641,8 @@ int main(int argc, char **argv)
     open_arena(&term_arena, ARGUMENT_CELLS);
     open_arena(&out_arena, OUT_CELLS);
     seed_drawing(seed);
-    check_published();
+    check_published(TABLES_EDITION_1);
+    check_published(TABLES_EDITION_2);
     for (unsigned list = 1; list <= lists && failures < MOST_FAILURES; list++) {
         if (list % 100 == 1)
             alarm(SECONDS);

@@ -1,18 +1,28 @@
-/* Checks the exported converters on hand-written terms, forms, limits, lengths and refusals. */
+/* Checks the exported converters on hand-written terms, forms, limits, lengths and refusals, in both editions. */
 #include "../include/tables.h"
+#include "editions.h"
 
 #include <stdio.h>
 #include <string.h>
 
 enum { CELL_BYTES = 4, MARGIN = 16, MOST_CELLS = 600, MOST_BYTES = MOST_CELLS * CELL_BYTES };
 
-/* Cells by name; functors f/3, g/2, h/1. */
+/* The edition that the converters are given at present. */
+static uint32_t edition;
+
+/*
+ * Cells by name; functors f/3, g/2, h/1 of the present edition, f with the most
+ * arguments, and f and the last name with arity 0, which are none.
+ */
 #define VAR(name) (UINT32_C(0x10000000) + (name))
 #define ATOM(number) (UINT32_C(0x20000000) + (number))
 #define INT(value) (UINT32_C(0x30000000) + (value))
-#define F3 UINT32_C(0x40000013)
-#define G2 UINT32_C(0x40000022)
-#define H1 UINT32_C(0x40000031)
+#define F3 functor(UINT32_C(0x40000013), UINT32_C(0x40000103))
+#define G2 functor(UINT32_C(0x40000022), UINT32_C(0x40000202))
+#define H1 functor(UINT32_C(0x40000031), UINT32_C(0x40000301))
+#define WIDEST functor(UINT32_C(0x4000001f), UINT32_C(0x400001ff))
+#define F0 functor(UINT32_C(0x40000010), UINT32_C(0x40000100))
+#define LAST_0 functor(UINT32_C(0x4ffffff0), UINT32_C(0x4fffff00))
 #define NIL UINT32_C(0x20000000)
 #define PAIR UINT32_C(0x50000000)
 #define BLIST UINT32_C(0x60000000)
@@ -21,7 +31,12 @@ enum { CELL_BYTES = 4, MARGIN = 16, MOST_CELLS = 600, MOST_BYTES = MOST_CELLS * 
 
 #define REFUSED(number) (UINT32_C(0x80000000) + (number))
 
-typedef uint32_t converter(const uint8_t *, size_t, uint8_t *, size_t);
+static uint32_t functor(uint32_t in_edition_1, uint32_t in_edition_2)
+{
+    return edition == TABLES_EDITION_1 ? in_edition_1 : in_edition_2;
+}
+
+typedef uint32_t converter(const uint8_t *, size_t, uint8_t *, size_t, uint32_t);
 
 /* A row of cells. */
 struct cells {
@@ -41,7 +56,7 @@ static void check(int holds, const char *name, const char *what)
     checks++;
     if (!holds) {
         failures++;
-        printf("failed: %s: %s\n", name, what);
+        printf("failed: edition %u: %s: %s\n", (unsigned)edition, name, what);
     }
 }
 
@@ -62,9 +77,9 @@ static void to_bytes(uint8_t *bytes, const struct cells *cells)
  * address, and checks the result, every byte of out, the margins around it and
  * that the input stayed.
  */
-static void check_bytes(const char *name, converter *convert, const uint8_t *in, size_t in_bytes,
-                        size_t out_bytes, uint32_t result, const struct cells *written,
-                        size_t in_offset, size_t out_offset)
+static void check_given(const char *name, converter *convert, uint32_t given_edition,
+                        const uint8_t *in, size_t in_bytes, size_t out_bytes, uint32_t result,
+                        const struct cells *written, size_t in_offset, size_t out_offset)
 {
     static _Alignas(16) uint8_t lent_in[MOST_BYTES + 2 * MARGIN];
     static _Alignas(16) uint8_t lent_out[MOST_BYTES + 2 * MARGIN];
@@ -74,7 +89,8 @@ static void check_bytes(const char *name, converter *convert, const uint8_t *in,
     memcpy(expected, lent_out, sizeof expected);
     to_bytes(expected + MARGIN + out_offset, written);
     memcpy(lent_in + in_offset, in, in_bytes);
-    uint32_t got = convert(lent_in + in_offset, in_bytes, lent_out + MARGIN + out_offset, out_bytes);
+    uint32_t got = convert(lent_in + in_offset, in_bytes, lent_out + MARGIN + out_offset, out_bytes,
+                           given_edition);
     if (got != result)
         printf("%s: result %08x instead of %08x\n", name, (unsigned)got, (unsigned)result);
     check(got == result, name, "result");
@@ -82,10 +98,31 @@ static void check_bytes(const char *name, converter *convert, const uint8_t *in,
     check(memcmp(lent_in + in_offset, in, in_bytes) == 0, name, "input stays");
 }
 
+/* The same in the present edition. */
+static void check_bytes(const char *name, converter *convert, const uint8_t *in, size_t in_bytes,
+                        size_t out_bytes, uint32_t result, const struct cells *written,
+                        size_t in_offset, size_t out_offset)
+{
+    check_given(name, convert, edition, in, in_bytes, out_bytes, result, written, in_offset,
+                out_offset);
+}
+
+/* No edition comes before all else: any byte count, any room. */
+static void check_no_edition(const char *name, converter *convert, const uint8_t *in, size_t length)
+{
+    for (size_t i = 0; i < NO_EDITIONS; i++)
+        for (size_t odd = 0; odd < CELL_BYTES; odd++) {
+            check_given(name, convert, no_editions[i], in, length + odd, MOST_BYTES, REFUSED(1),
+                        &no_cells, 0, 0);
+            check_given(name, convert, no_editions[i], in, length + odd, odd, REFUSED(1), &no_cells,
+                        odd, 3 - odd);
+        }
+}
+
 /* Checks one accepted input: ample room, an exact fit, odd bytes at the end, odd addresses, too short. */
 static void check_accepted(const char *name, converter *convert, struct cells in, struct cells out)
 {
-    uint8_t bytes[MOST_BYTES];
+    uint8_t bytes[MOST_BYTES + CELL_BYTES] = {0};
     size_t length = in.count * CELL_BYTES;
     size_t room = out.count * CELL_BYTES;
     uint32_t result = (uint32_t)out.count;
@@ -97,6 +134,7 @@ static void check_accepted(const char *name, converter *convert, struct cells in
         check_bytes(name, convert, bytes, length, room, result, &out, odd, 3 - odd);
         check_bytes(name, convert, bytes, length, odd, REFUSED(12), &no_cells, 0, odd);
     }
+    check_no_edition(name, convert, bytes, length);
 }
 
 /* Checks one refusal, with ample room and with none, and that an odd byte count comes before it. */
@@ -110,6 +148,7 @@ static void check_refused(const char *name, converter *convert, struct cells in,
     check_bytes(name, convert, bytes, length, 0, REFUSED(refusal), &no_cells, 0, 0);
     for (size_t odd = 1; odd < CELL_BYTES; odd++)
         check_bytes(name, convert, bytes, length + odd, MOST_BYTES, REFUSED(3), &no_cells, 0, 0);
+    check_no_edition(name, convert, bytes, length);
 }
 
 /* Checks a term whose variables are numbered already: compacting and expanding. */
@@ -151,7 +190,8 @@ static void test_other_terms(void)
     check_both("X", CELLS(VAR(0)), CELLS(VAR(0)));
     check_both("largest integer", CELLS(INT(0x0fffffff)), CELLS(INT(0x0fffffff)));
     check_both("largest atom", CELLS(ATOM(0x0fffffff)), CELLS(ATOM(0x0fffffff)));
-    check_both("functor named 0", CELLS(UINT32_C(0x40000001), INT(0)), CELLS(UINT32_C(0x40000001), INT(0)));
+    check_both("functor named 0", CELLS(UINT32_C(0x40000001), INT(0)),
+               CELLS(UINT32_C(0x40000001), INT(0)));
     check_both("[1]", CELLS(PAIR, INT(1), NIL), CELLS(BLIST, ELIST, INT(1)));
     check_both("[[]]", CELLS(PAIR, NIL, NIL), CELLS(BLIST, ELIST, NIL));
     check_both("[[], []]", CELLS(PAIR, NIL, PAIR, NIL, NIL), CELLS(BLIST, NIL, ELIST, NIL));
@@ -172,11 +212,12 @@ static void test_other_terms(void)
                    CELLS(F3, VAR(1), VAR(0x08000001), VAR(1)), CELLS(F3, VAR(0), VAR(1), VAR(0)));
 }
 
-/* A functor of each arity with its arguments, then with one too few and one too many. */
+/* A functor of each arity, named as highly as it can be, with one argument too few, all, and one too many. */
 static void test_arities(void)
 {
-    for (uint32_t arity = 1; arity <= 15; arity++) {
-        struct cells term = CELLS(TABLES_FUNCTOR_CELL(0xffffff, arity));
+    uint32_t most_arity = edition == TABLES_EDITION_1 ? 15 : 255;
+    for (uint32_t arity = 1; arity <= most_arity; arity++) {
+        struct cells term = CELLS(UINT32_C(0x50000000) - 1 - most_arity + arity);
         for (uint32_t i = 1; i < arity; i++)
             append(&term, INT(i));
         check_refused("an argument too few", tables_compact, term, 3);
@@ -184,7 +225,7 @@ static void test_arities(void)
         append(&term, NIL);
         check_both("a functor of each arity", term, term);
         append(&term, NIL);
-        check_refused("an argument too many", tables_compact, term, 3);
+        check_refused("an argument too many", tables_compact, term, arity == 255 ? 4 : 3);
         check_refused("an argument too many", tables_expand, term, 13);
     }
 }
@@ -193,8 +234,8 @@ static void test_arities(void)
 
 static void test_bad_terms(void)
 {
-    static const uint32_t bad_cells[] = {
-        0,          0x0fffffff, 0x40000000, 0x40000010, 0x4ffffff0, 0x50000001, 0x5fffffff,
+    const uint32_t bad_cells[] = {
+        0,          0x0fffffff, 0x40000000, F0,         LAST_0,     0x50000001, 0x5fffffff,
         BLIST,      ELIST,      EPAIR,      0x60000001, 0x90000000, 0xa0000000, 0xb0000000,
         0xc0000000, 0xd0000000, 0xe0000000, 0xf0000000, 0xffffffff};
     for (size_t i = 0; i < sizeof bad_cells / sizeof *bad_cells; i++) {
@@ -209,6 +250,7 @@ static void test_bad_terms(void)
     check_refused("a pair alone", tables_compact, CELLS(PAIR), 3);
     check_refused("a pair without tail", tables_compact, CELLS(PAIR, INT(1)), 3);
     check_refused("a functor alone", tables_compact, CELLS(G2), 3);
+    check_refused("two functors alone", tables_compact, CELLS(WIDEST, G2), 3);
     check_refused("an argument missing", tables_compact, CELLS(F3, INT(1), INT(2)), 3);
     check_refused("a cell left over", tables_compact, CELLS(INT(1), INT(2)), 3);
     check_refused("a cell left over behind []", tables_compact, CELLS(PAIR, INT(1), NIL, NIL), 3);
@@ -217,10 +259,10 @@ static void test_bad_terms(void)
 
 static void test_bad_forms(void)
 {
-    static const uint32_t bad_tokens[] = {
-        0,          0x0fffffff, 0x40000000, 0x40000010, PAIR,       0x50000001, 0x60000001,
-        ELIST,      0x70000001, EPAIR,      0x80000001, 0x90000000, 0xf0000000, 0xffffffff,
-        VAR(1),     VAR(31),    VAR(32),    VAR(0x0fffffff)};
+    const uint32_t bad_tokens[] = {
+        0,          0x0fffffff, 0x40000000, F0,         LAST_0,     PAIR,       0x50000001,
+        0x60000001, ELIST,      0x70000001, EPAIR,      0x80000001, 0x90000000, 0xf0000000,
+        0xffffffff, VAR(1),     VAR(31),    VAR(32),    VAR(0x0fffffff)};
     for (size_t i = 0; i < sizeof bad_tokens / sizeof *bad_tokens; i++) {
         check_refused("a bad token", tables_expand, CELLS(bad_tokens[i]), 13);
         check_refused("a bad argument", tables_expand, CELLS(G2, INT(1), bad_tokens[i]), 13);
@@ -242,6 +284,7 @@ static void test_bad_forms(void)
     check_refused("a closing []", tables_expand, CELLS(BLIST, INT(1), ELIST, INT(2), NIL), 13);
     check_refused("a token left over", tables_expand, CELLS(INT(1), INT(1)), 13);
     check_refused("an argument missing", tables_expand, CELLS(F3, INT(1), INT(2)), 13);
+    check_refused("two functors alone", tables_expand, CELLS(WIDEST, G2), 13);
     check_refused("pair form expanded", tables_expand, CELLS(PAIR, INT(1), NIL), 13);
     check_refused("a number skipped", tables_expand, CELLS(F3, VAR(0), VAR(2), VAR(1)), 13);
     check_refused("numbers swapped", tables_expand, CELLS(G2, VAR(1), VAR(0)), 13);
@@ -402,13 +445,17 @@ static void test_null(void)
 {
     uint8_t integer[CELL_BYTES] = {1, 0, 0, 0x30};
     uint8_t out[CELL_BYTES] = {1, 2, 3, 4};
-    check(tables_compact(NULL, 0, NULL, 0) == REFUSED(3), "compact", "NULL for both");
-    check(tables_expand(NULL, 0, NULL, 0) == REFUSED(13), "expand", "NULL for both");
-    check(tables_compact(NULL, 0, out, sizeof out) == REFUSED(3), "compact", "NULL for in");
-    check(tables_expand(NULL, 0, out, sizeof out) == REFUSED(13), "expand", "NULL for in");
+    check(tables_compact(NULL, 0, NULL, 0, edition) == REFUSED(3), "compact", "NULL for both");
+    check(tables_expand(NULL, 0, NULL, 0, edition) == REFUSED(13), "expand", "NULL for both");
+    check(tables_compact(NULL, 0, NULL, 0, 0) == REFUSED(1), "compact", "NULL and no edition");
+    check(tables_expand(NULL, 0, NULL, 0, 3) == REFUSED(1), "expand", "NULL and no edition");
+    check(tables_compact(NULL, 0, out, sizeof out, edition) == REFUSED(3), "compact", "NULL for in");
+    check(tables_expand(NULL, 0, out, sizeof out, edition) == REFUSED(13), "expand", "NULL for in");
     check(memcmp(out, (uint8_t[]){1, 2, 3, 4}, sizeof out) == 0, "NULL for in", "bytes of out");
-    check(tables_compact(integer, sizeof integer, NULL, 0) == REFUSED(12), "compact", "NULL for out");
-    check(tables_expand(integer, sizeof integer, NULL, 0) == REFUSED(12), "expand", "NULL for out");
+    check(tables_compact(integer, sizeof integer, NULL, 0, edition) == REFUSED(12), "compact",
+          "NULL for out");
+    check(tables_expand(integer, sizeof integer, NULL, 0, edition) == REFUSED(12), "expand",
+          "NULL for out");
 }
 
 /* The names that the header gives. */
@@ -417,18 +464,21 @@ static void test_names(void)
     check(TABLES_CELL(TABLES_VARIABLE, 7) == VAR(7), "header", "variable");
     check(TABLES_CELL(TABLES_ATOM, 5) == ATOM(5), "header", "atom");
     check(TABLES_CELL(TABLES_INTEGER, 5) == INT(5), "header", "integer");
-    check(TABLES_FUNCTOR_CELL(1, 3) == F3, "header", "functor");
+    check(TABLES_FUNCTOR_CELL(edition, 1, 3) == F3, "header", "functor");
     check(TABLES_EMPTY_LIST == NIL && TABLES_PAIR_CELL == PAIR, "header", "list cells");
     check(TABLES_CELL(TABLES_BLIST, 0) == BLIST, "header", "BLIST");
     check(TABLES_CELL(TABLES_ELIST, 0) == ELIST, "header", "ELIST");
     check(TABLES_CELL(TABLES_EPAIR, 0) == EPAIR, "header", "EPAIR");
-    check(TABLES_KIND(F3) == TABLES_FUNCTOR && TABLES_PAYLOAD(F3) == 0x13, "header", "kind and payload");
+    check(TABLES_KIND(F3) == TABLES_FUNCTOR && TABLES_PAYLOAD(F3) == functor(0x13, 0x103), "header",
+          "kind and payload");
     check(TABLES_IS_REFUSED(REFUSED(3)) && !TABLES_IS_REFUSED(383u), "header", "refused");
     check(TABLES_REFUSAL(REFUSED(13)) == TABLES_REFUSED_FORM, "header", "refusal");
 }
 
-int main(void)
+/* All of it in one edition. */
+static void test_edition(uint32_t tested)
 {
+    edition = tested;
     test_published_terms();
     test_other_terms();
     test_arities();
@@ -439,6 +489,12 @@ int main(void)
     test_order();
     test_null();
     test_names();
+}
+
+int main(void)
+{
+    for (uint32_t tested = 1; tested <= LAST_EDITION; tested++)
+        test_edition(tested);
     printf("converters_test: %d checks, %d failed\n", checks, failures);
     return failures != 0;
 }

@@ -1,24 +1,29 @@
-/* Checks each rule on damaged spaces by itself: a sound space, a cell changed, one call's result. */
+/* Checks each rule on damaged spaces by itself, in both editions: a sound space, a cell changed, one call's result. */
 #define _DEFAULT_SOURCE
 
 #include "../include/tables.h"
+#include "editions.h"
 #include "lending.h"
 
 #include <inttypes.h>
+#include <stdbool.h>
 #include <stdio.h>
 #include <stdlib.h>
 #include <string.h>
 #include <unistd.h>
 
-/* Cells by name; functors f/2, g/1, q/1. */
+/* The edition of the spaces at present. */
+static uint32_t edition;
+
+/* Cells by name; functors f/2, g/1, q/1, as edition 1 writes them: they are recoded where they are used. */
 #define VAR(name) TABLES_CELL(TABLES_VARIABLE, name)
 #define A TABLES_CELL(TABLES_ATOM, 1)
 #define B TABLES_CELL(TABLES_ATOM, 2)
 #define C TABLES_CELL(TABLES_ATOM, 3)
 #define D TABLES_CELL(TABLES_ATOM, 4)
-#define F2 TABLES_FUNCTOR_CELL(1, 2)
-#define G1 TABLES_FUNCTOR_CELL(2, 1)
-#define Q1 TABLES_FUNCTOR_CELL(3, 1)
+#define F2 TABLES_FUNCTOR_CELL(TABLES_EDITION_1, 1, 2)
+#define G1 TABLES_FUNCTOR_CELL(TABLES_EDITION_1, 2, 1)
+#define Q1 TABLES_FUNCTOR_CELL(TABLES_EDITION_1, 3, 1)
 #define NIL TABLES_EMPTY_LIST
 #define PAIR TABLES_PAIR_CELL
 #define BLIST TABLES_CELL(TABLES_BLIST, 0)
@@ -139,7 +144,7 @@ static void check(int holds, const char *rule, const char *what)
     checks++;
     if (!holds) {
         failures++;
-        printf("failed: %s: %s\n", rule, what);
+        printf("failed: edition %u: %s: %s\n", (unsigned)edition, rule, what);
     }
 }
 
@@ -162,12 +167,14 @@ static void write_sound(struct space *space, enum room room)
     uint32_t subgoals = room == ROOMY ? ROOMY_SUBGOALS : SUBGOALS;
     uint32_t answers = room == ROOMY ? ROOMY_ANSWERS : ANSWERS;
     uint32_t end = (uint32_t)TABLES_SPACE_CELLS(nodes, subgoals, answers);
-    const uint32_t header[8] = {1, NODES,         SUBGOALS,          ANSWERS,
-                                8, 8 + 5 * nodes, end - 3 * answers, end};
+    const uint32_t header[8] = {edition, NODES,         SUBGOALS,          ANSWERS,
+                                8,       8 + 5 * nodes, end - 3 * answers, end};
     memset(space, 0, sizeof *space);
     space->count = end + 2;
     memcpy(space->cell, header, sizeof header);
     memcpy(&space->cell[place(space, NODE_CELL, 0, 0)], sound_nodes, sizeof sound_nodes);
+    for (uint32_t node = 0; node < NODES; node++)
+        space->cell[place(space, NODE_CELL, node, TOKEN)] = recoded(edition, sound_nodes[node][TOKEN]);
     memcpy(&space->cell[place(space, SUBGOAL_CELL, 1, 0)], sound_subgoals, sizeof sound_subgoals);
     memcpy(&space->cell[place(space, ANSWER_CELL, 1, 0)], sound_answers, sizeof sound_answers);
     space->cell[end] = space->cell[end + 1] = UINT32_C(0xfeedface);
@@ -177,8 +184,11 @@ static void write_sound(struct space *space, enum room room)
 
 static uint64_t make(const struct request *request, struct space *space, uint32_t *out)
 {
-    const uint32_t *cells = request->cells == 0 ? NULL : request->cell;
+    uint32_t recoded_cell[ROW_CELLS];
+    const uint32_t *cells = request->cells == 0 ? NULL : recoded_cell;
     size_t room = OUT_CELLS - request->out_short;
+    for (size_t i = 0; i < request->cells; i++)
+        recoded_cell[i] = recoded(edition, request->cell[i]);
     switch (request->call) {
     case CALL:
         return tables_call(space->cell, space->count, cells, request->cells);
@@ -209,7 +219,7 @@ static void check_call(const char *rule, struct space *space, const struct reque
     if (word != result)
         printf("%s: %#" PRIx64 " instead of %#" PRIx64 "\n", rule, word, result);
     check(word == result, rule, "result");
-    int refused = tables_refused_by(word) != 0;
+    bool refused = tables_refused_by(word) != 0;
     if (refused || request->call >= NEXT)
         check(memcmp(space, &before, sizeof before) == 0, rule, "the space was changed");
     if (refused || request->call < LOAD)
@@ -226,8 +236,10 @@ static void check_row(const struct row *row)
         if (change->sort == NO_CHANGE)
             continue;
         uint32_t *cell = &space.cell[place(&space, change->sort, change->number, change->field)];
-        check(*cell != change->value, row->rule, "the row changes nothing");
-        *cell = change->value;
+        bool is_token = change->sort == NODE_CELL && change->field == TOKEN;
+        uint32_t value = is_token ? recoded(edition, change->value) : change->value;
+        check(*cell != value, row->rule, "the row changes nothing");
+        *cell = value;
     }
     check_call(row->rule, &space, &row->request, row->result);
 }
@@ -253,9 +265,10 @@ static void check_sound(enum room room)
     made.count = sound.count;
     for (size_t i = 0; i < made.count; i++)
         made.cell[i] = UINT32_C(0xfeedface);
-    uint64_t word = room == ROOMY ? tables_fresh(made.cell, made.count, ROOMY_NODES, ROOMY_SUBGOALS,
-                                                 ROOMY_ANSWERS)
-                                  : tables_fresh(made.cell, made.count, NODES, SUBGOALS, ANSWERS);
+    uint64_t word =
+        room == ROOMY ? tables_fresh(made.cell, made.count, ROOMY_NODES, ROOMY_SUBGOALS,
+                                     ROOMY_ANSWERS, edition)
+                      : tables_fresh(made.cell, made.count, NODES, SUBGOALS, ANSWERS, edition);
     check(word == TABLES_DONE, "the sound space", "fresh");
     for (size_t i = 0; i < sizeof requests / sizeof *requests; i++) {
         word = make(&requests[i], &made, out);
@@ -320,8 +333,6 @@ static const struct {
     const char *rule;
     uint32_t field, value;
 } headers[] = {
-    {"edition 0", 0, 0},
-    {"edition 2", 0, 2},
     {"no node used", 1, 0},
     {"nodes above their capacity", 1, ROOMY_NODES + 1},
     {"subgoals above their capacity", 2, ROOMY_SUBGOALS + 1},
@@ -351,10 +362,58 @@ static void check_headers(void)
         space.cell[headers[i].field] = headers[i].value;
         check_header(headers[i].rule, &space);
     }
+    for (size_t i = 0; i < NO_EDITIONS; i++) {
+        space = sound;
+        space.cell[0] = no_editions[i];
+        check_header("no edition", &space);
+    }
     for (size_t cut = 0; cut < 12; cut++) {
         space = sound;
         space.count = cut < 8 ? cut : sound.count - 3 - (cut - 8);
         check_header("cut short", &space);
+    }
+}
+
+/*
+ * The sound space with the other edition in its header. What edition 1 wrote as
+ * f/2, g/1 and q/1 has 18, 33 and 49 arguments in edition 2; what edition 2
+ * wrote keeps its arities in edition 1.
+ */
+static const struct {
+    struct request request; /* with the cells that the space was made with */
+    uint64_t as_edition_2;  /* of a space made in edition 1 */
+    uint64_t as_edition_1;  /* of a space made in edition 2 */
+} other_readings[] = {
+    {CALL_FXA, REFUSED(3), SAID(TABLES_OLD_OPEN, 1)},
+    {CALL_NEW, REFUSED(3), SAID(TABLES_NEW, SUBGOALS + 1)},
+    {CALL_OF(A), SAID(TABLES_NEW, SUBGOALS + 1), SAID(TABLES_NEW, SUBGOALS + 1)},
+    {ANSWER_OF(1, B), SAID(TABLES_OLD, 1), SAID(TABLES_OLD, 1)},
+    {ANSWER_OF(1, D), SAID(TABLES_NEW, ANSWERS + 1), SAID(TABLES_NEW, ANSWERS + 1)},
+    {ANSWER_OF(1, G1, B), REFUSED(3), SAID(TABLES_OLD, 4)},
+    {EMPTY_ANSWER_OF(3), SAID(TABLES_OLD, 3), SAID(TABLES_OLD, 3)},
+    {FINISH_OF(1), SAID(TABLES_DONE, 0), SAID(TABLES_DONE, 0)},
+    {NEXT_OF(1, 2), SAID(TABLES_AT, 4), SAID(TABLES_AT, 4)},
+    {LOAD_OF(1), SAID(TABLES_CELLS, 1), SAID(TABLES_CELLS, 1)},
+    {LOAD_OF(3), SAID(TABLES_CELLS, 0), SAID(TABLES_CELLS, 0)},
+    {LOAD_OF(4), DAMAGED, SAID(TABLES_CELLS, 2)},
+    {LOAD_SHORT(4), DAMAGED, SAID(TABLES_REFUSED_BY + 12, 2)},
+    {LOAD_OF(6), SAID(TABLES_CELLS, 4), SAID(TABLES_CELLS, 4)},
+    {INSTANCE_OF(1), DAMAGED, SAID(TABLES_CELLS, 3)},
+    {INSTANCE_OF(3), DAMAGED, SAID(TABLES_CELLS, 2)},
+    {INSTANCE_SHORT(1), DAMAGED, SAID(TABLES_REFUSED_BY + 12, 3)},
+    {COUNTS_OF, SAID(TABLES_COUNTS, 3), SAID(TABLES_COUNTS, 3)},
+};
+
+static void check_other_readings(void)
+{
+    for (size_t i = 0; i < sizeof other_readings / sizeof *other_readings; i++) {
+        struct space space;
+        write_sound(&space, ROOMY);
+        space.cell[0] = other_edition(edition);
+        check_call("read by the other edition", &space, &other_readings[i].request,
+                   edition == TABLES_EDITION_1 ? other_readings[i].as_edition_2
+                                               : other_readings[i].as_edition_1);
+        check(space.cell[0] == other_edition(edition), "read by the other edition", "the edition");
     }
 }
 
@@ -363,7 +422,7 @@ static void check_nothing_lent(void)
 {
     const char *rule = "nothing lent";
     note_place("%s", rule);
-    check(tables_fresh(NULL, 0, 1, 0, 0) == REFUSED(2), rule, "fresh");
+    check(tables_fresh(NULL, 0, 1, 0, 0, edition) == REFUSED(2), rule, "fresh");
     check(tables_call(NULL, 0, NULL, 0) == REFUSED(1), rule, "call");
     check(tables_answer(NULL, 0, 1, NULL, 0) == REFUSED(1), rule, "answer");
     check(tables_finish(NULL, 0, 1) == REFUSED(1), rule, "finish");
@@ -386,10 +445,10 @@ static void check_largest(const char *rule, size_t sort)
         perror(rule);
         exit(2);
     }
-    uint64_t word = tables_fresh(space, cells, capacity[0], capacity[1], capacity[2]);
+    uint64_t word = tables_fresh(space, cells, capacity[0], capacity[1], capacity[2], edition);
     check(word == REFUSED(2), rule, "fresh with one more");
     capacity[sort]--;
-    word = tables_fresh(space, cells, capacity[0], capacity[1], capacity[2]);
+    word = tables_fresh(space, cells, capacity[0], capacity[1], capacity[2], edition);
     check(word == TABLES_DONE, rule, "fresh");
     check(tables_counts(space, cells, counts, 3) == SAID(TABLES_COUNTS, 3), rule, "counts");
     for (size_t offset = 5 + sort; offset < 8; offset++)
@@ -408,9 +467,9 @@ static uint32_t chain_tokens[LONGEST_PATH];
 /* Nodes 1 and 2 are the subgoal's and 3 its answer root; the path's follow. */
 static void write_chain(uint32_t tokens)
 {
-    static const uint32_t term[] = {G1, VAR(0)};
+    const uint32_t term[] = {recoded(edition, G1), VAR(0)};
     size_t cells = sizeof chain_space / sizeof *chain_space;
-    tables_fresh(chain_space, cells, LONGEST_PATH + 4, 1, 1);
+    tables_fresh(chain_space, cells, LONGEST_PATH + 4, 1, 1, edition);
     tables_call(chain_space, cells, term, 2);
     for (uint32_t i = 0; i < tokens; i++) {
         uint32_t node[5] = {chain_tokens[i], i + 1 < tokens ? i + 5 : 0, 0, i + 3,
@@ -439,7 +498,7 @@ static void check_chain(const char *rule, uint32_t tokens, uint64_t load, uint64
 static void check_deep(const char *rule, uint32_t tokens, uint64_t load, uint64_t instance)
 {
     for (uint32_t i = 0; i < tokens; i++)
-        chain_tokens[i] = i + 1 < tokens ? G1 : B;
+        chain_tokens[i] = i + 1 < tokens ? recoded(edition, G1) : B;
     check_chain(rule, tokens, load, instance);
 }
 
@@ -449,7 +508,7 @@ static void check_lists(const char *rule, uint32_t functors, uint32_t lists, uin
 {
     uint32_t tokens = 0;
     for (uint32_t i = 0; i < functors; i++)
-        chain_tokens[tokens++] = G1;
+        chain_tokens[tokens++] = recoded(edition, G1);
     for (uint32_t i = 0; i < lists; i++)
         chain_tokens[tokens++] = BLIST;
     chain_tokens[tokens++] = B;
@@ -469,7 +528,7 @@ static void check_lengths(void)
         size_t cells = sizeof chain_space / sizeof *chain_space;
         check_deep(rule, tokens, SAID(TABLES_CELLS, tokens), SAID(TABLES_CELLS, tokens + 1));
         for (uint32_t i = 0; i < tokens; i++) /* so that no two are alike */
-            chain_tokens[i] = i + 1 < tokens ? TABLES_FUNCTOR_CELL(i + 1, 1) : B;
+            chain_tokens[i] = i + 1 < tokens ? TABLES_FUNCTOR_CELL(edition, i + 1, 1) : B;
         write_chain(tokens);
         tables_load(chain_space, cells, 1, out, 300);
         check(memcmp(out, chain_tokens, tokens * sizeof *out) == 0, rule, "cells loaded");
@@ -505,6 +564,54 @@ static void check_variables(const char *rule, uint32_t variables, uint64_t load,
     check_chain(rule, tokens, load, instance);
 }
 
+/* A functor by its payload, and so many constants behind it: what each edition loads, 0 for damage. */
+static const struct {
+    uint32_t payload, constants;
+    uint32_t in_edition_1, in_edition_2;
+} functor_paths[] = {
+    {15, 15, 16, 16},          {15, 14, 0, 0},         {15, 16, 0, 0},
+    {16, 16, 0, 17},           {16, 0, 0, 0},          {17, 17, 0, 18},
+    {17, 1, 2, 0},             {40, 40, 0, 41},        {40, 39, 0, 0},
+    {40, 41, 0, 0},            {40, 8, 9, 0},          {254, 254, 0, 255},
+    {254, 14, 15, 0},          {255, 255, 0, 256},     {255, 254, 0, 0},
+    {255, 256, 0, 0},          {255, 15, 16, 0},       {240, 240, 0, 241},
+    {256, 256, 0, 0},          {256, 0, 0, 0},         {257, 1, 2, 2},
+    {0x0fffffff, 255, 0, 256}, {0x0fffffff, 15, 16, 0}, {0x0fffff28, 40, 0, 41},
+    {0x0fffff00, 255, 0, 0},   {0x0fffff10, 16, 0, 17},
+};
+
+static void check_functor_paths(void)
+{
+    static const char rule[] = "a functor and constants";
+    for (size_t i = 0; i < sizeof functor_paths / sizeof *functor_paths; i++) {
+        uint32_t cells = edition == TABLES_EDITION_1 ? functor_paths[i].in_edition_1
+                                                     : functor_paths[i].in_edition_2;
+        uint64_t load = cells == 0 ? DAMAGED : SAID(TABLES_CELLS, cells);
+        uint64_t instance = cells == 0 ? DAMAGED : SAID(TABLES_CELLS, cells + 1);
+        uint32_t tokens = 1 + functor_paths[i].constants, out[300];
+        chain_tokens[0] = TABLES_CELL(TABLES_FUNCTOR, functor_paths[i].payload);
+        for (uint32_t j = 1; j < tokens; j++)
+            chain_tokens[j] = B;
+        check_chain(rule, tokens, load, instance);
+        if (cells == 0)
+            continue;
+        tables_load(chain_space, sizeof chain_space / sizeof *chain_space, 1, out, 300);
+        check(memcmp(out, chain_tokens, cells * sizeof *out) == 0, rule, "cells loaded");
+    }
+}
+
+/* Functors without end: the cells still due grow with each. */
+static void check_functors(void)
+{
+    chain_tokens[0] = TABLES_CELL(TABLES_FUNCTOR, 255);
+    chain_tokens[1] = TABLES_CELL(TABLES_FUNCTOR, 2);
+    check_chain("two functors alone", 2, DAMAGED, DAMAGED);
+    for (uint32_t i = 0; i < TABLES_COMPACT_CELLS; i++)
+        chain_tokens[i] = TABLES_CELL(TABLES_FUNCTOR, 255);
+    check_chain("a functor again and again, 256 tokens", TABLES_TERM_CELLS, DAMAGED, DAMAGED);
+    check_chain("a functor again and again, 383 tokens", TABLES_COMPACT_CELLS, DAMAGED, DAMAGED);
+}
+
 static void check_paths(void)
 {
     check_deep("a path of 256 cells", 256, SAID(TABLES_CELLS, 256), SAID(TABLES_CELLS, 257));
@@ -523,17 +630,19 @@ static void check_paths(void)
     check_broken("a long path, a link out of range", LINK, 2);
     check_variables("32 variables", 32, SAID(TABLES_CELLS, 65), SAID(TABLES_CELLS, 66));
     check_variables("33 variables", 33, DAMAGED, DAMAGED);
+    check_functor_paths();
+    check_functors();
 }
 
-int main(void)
+/* All of it in one edition. */
+static void check_edition(uint32_t checked)
 {
-    setvbuf(stdout, NULL, _IOLBF, BUFSIZ);
-    report_crashes();
-    alarm(SECONDS);
+    edition = checked;
     check_sound(ROOMY);
     check_sound(TIGHT);
     check_nothing_lent();
     check_headers();
+    check_other_readings();
     check_beyond();
     check_paths();
     check_largest("the most nodes", 0);
@@ -541,7 +650,16 @@ int main(void)
     check_largest("the most answers", 2);
     for (size_t i = 0; i < sizeof rows / sizeof *rows; i++)
         check_row(&rows[i]);
-    printf("damage_rules_test: %zu rows, %u checks, %u failures\n", sizeof rows / sizeof *rows,
-           checks, failures);
+}
+
+int main(void)
+{
+    setvbuf(stdout, NULL, _IOLBF, BUFSIZ);
+    report_crashes();
+    alarm(SECONDS);
+    for (uint32_t checked = 1; checked <= LAST_EDITION; checked++)
+        check_edition(checked);
+    printf("damage_rules_test: %zu rows in each edition, %u checks, %u failures\n",
+           sizeof rows / sizeof *rows, checks, failures);
     return failures == 0 ? 0 : 1;
 }

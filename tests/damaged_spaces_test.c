@@ -1,8 +1,9 @@
-/* Makes every call over random damaged spaces, against guard pages: a refusal changes nothing. */
+/* Makes every call over random damaged spaces of both editions, against guard pages: a refusal changes nothing. */
 #define _DEFAULT_SOURCE
 
 #include "../include/tables.h"
 #include "drawing.h"
+#include "editions.h"
 #include "lending.h"
 #include "requests.h"
 #include "tally.h"
@@ -13,7 +14,7 @@
 #include <string.h>
 #include <unistd.h>
 
-enum { ROUNDS = 40000, MOST_FAILURES = 10, SPACE_CELLS = 4000, OUT_CELLS = 2000, SECONDS = 20 };
+enum { ROUNDS = 80000, MOST_FAILURES = 10, SPACE_CELLS = 4000, OUT_CELLS = 2000, SECONDS = 20 };
 
 static uint64_t seed = 1;
 static unsigned rounds = ROUNDS;
@@ -44,6 +45,7 @@ static void fail(unsigned round, const char *call, const char *what, uint64_t wo
 /* Spaces */
 
 struct image {
+    uint32_t edition; /* before any damage */
     size_t count;
     uint32_t cell[SPACE_CELLS];
 };
@@ -58,10 +60,11 @@ static void draw_sound(struct image *image)
     static struct request request;
     uint32_t nodes = (uint32_t)(chance(15) ? between(300, 600) : between(5, 70));
     uint32_t subgoals = (uint32_t)between(1, 7), answers = (uint32_t)between(1, 12);
+    image->edition = draw_edition();
     image->count = TABLES_SPACE_CELLS(nodes, subgoals, answers) + below(3);
     memset(&known, 0, sizeof known);
-    open_drawer(&drawer, nodes > 100 ? 20 : 2, 5, chance(50) ? 4 : 8);
-    tables_fresh(image->cell, image->count, nodes, subgoals, answers);
+    open_drawer(&drawer, image->edition, nodes > 100 ? 20 : 2, 5, chance(50) ? 4 : 8);
+    tables_fresh(image->cell, image->count, nodes, subgoals, answers, image->edition);
     for (size_t calls = between(3, 40); calls > 0; calls--) {
         static const enum request_kind kinds[] = {CALL,   CALL,   CALL,   ANSWER,
                                                   ANSWER, ANSWER, ANSWER, ANSWER};
@@ -141,6 +144,12 @@ static void damage_header(struct image *image)
         chance(50) ? image->cell[place] + (uint32_t)between(1, 6) - 3 : edge_value(image);
 }
 
+/* The other edition, which may read the same tokens otherwise, or a number that is none. */
+static void damage_edition(struct image *image)
+{
+    image->cell[0] = chance(60) ? other_edition(image->edition) : draw_no_edition();
+}
+
 /* All cells behind the header anew: any, or small ones that may name records. */
 static void randomise(struct image *image)
 {
@@ -153,9 +162,10 @@ static void randomise(struct image *image)
 /* Sound records, and tokens that may or may not make terms. */
 static void damage_tokens(struct image *image)
 {
+    static const size_t payloads[] = {2, 2, 40, 300};
     for (size_t changes = between(1, 6); changes > 0; changes--)
         image->cell[8 + 5 * below(image->cell[1])] =
-            TABLES_CELL(below(10), below(chance(50) ? 2 : 40));
+            TABLES_CELL(below(10), below(payloads[below(4)]));
 }
 
 static void draw_damaged(struct image *image)
@@ -174,7 +184,10 @@ static void draw_damaged(struct image *image)
     case 3:
         damage_tokens(image);
         break;
-    case 4: /* sound as it is */
+    case 4:
+        damage_edition(image);
+        break;
+    case 5: /* sound as it is */
         break;
     default:
         damage_cells(image);
@@ -219,6 +232,16 @@ static void check_cells(unsigned round, const struct request *request, const str
         fail(round, name, "cells beside those lent were changed", word);
 }
 
+/* A space without a whole header or without an edition: every call is refused by 1. */
+static void check_edition(unsigned round, const struct request *request, const struct image *image,
+                          uint64_t word)
+{
+    bool has_edition = image->count >= 8 && (image->cell[0] == TABLES_EDITION_1 ||
+                                             image->cell[0] == TABLES_EDITION_2);
+    if (!has_edition && word != (uint64_t)(TABLES_REFUSED_BY + TABLES_REFUSED_HEADER) << 32)
+        fail(round, request_names[request->kind], "not refused by 1", word);
+}
+
 /* What an accepted call may have changed: numbers grow by one at most, and nothing past the end. */
 static void check_written(unsigned round, const struct request *request, const struct loan *loan,
                           uint64_t word)
@@ -233,8 +256,8 @@ static void check_written(unsigned round, const struct request *request, const s
     uint32_t answers = before[3] + (enters && request->kind == ANSWER);
     if (!same_cells(after + end, before + end, loan->image->count - end))
         fail(round, name, "cells past the end were changed", word);
-    if (after[0] != 1 || !same_cells(after + 4, before + 4, 4))
-        fail(round, name, "the header's offsets were changed", word);
+    if (after[0] != before[0] || !same_cells(after + 4, before + 4, 4))
+        fail(round, name, "the header's edition or offsets were changed", word);
     if (after[1] < before[1] || after[2] != subgoals || after[3] != answers)
         fail(round, name, "counts", word);
     if (!enters && request->kind != FINISH && !same_cells(after, before, loan->image->count))
@@ -256,24 +279,29 @@ static void check_request(unsigned round, const struct image *image, const struc
         loan.out[i] = out_before[i] = (uint32_t)(0x9e3779b9u * (i + 1));
     uint64_t word =
         make_request(request, loan.space, image->count, loan.terms, loan.out, loan.room);
-    if (!tally_result(possible, request->kind, word))
+    if (!tally_result(possible, image->edition, request->kind, word))
         fail(round, request_names[request->kind], "no result of this call", word);
+    check_edition(round, request, image, word);
     check_cells(round, request, &loan, word);
     check_written(round, request, &loan, word);
 }
 
-/* Fresh asks nothing of what the cells hold; it fits them or it does not. */
+/* Fresh asks nothing of what the cells hold; it fits them or it does not, and the edition is one or none. */
 static void check_fresh(unsigned round, const struct image *image, bool at_end)
 {
     uint32_t nodes = (uint32_t)between(0, 9), subgoals = (uint32_t)below(9),
              answers = (uint32_t)below(9);
+    uint32_t edition = chance(90) ? draw_edition() : draw_no_edition();
+    bool is_edition = edition == TABLES_EDITION_1 || edition == TABLES_EDITION_2;
     size_t end = TABLES_SPACE_CELLS(nodes, subgoals, answers);
-    bool fits = nodes > 0 && end <= image->count;
+    bool fits = is_edition && nodes > 0 && end <= image->count;
     uint32_t *space = lend(&space_arena, image->count, at_end);
     memcpy(space, image->cell, image->count * sizeof *space);
-    uint64_t word = tables_fresh(space, image->count, nodes, subgoals, answers);
-    if (!tally_result(possible, FRESH, word) || fits != (word == TABLES_DONE))
+    uint64_t word = tables_fresh(space, image->count, nodes, subgoals, answers, edition);
+    if (!tally_result(possible, image->edition, FRESH, word) || fits != (word == TABLES_DONE))
         fail(round, "fresh", "result", word);
+    if (fits && space[0] != edition)
+        fail(round, "fresh", "edition", word);
     size_t kept = fits ? end : 0;
     if (!same_cells(space + kept, image->cell + kept, image->count - kept))
         fail(round, "fresh", "cells past the end were changed", word);
@@ -313,8 +341,8 @@ int main(int argc, char **argv)
         note_place("seed %" PRIu64 ", round %u", seed, round);
         check_round(round);
     }
-    if (failures == 0)
-        failures += check_tally(possible, rounds / 1000); /* each, one round in 1,000 at least */
+    if (failures == 0) /* each in each edition, one round in 2,000 at least */
+        failures += check_tally(possible, rounds / 2000);
     printf("damaged_spaces_test: seed %" PRIu64 ", %u spaces, %u failures\n", seed, rounds,
            failures);
     return failures == 0 ? 0 : 1;

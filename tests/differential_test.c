@@ -1,7 +1,8 @@
-/* Compares the exported converters with the reference on random, damaged and all short inputs. */
+/* Compares the exported converters with the reference on random, damaged and all short inputs in both editions. */
 #define _DEFAULT_SOURCE
 
 #include "../include/tables.h"
+#include "editions.h"
 #include "reference.h"
 
 #include <inttypes.h>
@@ -22,7 +23,7 @@ enum { CELL_BYTES = 4, MOST_CELLS = 1200, LONGEST_TERM = 600, ARENA_PAGES = 2, M
 #define EPAIR TABLES_CELL(TABLES_EPAIR, 0)
 #define VARIABLE(name) TABLES_CELL(TABLES_VARIABLE, name)
 
-typedef uint32_t converter(const uint8_t *, size_t, uint8_t *, size_t);
+typedef uint32_t converter(const uint8_t *, size_t, uint8_t *, size_t, uint32_t);
 
 struct cells {
     size_t count;
@@ -67,9 +68,11 @@ static bool chance(unsigned percent)
 /* What happened how often */
 
 enum outcome {
+    COMPACT_EDITION, EXPAND_EDITION, EDITION_AND_BYTE_COUNT,
     COMPACT_ACCEPTED, COMPACT_BYTE_COUNT, COMPACT_TERM, COMPACT_LENGTH, COMPACT_VARIABLES, COMPACT_OUT,
     EXPAND_ACCEPTED, EXPAND_BYTE_COUNT, EXPAND_FORM, EXPAND_OUT,
     TERM_256, TERM_257, VARIABLES_32, VARIABLES_33, FORM_383, FORM_384, EXPANSION_256, EXPANSION_257,
+    ACCEPTED_IN_1, ACCEPTED_IN_2, ARITY_40, ARITY_255, OTHER_ARITY, LOW_BITS, IN_1_ALONE, IN_2_ALONE, IN_BOTH,
     EXPANDED_BACK, COMPACTED_BACK, IN_BEFORE_GUARD, IN_BEHIND_GUARD, OUT_BEFORE_GUARD, OUT_BEHIND_GUARD,
     OUTCOMES
 };
@@ -79,6 +82,9 @@ static const struct {
     const char *name;
     unsigned least;
 } outcomes[OUTCOMES] = {
+    [COMPACT_EDITION] = {"compact refused by 1", 500},
+    [EXPAND_EDITION] = {"expand refused by 1", 500},
+    [EDITION_AND_BYTE_COUNT] = {"refused by 1 with an odd byte count", 50},
     [COMPACT_ACCEPTED] = {"compact accepted", 5000},
     [COMPACT_BYTE_COUNT] = {"compact refused by 3, byte count", 1000},
     [COMPACT_TERM] = {"compact refused by 3, term", 5000},
@@ -97,6 +103,15 @@ static const struct {
     [FORM_384] = {"form of 384 tokens refused", 20},
     [EXPANSION_256] = {"expansion of 256 cells accepted", 50},
     [EXPANSION_257] = {"expansion of 257 cells refused", 50},
+    [ACCEPTED_IN_1] = {"accepted in edition 1", 5000},
+    [ACCEPTED_IN_2] = {"accepted in edition 2", 5000},
+    [ARITY_40] = {"arity 40 accepted", 100},
+    [ARITY_255] = {"arity 255 accepted", 50},
+    [OTHER_ARITY] = {"another arity from 16 to 254 accepted", 500},
+    [LOW_BITS] = {"such a payload accepted in edition 1", 1000},
+    [IN_1_ALONE] = {"the same cells, accepted in edition 1 alone", 1000},
+    [IN_2_ALONE] = {"the same cells, accepted in edition 2 alone", 1000},
+    [IN_BOTH] = {"the same cells, accepted in both", 1000},
     [EXPANDED_BACK] = {"compacted, then expanded", 5000},
     [COMPACTED_BACK] = {"expanded, then compacted", 5000},
     [IN_BEFORE_GUARD] = {"in directly before a guard page", 10000},
@@ -124,6 +139,8 @@ enum shape { FLAT, SPREAD, LAST, FIRST, ANY_SHAPE, SHAPES };
 
 /* How a term is drawn. */
 struct style {
+    uint32_t edition;         /* of the functors */
+    unsigned wide_chance;     /* a functor has 16 to 255 arguments, where there is room */
     unsigned list_chance;     /* a compound term is a list */
     unsigned tail_chance;     /* a list ends in a term */
     unsigned variable_chance; /* a leaf is a variable */
@@ -203,12 +220,23 @@ static void write_leaf(struct sample *sample, bool tail)
 
 static void write_term(struct sample *sample, size_t size);
 
+/* From 1 to `most`. */
+static size_t random_arity(const struct style *style, size_t most)
+{
+    static const size_t arities[] = {16, 17, 40, 40, 254, 255};
+    size_t wide = chance(60) ? arities[below(6)] : 16 + below(240);
+    if (wide <= most && chance(style->wide_chance))
+        return wide;
+    return 1 + below(most < 15 ? most : 15);
+}
+
 /* A functor and its arguments, so many cells in all. */
 static void write_structure(struct sample *sample, size_t size)
 {
     size_t left = size - 1;
-    size_t arity = 1 + below(left < 15 ? left : 15);
-    write_cell(sample, TABLES_FUNCTOR_CELL(random_payload() >> 4, arity));
+    size_t arity = random_arity(&sample->style, left);
+    uint32_t name = random_payload() >> TABLES_ARITY_BITS(sample->style.edition);
+    write_cell(sample, TABLES_FUNCTOR_CELL(sample->style.edition, name, arity));
     for (size_t due = arity; due > 0; due--) {
         size_t part = due == 1 ? left : 1 + below(left - due + 1);
         write_term(sample, part);
@@ -269,11 +297,13 @@ static void write_term(struct sample *sample, size_t size)
         write_structure(sample, size);
 }
 
-static struct style random_style(void)
+static struct style random_style(uint32_t edition)
 {
     static const unsigned chances[] = {0, 10, 50, 90, 100};
     static const size_t distinct[] = {1, 3, 31, 32, 33, 34, 64, LONGEST_TERM};
     return (struct style){
+        .edition = edition,
+        .wide_chance = edition == TABLES_EDITION_2 ? chances[below(5)] : 0,
         .list_chance = chances[below(5)],
         .tail_chance = chances[below(5)],
         .variable_chance = chances[below(5)],
@@ -297,23 +327,39 @@ static size_t random_size(void)
     return 1 + below(LONGEST_TERM);
 }
 
-static void draw_sample(struct sample *sample)
+/* The terms that grow most, around 383 tokens. */
+static void write_growing(struct sample *sample)
 {
-    sample->style = random_style();
+    size_t functors = below(4);
+    sample->style.list_chance = 100;
+    sample->style.tail_chance = 100;
+    sample->style.shape = FIRST;
+    for (size_t i = 0; i < functors; i++)
+        write_cell(sample, TABLES_FUNCTOR_CELL(sample->style.edition, i, 1));
+    write_term(sample, 253 + below(6) - functors);
+}
+
+/* A functor whose arguments have one cell each; edition 2 alone. */
+static void write_wide(struct sample *sample)
+{
+    size_t arity = chance(40) ? 255 : chance(40) ? 40 : 16 + below(240);
+    write_cell(sample, TABLES_FUNCTOR_CELL(TABLES_EDITION_2, 1, arity));
+    while (arity-- > 0)
+        write_leaf(sample, false);
+}
+
+static void draw_sample(struct sample *sample, uint32_t edition)
+{
+    sample->style = random_style(edition);
     sample->variables = 0;
     sample->term.count = 0;
     sample->form.count = 0;
-    if (chance(5)) { /* the terms that grow most, around 383 tokens */
-        sample->style.list_chance = 100;
-        sample->style.tail_chance = 100;
-        sample->style.shape = FIRST;
-        size_t functors = below(4);
-        for (size_t i = 0; i < functors; i++)
-            write_cell(sample, TABLES_FUNCTOR_CELL(i, 1));
-        write_term(sample, 253 + below(6) - functors);
-        return;
-    }
-    write_term(sample, random_size());
+    if (chance(5))
+        write_growing(sample);
+    else if (edition == TABLES_EDITION_2 && chance(5))
+        write_wide(sample);
+    else
+        write_term(sample, random_size());
 }
 
 /* Damage */
@@ -328,8 +374,8 @@ static uint32_t odd_cell(void)
         return marks[below(5)];
     case 2:
         return VARIABLE(below(35));
-    case 3:
-        return TABLES_FUNCTOR_CELL(below(3), below(16));
+    case 3: /* of either edition, and of arity 0 in one or in both */
+        return TABLES_CELL(TABLES_FUNCTOR, below(chance(50) ? 48 : 600));
     case 4:
         return TABLES_CELL(TABLES_INTEGER, random_payload());
     case 5:
@@ -551,21 +597,23 @@ static uint8_t raw[(MOST_CELLS + 1) * CELL_BYTES];
 
 /* Calls both sides on the same bytes and compares the results and every byte of the arenas. */
 static uint32_t compare_call(const struct direction *d, const struct cells *in, size_t in_bytes,
-                             size_t out_bytes)
+                             size_t out_bytes, uint32_t edition)
 {
     size_t in_place = lend(&in_arena, in_bytes, IN_BEFORE_GUARD, IN_BEHIND_GUARD);
     size_t out_place = lend(&out_arena, out_bytes, OUT_BEFORE_GUARD, OUT_BEHIND_GUARD);
     fill_arena(&out_arena);
     memcpy(in_arena.bytes + in_place, raw, in_bytes);
     memcpy(in_arena.expected + in_place, raw, in_bytes);
-    uint32_t expected = d->reference(raw, in_bytes, out_arena.expected + out_place, out_bytes);
-    uint32_t result =
-        d->exported(in_arena.bytes + in_place, in_bytes, out_arena.bytes + out_place, out_bytes);
+    uint32_t expected =
+        d->reference(raw, in_bytes, out_arena.expected + out_place, out_bytes, edition);
+    uint32_t result = d->exported(in_arena.bytes + in_place, in_bytes, out_arena.bytes + out_place,
+                                  out_bytes, edition);
     if (result != expected) {
-        printf("%s: result %08" PRIx32 ", reference %08" PRIx32 "\n", d->name, result, expected);
+        printf("%s: edition %" PRIu32 ", result %08" PRIx32 ", reference %08" PRIx32 "\n", d->name,
+               edition, result, expected);
         fail("result", in, in_bytes, out_bytes);
     } else if (!arena_as_expected(&out_arena)) {
-        printf("%s: result %08" PRIx32 "\n", d->name, result);
+        printf("%s: edition %" PRIu32 ", result %08" PRIx32 "\n", d->name, edition, result);
         fail("bytes of out or around it", in, in_bytes, out_bytes);
     }
     if (!arena_as_expected(&in_arena)) {
@@ -592,7 +640,7 @@ static void count_outcome(const struct direction *d, uint32_t result, size_t in_
 }
 
 /* Converts an accepted input there and back by the exports: a term comes back numbered, a form as it was. */
-static void round_trip(const struct direction *d, const struct cells *in)
+static void round_trip(const struct direction *d, const struct cells *in, uint32_t edition)
 {
     struct cells numbered = *in;
     uint8_t there[TABLES_COMPACT_CELLS * CELL_BYTES], back[sizeof there], same[sizeof there];
@@ -600,9 +648,9 @@ static void round_trip(const struct direction *d, const struct cells *in)
         reference_number(numbered.cell, numbered.count);
     to_bytes(same, &numbered);
     size_t bytes = in->count * CELL_BYTES;
-    uint32_t cells = d->exported(raw, bytes, there, sizeof there);
+    uint32_t cells = d->exported(raw, bytes, there, sizeof there, edition);
     if (cells > TABLES_COMPACT_CELLS ||
-        d->exported_back(there, cells * CELL_BYTES, back, sizeof back) != in->count ||
+        d->exported_back(there, cells * CELL_BYTES, back, sizeof back, edition) != in->count ||
         memcmp(back, same, bytes) != 0)
         fail(d == &compacting ? "compacted, then expanded" : "expanded, then compacted", in, bytes,
              sizeof back);
@@ -630,22 +678,86 @@ static size_t random_room(uint32_t need)
     }
 }
 
-/* Compares one input with a random room, seldom with an odd byte count. */
-static uint32_t compare_input(const struct direction *d, const struct cells *in, unsigned odd_chance)
+/* A byte count, odd by this chance. */
+static size_t random_bytes(const struct cells *in, unsigned odd_chance)
+{
+    size_t bytes = in->count * CELL_BYTES;
+    if (!chance(odd_chance))
+        return bytes;
+    return bytes > 0 && chance(50) ? bytes - (1 + below(3)) : bytes + 1 + below(3);
+}
+
+/* What the reference says of the input with ample room. */
+static uint32_t ample_result(const struct direction *d, const struct cells *in, uint32_t edition)
 {
     uint8_t ample[TABLES_COMPACT_CELLS * CELL_BYTES];
+    return d->reference(raw, in->count * CELL_BYTES, ample, sizeof ample, edition);
+}
+
+/* Compares one input with a random room, seldom with an odd byte count. */
+static uint32_t compare_input(const struct direction *d, const struct cells *in, uint32_t edition)
+{
     to_bytes(raw, in);
-    size_t in_bytes = in->count * CELL_BYTES;
-    uint32_t need = d->reference(raw, in_bytes, ample, sizeof ample);
+    uint32_t need = ample_result(d, in, edition);
     bool legal = !TABLES_IS_REFUSED(need);
     if (!legal)
         need = 1 + (uint32_t)below(TABLES_COMPACT_CELLS);
-    if (chance(odd_chance))
-        in_bytes += in_bytes > 0 && chance(50) ? -(1 + below(3)) : 1 + below(3);
-    uint32_t result = compare_call(d, in, in_bytes, random_room(need));
+    size_t in_bytes = random_bytes(in, 5);
+    uint32_t result = compare_call(d, in, in_bytes, random_room(need), edition);
     count_outcome(d, result, in_bytes);
     if (legal)
-        round_trip(d, in);
+        round_trip(d, in, edition);
+    return result;
+}
+
+/* Compares one input with a number that is no edition, which is 1 before all else. */
+static void compare_no_edition(const struct direction *d, const struct cells *in)
+{
+    uint32_t none = chance(50) ? no_editions[below(NO_EDITIONS)] : (uint32_t)random_word() | 4;
+    size_t in_bytes = random_bytes(in, 30), room = random_room(1 + (uint32_t)below(300));
+    if (compare_call(d, in, in_bytes, room, none) != TABLES_REFUSED + TABLES_REFUSED_HEADER)
+        fail("no edition", in, in_bytes, room);
+    met[d == &compacting ? COMPACT_EDITION : EXPAND_EDITION]++;
+    met[EDITION_AND_BYTE_COUNT] += in_bytes % CELL_BYTES != 0;
+}
+
+/* Is there a functor among the cells whose arity, as the edition reads it, is one of these? */
+static bool has_arity(const struct cells *in, uint32_t edition, uint32_t least, uint32_t most)
+{
+    for (size_t i = 0; i < in->count; i++) {
+        uint32_t arity = arity_in(edition, in->cell[i]);
+        if (TABLES_KIND(in->cell[i]) == TABLES_FUNCTOR && arity >= least && arity <= most)
+            return true;
+    }
+    return false;
+}
+
+/* Counts what the editions say of the same cells, with ample room. */
+static void count_editions(const struct direction *d, const struct cells *in)
+{
+    bool in_1 = !TABLES_IS_REFUSED(ample_result(d, in, TABLES_EDITION_1));
+    bool in_2 = !TABLES_IS_REFUSED(ample_result(d, in, TABLES_EDITION_2));
+    met[ACCEPTED_IN_1] += in_1;
+    met[ACCEPTED_IN_2] += in_2;
+    met[ARITY_40] += in_2 && has_arity(in, TABLES_EDITION_2, 40, 40);
+    met[ARITY_255] += in_2 && has_arity(in, TABLES_EDITION_2, 255, 255);
+    met[OTHER_ARITY] += in_2 && (has_arity(in, TABLES_EDITION_2, 16, 39) ||
+                                 has_arity(in, TABLES_EDITION_2, 41, 254));
+    met[LOW_BITS] += in_1 && has_arity(in, TABLES_EDITION_2, 16, 255);
+    met[IN_1_ALONE] += in_1 && !in_2;
+    met[IN_2_ALONE] += in_2 && !in_1;
+    met[IN_BOTH] += in_1 && in_2 && has_arity(in, TABLES_EDITION_1, 1, 15);
+}
+
+/* Compares one input in its edition, in the other one, and now and then in none. */
+static uint32_t compare_editions(const struct direction *d, const struct cells *in,
+                                 uint32_t edition)
+{
+    uint32_t result = compare_input(d, in, edition);
+    compare_input(d, in, other_edition(edition));
+    if (chance(5))
+        compare_no_edition(d, in);
+    count_editions(d, in);
     return result;
 }
 
@@ -669,13 +781,15 @@ static void check_reference(const struct sample *sample)
     else if (sample->variables > TABLES_TERM_VARIABLES)
         refusal = TABLES_REFUSED_VARIABLES;
     struct reference_result result =
-        reference_compact_cells(sample->term.cell, sample->term.count, out, TABLES_COMPACT_CELLS);
+        reference_compact_cells(sample->term.cell, sample->term.count, out, TABLES_COMPACT_CELLS,
+                                sample->style.edition);
     if (!result_is(result, out, refusal, &sample->form))
         fail("the reference compacts otherwise", &sample->term, 0, 0);
     struct cells numbered = sample->term;
     if (refusal == 0)
         reference_number(numbered.cell, numbered.count);
-    result = reference_expand_cells(sample->form.cell, sample->form.count, out, TABLES_COMPACT_CELLS);
+    result = reference_expand_cells(sample->form.cell, sample->form.count, out,
+                                    TABLES_COMPACT_CELLS, sample->style.edition);
     if (!result_is(result, out, refusal == 0 ? 0 : TABLES_REFUSED_FORM, &numbered))
         fail("the reference expands otherwise", &sample->form, 0, 0);
 }
@@ -716,11 +830,12 @@ static void compare_random(const struct direction *d)
     static struct sample sample;
     static struct cells in;
     unsigned draw = (unsigned)below(100);
-    draw_sample(&sample);
+    uint32_t edition = chance(50) ? TABLES_EDITION_1 : TABLES_EDITION_2;
+    draw_sample(&sample, edition);
     in = d == &compacting ? sample.term : sample.form;
     if (draw < 45) {
         check_reference(&sample);
-        count_limits(d, &sample, compare_input(d, &in, 5));
+        count_limits(d, &sample, compare_editions(d, &in, edition));
         return;
     }
     if (draw < 80) {
@@ -731,31 +846,38 @@ static void compare_random(const struct direction *d)
     } else {
         random_cells(&in);
     }
-    compare_input(d, &in, 5);
+    compare_editions(d, &in, edition);
 }
 
-/* All rows of so many cells from a small stock, for both converters. */
-static void compare_all_rows(struct cells *in, size_t length)
+/* All rows of so many cells from a small stock, for both converters; the functors are f/1 and f/2 of the edition. */
+static void compare_all_rows(struct cells *in, size_t length, uint32_t edition)
 {
-    static const uint32_t stock[] = {
-        VARIABLE(0), VARIABLE(1), NIL, TABLES_CELL(TABLES_INTEGER, 1), TABLES_FUNCTOR_CELL(1, 1),
-        TABLES_FUNCTOR_CELL(1, 2), PAIR, BLIST, ELIST, EPAIR};
+    const uint32_t stock[] = {VARIABLE(0),
+                              VARIABLE(1),
+                              NIL,
+                              TABLES_CELL(TABLES_INTEGER, 1),
+                              TABLES_FUNCTOR_CELL(edition, 1, 1),
+                              TABLES_FUNCTOR_CELL(edition, 1, 2),
+                              PAIR,
+                              BLIST,
+                              ELIST,
+                              EPAIR};
     if (in->count == length) {
         to_bytes(raw, in);
-        compare_call(&compacting, in, length * CELL_BYTES, 8 * CELL_BYTES);
-        compare_call(&expanding, in, length * CELL_BYTES, 16 * CELL_BYTES);
+        compare_call(&compacting, in, length * CELL_BYTES, 8 * CELL_BYTES, edition);
+        compare_call(&expanding, in, length * CELL_BYTES, 16 * CELL_BYTES, edition);
         return;
     }
     for (size_t i = 0; i < sizeof stock / sizeof *stock && failures < MOST_FAILURES; i++) {
         append(in, stock[i]);
-        compare_all_rows(in, length);
+        compare_all_rows(in, length, edition);
         in->count--;
     }
 }
 
 /* The reference on the published terms */
 
-/* A term and its form; a term of no cells means that the form is refused by 13. */
+/* A term and its form as edition 1 writes them; a term of no cells means that the form is refused by 13. */
 static const struct {
     size_t term_cells, form_cells;
     uint32_t term[11], form[8];
@@ -777,28 +899,39 @@ static const struct {
     {0, 4, {0}, {0x60000000, 0x30000001, 0x80000000, 0x20000000}},
 };
 
-static void check_published(void)
+static struct cells recoded_cells(const uint32_t *cells, size_t count, uint32_t edition)
+{
+    struct cells row = {0, {0}};
+    for (size_t i = 0; i < count; i++)
+        append(&row, recoded(edition, cells[i]));
+    return row;
+}
+
+/* Is a published term compacted and expanded as it should be? */
+static bool is_right(const struct cells *term, const struct cells *form, uint32_t edition)
+{
+    uint32_t out[16];
+    struct cells numbered = *term;
+    struct reference_result result = reference_expand_cells(form->cell, form->count, out, 16, edition);
+    if (term->count == 0)
+        return result.refusal == TABLES_REFUSED_FORM;
+    reference_number(numbered.cell, numbered.count);
+    bool right = result_is(result, out, 0, &numbered);
+    result = reference_compact_cells(term->cell, term->count, out, 16, edition);
+    right = right && result_is(result, out, 0, form);
+    result = reference_compact_cells(term->cell, term->count, out, form->count - 1, edition);
+    return right && result.refusal == TABLES_REFUSED_OUT && result.cells == form->count;
+}
+
+static void check_published(uint32_t edition)
 {
     for (size_t i = 0; i < sizeof published / sizeof *published; i++) {
-        uint32_t out[16], numbered[11];
-        size_t cells = published[i].term_cells, tokens = published[i].form_cells;
-        struct reference_result result = reference_expand_cells(published[i].form, tokens, out, 16);
-        memcpy(numbered, published[i].term, sizeof numbered);
-        reference_number(numbered, cells);
-        bool right = cells == 0 ? result.refusal == TABLES_REFUSED_FORM
-                                : result.refusal == 0 && result.cells == cells &&
-                                      memcmp(out, numbered, cells * sizeof *out) == 0;
-        if (cells > 0) {
-            result = reference_compact_cells(published[i].term, cells, out, 16);
-            right = right && result.refusal == 0 && result.cells == tokens &&
-                    memcmp(out, published[i].form, tokens * sizeof *out) == 0;
-            result = reference_compact_cells(published[i].term, cells, out, tokens - 1);
-            right = right && result.refusal == TABLES_REFUSED_OUT && result.cells == tokens;
-        }
-        if (!right) {
-            printf("failed: the reference on M%zu\n", i + 1);
-            failures++;
-        }
+        struct cells term = recoded_cells(published[i].term, published[i].term_cells, edition);
+        struct cells form = recoded_cells(published[i].form, published[i].form_cells, edition);
+        if (is_right(&term, &form, edition))
+            continue;
+        printf("failed: the reference on M%zu in edition %" PRIu32 "\n", i + 1, edition);
+        failures++;
     }
 }
 
@@ -825,10 +958,12 @@ int main(int argc, char **argv)
     open_arena(&in_arena);
     open_arena(&out_arena);
     fill_arena(&in_arena);
-    check_published();
     static struct cells row;
-    for (size_t length = 0; length <= 5; length++)
-        compare_all_rows(&row, length);
+    for (uint32_t edition = 1; edition <= LAST_EDITION; edition++) {
+        check_published(edition);
+        for (size_t length = 0; length <= 5; length++)
+            compare_all_rows(&row, length, edition);
+    }
     memset(met, 0, sizeof met);
     for (uint64_t i = 0; i < inputs && failures < MOST_FAILURES; i++)
         compare_random(i % 2 == 0 ? &compacting : &expanding);

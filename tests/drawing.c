@@ -2,6 +2,7 @@
 #include "drawing.h"
 
 #include "../include/tables.h"
+#include "editions.h"
 
 #include <string.h>
 
@@ -37,16 +38,32 @@ bool chance(unsigned percent)
     return below(100) < percent;
 }
 
+/* Editions */
+
+uint32_t draw_edition(void)
+{
+    return chance(50) ? TABLES_EDITION_1 : TABLES_EDITION_2;
+}
+
+uint32_t draw_no_edition(void)
+{
+    uint32_t number = (uint32_t)random_word();
+    bool is_edition = number == TABLES_EDITION_1 || number == TABLES_EDITION_2;
+    return is_edition || chance(60) ? no_editions[below(NO_EDITIONS)] : number;
+}
+
 /* Terms */
 
 /* How terms are drawn. */
 struct style {
+    uint32_t edition;
     unsigned pair_chance;     /* a cell that takes arguments is a pair */
     unsigned leaf_chance;     /* a cell takes no argument, where both can be */
     bool flat;                /* the cell behind a pair is a leaf, so that lists are long */
     unsigned variable_chance; /* a leaf is a variable */
     size_t distinct;          /* distinct variables at most */
     size_t most_arity;
+    bool wide; /* arities are also 16 to 255, where there is room */
     size_t least_name, names; /* so many atoms, integers and functor names, from the least */
 };
 
@@ -55,23 +72,26 @@ static uint32_t draw_name(const struct style *style)
     return (uint32_t)(style->least_name + below(style->names));
 }
 
-static struct style small_style(void)
+static struct style small_style(uint32_t edition)
 {
     return (struct style){
+        .edition = edition,
         .pair_chance = chance(50) ? 50 : 10,
         .leaf_chance = 40,
         .flat = chance(30),
         .variable_chance = 35,
         .distinct = 3,
         .most_arity = 3,
+        .least_name = chance(15) ? 14 : 0,
         .names = 3,
     };
 }
 
 /* The terms whose forms grow most: lists in the heads of lists, none ending in []. */
-static struct style growing_style(void)
+static struct style growing_style(uint32_t edition)
 {
-    return (struct style){.pair_chance = 100,
+    return (struct style){.edition = edition,
+                          .pair_chance = 100,
                           .variable_chance = 20,
                           .distinct = 32,
                           .most_arity = 1,
@@ -79,20 +99,40 @@ static struct style growing_style(void)
                           .names = 9};
 }
 
-static struct style long_style(void)
+/* Functors of many arguments, which are mostly leaves. */
+static struct style wide_style(void)
+{
+    static const unsigned chances[] = {0, 10, 50, 100};
+    static const size_t distinct[] = {1, 3, 31, 32, 33};
+    return (struct style){
+        .edition = TABLES_EDITION_2,
+        .pair_chance = chances[below(3)],
+        .leaf_chance = 90,
+        .variable_chance = chances[below(4)],
+        .distinct = distinct[below(5)],
+        .most_arity = 3,
+        .wide = true,
+        .names = 3,
+    };
+}
+
+static struct style long_style(uint32_t edition)
 {
     static const unsigned chances[] = {0, 10, 50, 90, 100};
     static const size_t distinct[] = {1, 31, 32, 33, 34, 60};
     if (chance(15))
-        return growing_style();
+        return growing_style(edition);
+    if (edition == TABLES_EDITION_2 && chance(40))
+        return wide_style();
     return (struct style){
+        .edition = edition,
         .pair_chance = chances[below(5)],
         .leaf_chance = chances[below(3)],
         .flat = chance(50),
         .variable_chance = chances[1 + below(4)],
         .distinct = distinct[below(6)],
         .most_arity = chance(50) ? 15 : 2,
-        .names = chance(50) ? 3 : (size_t)1 << 20,
+        .names = chance(50) ? 3 : (size_t)TABLES_MOST_NAME(edition) + 1,
     };
 }
 
@@ -106,19 +146,36 @@ static uint32_t draw_leaf(const struct style *style, size_t *met)
     return TABLES_CELL(chance(60) ? TABLES_ATOM : TABLES_INTEGER, draw_name(style));
 }
 
+/* From 1 to `most`. */
+static size_t draw_arity(const struct style *style, size_t most)
+{
+    static const size_t arities[] = {16, 17, 32, 40, 40, 254, 255, 255};
+    size_t wide = chance(70) ? arities[below(8)] : between(16, 255);
+    if (style->wide && wide <= most)
+        return wide;
+    return between(1, most < style->most_arity ? most : style->most_arity);
+}
+
+/* A functor that takes from 1 to `most` arguments. */
+static uint32_t draw_functor(const struct style *style, size_t most)
+{
+    size_t arity = draw_arity(style, most);
+    uint32_t name = draw_name(style);
+    return TABLES_FUNCTOR_CELL(style->edition, name, arity);
+}
+
 /* A cell that takes from 1 to `most` arguments. */
 static uint32_t draw_branch(const struct style *style, size_t most)
 {
     if (most >= 2 && chance(style->pair_chance))
         return TABLES_PAIR_CELL;
-    size_t arity = between(1, most < style->most_arity ? most : style->most_arity);
-    return TABLES_FUNCTOR_CELL(draw_name(style), arity);
+    return draw_functor(style, most);
 }
 
-static size_t arguments_of(uint32_t cell)
+static size_t arguments_of(uint32_t edition, uint32_t cell)
 {
     if (TABLES_KIND(cell) == TABLES_FUNCTOR)
-        return cell % 16;
+        return arity_in(edition, cell);
     return TABLES_KIND(cell) == TABLES_PAIR ? 2 : 0;
 }
 
@@ -127,8 +184,7 @@ static uint32_t draw_predicate(const struct style *style, size_t most)
 {
     if (most == 0)
         return TABLES_CELL(TABLES_ATOM, draw_name(style));
-    size_t arity = between(1, most < style->most_arity ? most : style->most_arity);
-    return TABLES_FUNCTOR_CELL(draw_name(style), arity);
+    return draw_functor(style, most);
 }
 
 /* Exactly so many terms in exactly so many cells, at least one for each. */
@@ -149,7 +205,7 @@ static void draw_terms(const struct style *style, size_t terms, size_t cells, bo
         else
             cell = draw_leaf(style, &met);
         argument->cell[argument->count++] = cell;
-        due += arguments_of(cell) - 1;
+        due += arguments_of(style->edition, cell) - 1;
     }
 }
 
@@ -163,8 +219,18 @@ static void rename_variables(struct argument *argument)
                 TABLES_CELL(TABLES_VARIABLE, TABLES_PAYLOAD(argument->cell[i] * factor + shift));
 }
 
+/* A functor of arity 0, or one made for the other edition. */
+static uint32_t odd_functor(uint32_t edition)
+{
+    uint32_t name = (uint32_t)below(3), other = other_edition(edition);
+    size_t arity = between(1, TABLES_MOST_ARITY(other));
+    if (chance(50))
+        return TABLES_CELL(TABLES_FUNCTOR, name << TABLES_ARITY_BITS(edition));
+    return TABLES_FUNCTOR_CELL(other, name, arity);
+}
+
 /* Makes an argument illegal, most likely. */
-static void spoil(struct argument *argument)
+static void spoil(uint32_t edition, struct argument *argument)
 {
     static const uint32_t kinds[] = {0, 6, 7, 8, 9, 15};
     uint32_t illegal = TABLES_CELL(kinds[below(6)], below(2));
@@ -178,7 +244,7 @@ static void spoil(struct argument *argument)
     else if (way == 2)
         argument->cell[argument->count - 1] = illegal;
     else if (way == 3)
-        argument->cell[place] = TABLES_FUNCTOR_CELL(below(3), 0);
+        argument->cell[place] = odd_functor(edition);
     else if (way == 4)
         argument->cell[place] = TABLES_PAIR_CELL + 1 + (uint32_t)below(3);
     else if (way == 5)
@@ -201,13 +267,23 @@ size_t distinct_variables(const struct argument *argument)
 
 /* Arguments */
 
-void open_drawer(struct drawer *drawer, unsigned long_chance, unsigned spoil_chance,
-                 size_t small_cells)
+void open_drawer(struct drawer *drawer, uint32_t edition, unsigned long_chance,
+                 unsigned spoil_chance, size_t small_cells)
 {
     memset(drawer, 0, sizeof *drawer);
+    drawer->edition = edition;
     drawer->long_chance = long_chance;
     drawer->spoil_chance = spoil_chance;
     drawer->small_cells = small_cells;
+}
+
+/* The cells of a long argument; of a wide one often just those of a functor of 40 or 255. */
+static size_t draw_long_cells(const struct style *style)
+{
+    static const size_t wide[] = {41, 42, 256, 256, 257};
+    if (style->wide && chance(60))
+        return wide[below(5)];
+    return chance(50) ? between(253, 259) : between(30, 200);
 }
 
 /* So many terms, legal or a little over the limits. */
@@ -215,10 +291,8 @@ static void draw_argument(const struct drawer *drawer, size_t terms, bool callab
                           struct argument *argument)
 {
     bool is_long = chance(drawer->long_chance);
-    struct style style = is_long ? long_style() : small_style();
-    size_t cells = between(1, drawer->small_cells);
-    if (is_long)
-        cells = chance(50) ? between(253, 259) : between(30, 200);
+    struct style style = is_long ? long_style(drawer->edition) : small_style(drawer->edition);
+    size_t cells = is_long ? draw_long_cells(&style) : between(1, drawer->small_cells);
     if (cells < terms)
         cells = terms;
     argument->count = 0;
@@ -245,7 +319,7 @@ static void draw_called(struct drawer *drawer, struct argument *argument)
     else
         draw_stocked(drawer, drawer->called, 1, true, argument);
     if (chance(drawer->spoil_chance))
-        spoil(argument);
+        spoil(drawer->edition, argument);
 }
 
 static void draw_answered(struct drawer *drawer, size_t terms, struct argument *argument)
@@ -257,7 +331,7 @@ static void draw_answered(struct drawer *drawer, size_t terms, struct argument *
     if (terms == 0 && chance(5)) /* cells where none are due */
         draw_argument(drawer, 1, false, argument);
     if (chance(drawer->spoil_chance))
-        spoil(argument);
+        spoil(drawer->edition, argument);
 }
 
 /* Requests */

@@ -13,6 +13,10 @@ size_t below(size_t bound);
 size_t between(size_t least, size_t most);
 bool chance(unsigned percent);
 
+/* An edition, and a number that is none. */
+uint32_t draw_edition(void);
+uint32_t draw_no_edition(void);
+
 /* The cells of one argument; a few more than any legal one has. */
 enum { ARGUMENT_CELLS = 300 };
 
@@ -42,12 +46,15 @@ struct known {
 };
 
 /*
- * A source of requests. Its terms are small or long, over few names, and often
- * come back under other names of their variables, so that old ones are met.
+ * A source of requests for spaces of one edition. Its terms are small or long,
+ * over few names, and often come back under other names of their variables, so
+ * that old ones are met. Arities are small, and in edition 2, where a term is
+ * long, also 16 to 255.
  */
 enum { STOCKED = 6, STOCKED_TERMS = 4 };
 
 struct drawer {
+    uint32_t edition;
     unsigned long_chance;  /* an argument has about 256 cells or about 32 variables */
     unsigned spoil_chance; /* an argument is made illegal */
     size_t small_cells;    /* the most cells of a small argument */
@@ -55,8 +62,8 @@ struct drawer {
     struct argument answered[STOCKED_TERMS][STOCKED]; /* by the number of terms */
 };
 
-void open_drawer(struct drawer *drawer, unsigned long_chance, unsigned spoil_chance,
-                 size_t small_cells);
+void open_drawer(struct drawer *drawer, uint32_t edition, unsigned long_chance,
+                 unsigned spoil_chance, size_t small_cells);
 void draw_request(struct drawer *drawer, enum request_kind kind, const struct known *known,
                   struct request *request);
 

@@ -1,4 +1,5 @@
-/* The plain table of document 01: subgoals and answers as lists of compact forms, no trie. */
+/* The plain table of document 01, with the editions of Q-7: subgoals and answers as lists of
+   compact forms, no trie. */
 #include "plain_table.h"
 
 #include <stdbool.h>
@@ -88,6 +89,7 @@ struct plain_table {
     uint32_t node_capacity;
     uint32_t subgoal_capacity;
     uint32_t answer_capacity;
+    uint32_t edition;
     uint32_t subgoal_count;
     uint32_t answer_count;
     struct subgoal *subgoals;
@@ -123,17 +125,19 @@ static uint32_t payload_of(uint32_t cell)
     return cell % KIND_UNIT;
 }
 
-static uint32_t arity_of(uint32_t functor)
+/* A functor's payload is name * 16 + arity in edition 1, name * 256 + arity in edition 2. An arity
+   of 0 is not legal; the payload's range bounds the name by itself. */
+static uint32_t arity_of(uint32_t payload, uint32_t edition)
 {
-    return payload_of(functor) % 16;
+    return edition == 1 ? payload % 16 : payload % 256;
 }
 
 /* How many terms follow a cell in pair form as its parts. */
-static uint32_t part_count(uint32_t cell)
+static uint32_t part_count(uint32_t cell, uint32_t edition)
 {
     switch (kind_of(cell)) {
     case KIND_FUNCTOR:
-        return arity_of(cell);
+        return arity_of(payload_of(cell), edition);
     case KIND_PAIR:
         return 2;
     default:
@@ -142,7 +146,7 @@ static uint32_t part_count(uint32_t cell)
 }
 
 /* The part of refusal 3 that one cell shows by itself. */
-static bool is_legal_cell(uint32_t cell)
+static bool is_legal_cell(uint32_t cell, uint32_t edition)
 {
     switch (kind_of(cell)) {
     case KIND_VARIABLE:
@@ -150,7 +154,7 @@ static bool is_legal_cell(uint32_t cell)
     case KIND_INTEGER:
         return true;
     case KIND_FUNCTOR:
-        return arity_of(cell) != 0;
+        return arity_of(payload_of(cell), edition) != 0;
     case KIND_PAIR:
         return payload_of(cell) == 0;
     default:
@@ -159,24 +163,25 @@ static bool is_legal_cell(uint32_t cell)
 }
 
 /* Refusal 3: whether the cells are exactly so many terms, with no cell missing or left over. */
-static bool are_terms(const uint32_t *cells, size_t cell_count, size_t term_count)
+static bool are_terms(const uint32_t *cells, size_t cell_count, size_t term_count,
+                      uint32_t edition)
 {
     size_t due = term_count;
     for (size_t i = 0; i < cell_count; i++) {
-        if (due == 0 || !is_legal_cell(cells[i])) {
+        if (due == 0 || !is_legal_cell(cells[i], edition)) {
             return false;
         }
-        due = due - 1 + part_count(cells[i]);
+        due = due - 1 + part_count(cells[i], edition);
     }
     return due == 0;
 }
 
 /* The place behind the legal term that starts at the given place. */
-static size_t term_end(const struct pair_form *terms, size_t start)
+static size_t term_end(const struct pair_form *terms, size_t start, uint32_t edition)
 {
     size_t place = start;
     for (size_t due = 1; due > 0; place++) {
-        due = due - 1 + part_count(terms->cells[place]);
+        due = due - 1 + part_count(terms->cells[place], edition);
     }
     return place;
 }
@@ -219,72 +224,75 @@ static void append_token(struct form *form, uint32_t token)
     form->tokens[form->length++] = token;
 }
 
-static void compact_list(const struct pair_form *terms, size_t *place, struct form *form);
+static void compact_list(const struct pair_form *terms, size_t *place, struct form *form,
+                         uint32_t edition);
 
-static void compact_term(const struct pair_form *terms, size_t *place, struct form *form)
+static void compact_term(const struct pair_form *terms, size_t *place, struct form *form,
+                         uint32_t edition)
 {
     uint32_t cell = terms->cells[(*place)++];
     if (cell == PAIR) {
-        compact_list(terms, place, form);
+        compact_list(terms, place, form, edition);
         return;
     }
     append_token(form, cell);
-    for (uint32_t i = 0; i < part_count(cell); i++) {
-        compact_term(terms, place, form);
+    for (uint32_t i = 0; i < part_count(cell, edition); i++) {
+        compact_term(terms, place, form, edition);
     }
 }
 
 /* The first cell of the tail that follows the list element at the given place. */
-static uint32_t tail_after(const struct pair_form *terms, size_t element)
+static uint32_t tail_after(const struct pair_form *terms, size_t element, uint32_t edition)
 {
-    return terms->cells[term_end(terms, element)];
+    return terms->cells[term_end(terms, element, edition)];
 }
 
 /* Ending in []: BLIST, e1 to e(n-1), ELIST, en. Ending in t: BLIST, e1 to en, EPAIR, t.
    The list's first pair has been passed: the place is that of e1. */
-static void compact_list(const struct pair_form *terms, size_t *place, struct form *form)
+static void compact_list(const struct pair_form *terms, size_t *place, struct form *form,
+                         uint32_t edition)
 {
     append_token(form, BLIST);
-    while (tail_after(terms, *place) == PAIR) {
-        compact_term(terms, place, form);
+    while (tail_after(terms, *place, edition) == PAIR) {
+        compact_term(terms, place, form, edition);
         (*place)++; /* the pair of the next element */
     }
-    if (tail_after(terms, *place) == EMPTY_LIST) {
+    if (tail_after(terms, *place, edition) == EMPTY_LIST) {
         append_token(form, ELIST);
-        compact_term(terms, place, form);
+        compact_term(terms, place, form, edition);
         (*place)++; /* the closing [], which is not stored */
     } else {
-        compact_term(terms, place, form);
+        compact_term(terms, place, form, edition);
         append_token(form, EPAIR);
-        compact_term(terms, place, form);
+        compact_term(terms, place, form, edition);
     }
 }
 
-static void compact_terms(const struct pair_form *terms, struct form *form)
+static void compact_terms(const struct pair_form *terms, struct form *form, uint32_t edition)
 {
     size_t place = 0;
     form->length = 0;
     while (place < terms->length) {
-        compact_term(terms, &place, form);
+        compact_term(terms, &place, form, edition);
     }
 }
 
 /* The compact form of exactly so many terms one after another, or refusal 4, 3 or 5. */
 static enum refusal read_terms(const uint32_t *cells, size_t cell_count, size_t term_count,
-                               struct form *form)
+                               struct form *form, uint32_t edition)
 {
     struct pair_form numbered;
     if (cell_count > MOST_CELLS) {
         return REFUSAL_LENGTH;
     }
-    if (!are_terms(cells, cell_count, term_count)) {
+    if (!are_terms(cells, cell_count, term_count, edition)) {
         return REFUSAL_TERM;
     }
     form->variables = number_variables(cells, cell_count, &numbered);
     if (form->variables > MOST_VARIABLES) {
         return REFUSAL_VARIABLES;
     }
-    compact_terms(&numbered, form);
+    compact_terms(&numbered, form, edition);
     return REFUSAL_NONE;
 }
 
@@ -295,18 +303,20 @@ static void append_cell(struct pair_form *terms, uint32_t cell)
     terms->cells[terms->length++] = cell;
 }
 
-static void expand_list(const struct form *form, size_t *place, struct pair_form *terms);
+static void expand_list(const struct form *form, size_t *place, struct pair_form *terms,
+                        uint32_t edition);
 
-static void expand_term(const struct form *form, size_t *place, struct pair_form *terms)
+static void expand_term(const struct form *form, size_t *place, struct pair_form *terms,
+                        uint32_t edition)
 {
     uint32_t token = form->tokens[(*place)++];
     if (token == BLIST) {
-        expand_list(form, place, terms);
+        expand_list(form, place, terms, edition);
         return;
     }
     append_cell(terms, token);
-    for (uint32_t i = 0; i < part_count(token); i++) {
-        expand_term(form, place, terms);
+    for (uint32_t i = 0; i < part_count(token, edition); i++) {
+        expand_term(form, place, terms, edition);
     }
 }
 
@@ -316,27 +326,28 @@ static bool ends_list(uint32_t token)
 }
 
 /* BLIST has been passed. ELIST stands before the last element, EPAIR behind it. */
-static void expand_list(const struct form *form, size_t *place, struct pair_form *terms)
+static void expand_list(const struct form *form, size_t *place, struct pair_form *terms,
+                        uint32_t edition)
 {
     while (!ends_list(form->tokens[*place])) {
         append_cell(terms, PAIR);
-        expand_term(form, place, terms);
+        expand_term(form, place, terms, edition);
     }
     if (form->tokens[(*place)++] == ELIST) {
         append_cell(terms, PAIR);
-        expand_term(form, place, terms);
+        expand_term(form, place, terms, edition);
         append_cell(terms, EMPTY_LIST);
     } else {
-        expand_term(form, place, terms);
+        expand_term(form, place, terms, edition);
     }
 }
 
-static void expand_terms(const struct form *form, struct pair_form *terms)
+static void expand_terms(const struct form *form, struct pair_form *terms, uint32_t edition)
 {
     size_t place = 0;
     terms->length = 0;
     while (place < form->length) {
-        expand_term(form, &place, terms);
+        expand_term(form, &place, terms, edition);
     }
 }
 
@@ -533,39 +544,43 @@ struct run {
 };
 
 /* Term i of terms one after another, i from 0. */
-static struct run term_at(const struct pair_form *terms, uint32_t i)
+static struct run term_at(const struct pair_form *terms, uint32_t i, uint32_t edition)
 {
     size_t start = 0;
     for (uint32_t passed = 0; passed < i; passed++) {
-        start = term_end(terms, start);
+        start = term_end(terms, start, edition);
     }
-    return (struct run){&terms->cells[start], term_end(terms, start) - start};
+    return (struct run){&terms->cells[start], term_end(terms, start, edition) - start};
 }
 
 /* What a cell of the subgoal is in the instance: term i for variable i, else the cell itself. */
-static struct run replacement(const uint32_t *cell, const struct pair_form *terms)
+static struct run replacement(const uint32_t *cell, const struct pair_form *terms,
+                              uint32_t edition)
 {
     if (kind_of(*cell) == KIND_VARIABLE) {
-        return term_at(terms, payload_of(*cell));
+        return term_at(terms, payload_of(*cell), edition);
     }
     return (struct run){cell, 1};
 }
 
-static size_t instance_length(const struct pair_form *subgoal, const struct pair_form *terms)
+/* Far above a term's 256 cells: up to 65,281, for f/255 of one variable answered by 256 cells. So
+   the instance is written straight to out and has no buffer here. */
+static size_t instance_length(const struct pair_form *subgoal, const struct pair_form *terms,
+                              uint32_t edition)
 {
     size_t length = 0;
     for (size_t i = 0; i < subgoal->length; i++) {
-        length += replacement(&subgoal->cells[i], terms).length;
+        length += replacement(&subgoal->cells[i], terms, edition).length;
     }
     return length;
 }
 
 static void write_instance(const struct pair_form *subgoal, const struct pair_form *terms,
-                           uint32_t *out)
+                           uint32_t *out, uint32_t edition)
 {
     size_t written = 0;
     for (size_t i = 0; i < subgoal->length; i++) {
-        struct run run = replacement(&subgoal->cells[i], terms);
+        struct run run = replacement(&subgoal->cells[i], terms, edition);
         copy_cells(out + written, run.cells, run.length);
         written += run.length;
     }
@@ -573,13 +588,15 @@ static void write_instance(const struct pair_form *subgoal, const struct pair_fo
 
 /* The interface */
 
-struct plain_table *plain_table_open(uint32_t nodes, uint32_t subgoals, uint32_t answers)
+struct plain_table *plain_table_open(uint32_t nodes, uint32_t subgoals, uint32_t answers,
+                                     uint32_t edition)
 {
     struct plain_table *table = resized(NULL, sizeof *table);
     *table = (struct plain_table){
         .node_capacity = nodes,
         .subgoal_capacity = subgoals,
         .answer_capacity = answers,
+        .edition = edition,
     };
     return table;
 }
@@ -595,7 +612,7 @@ void plain_table_close(struct plain_table *table)
 uint64_t plain_table_call(struct plain_table *table, const uint32_t *term, size_t term_cells)
 {
     struct form form;
-    enum refusal refusal = read_terms(term, term_cells, 1, &form);
+    enum refusal refusal = read_terms(term, term_cells, 1, &form, table->edition);
     if (refusal != REFUSAL_NONE) {
         return refused(refusal);
     }
@@ -627,7 +644,7 @@ uint64_t plain_table_answer(struct plain_table *table, uint32_t subgoal, const u
     }
     struct form form;
     uint32_t term_count = plain_table_variables(table, subgoal);
-    enum refusal refusal = read_terms(terms, terms_cells, term_count, &form);
+    enum refusal refusal = read_terms(terms, terms_cells, term_count, &form, table->edition);
     if (refusal != REFUSAL_NONE) {
         return refused(refusal);
     }
@@ -677,7 +694,7 @@ uint64_t plain_table_load(const struct plain_table *table, uint32_t answer, uint
         return refused(REFUSAL_NUMBER);
     }
     struct pair_form terms;
-    expand_terms(&answer_at(table, answer)->form, &terms);
+    expand_terms(&answer_at(table, answer)->form, &terms, table->edition);
     if (terms.length > out_cells) {
         return refused_out(terms.length);
     }
@@ -692,15 +709,16 @@ uint64_t plain_table_instance(const struct plain_table *table, uint32_t answer, 
     if (!is_number_within(answer, table->answer_count)) {
         return refused(REFUSAL_NUMBER);
     }
+    const struct answer *entry = answer_at(table, answer);
     struct pair_form terms;
     struct pair_form subgoal;
-    expand_terms(&answer_at(table, answer)->form, &terms);
-    expand_terms(&subgoal_at(table, answer_at(table, answer)->subgoal)->form, &subgoal);
-    size_t length = instance_length(&subgoal, &terms);
+    expand_terms(&entry->form, &terms, table->edition);
+    expand_terms(&subgoal_at(table, entry->subgoal)->form, &subgoal, table->edition);
+    size_t length = instance_length(&subgoal, &terms, table->edition);
     if (length > out_cells) {
         return refused_out(length);
     }
-    write_instance(&subgoal, &terms, out);
+    write_instance(&subgoal, &terms, out, table->edition);
     return result(OUTCOME_CELLS, length);
 }
 

@@ -7,8 +7,10 @@
 
 struct plain_table;
 
-/* An empty table with these capacities, which are in range. Ends the program if memory runs out. */
-struct plain_table *plain_table_open(uint32_t nodes, uint32_t subgoals, uint32_t answers);
+/* An empty table with these capacities, which are in range, and of this edition, 1 or 2, by which
+   every call on it reads functors. Ends the program if memory runs out. */
+struct plain_table *plain_table_open(uint32_t nodes, uint32_t subgoals, uint32_t answers,
+                                     uint32_t edition);
 void plain_table_close(struct plain_table *table);
 
 /* The seven calls. Each returns the word that the export must return, and writes out as it must. */

@@ -14,7 +14,14 @@ static const uint32_t elist_token = 0x70000000u;
 static const uint32_t epair_token = 0x80000000u;
 
 /* Refusals of the two converters. */
-enum { BAD_TERM = 3, TOO_LONG = 4, TOO_MANY_VARIABLES = 5, OUT_TOO_SHORT = 12, BAD_FORM = 13 };
+enum {
+    BAD_EDITION = 1,
+    BAD_TERM = 3,
+    TOO_LONG = 4,
+    TOO_MANY_VARIABLES = 5,
+    OUT_TOO_SHORT = 12,
+    BAD_FORM = 13
+};
 
 enum { CELL_BYTES = 4 };
 
@@ -28,9 +35,15 @@ static inline uint32_t payload(uint32_t cell)
     return cell & 0x0fffffffu;
 }
 
-static inline uint32_t arity(uint32_t functor)
+static inline bool is_edition(uint32_t edition)
 {
-    return functor & 15;
+    return edition == 1 || edition == 2;
+}
+
+/* The arity is the low 4 bits of a functor in edition 1, the low 8 in edition 2. */
+static inline uint32_t arity(uint32_t functor, uint32_t edition)
+{
+    return functor & (edition == 1 ? 15 : 255);
 }
 
 static inline bool is_constant(uint32_t cell)
@@ -71,7 +84,8 @@ static struct reference_result refuse(uint32_t refusal)
 }
 
 /* Hands over the cells if they fit. */
-static struct reference_result deliver(const uint32_t *cells, size_t count, uint8_t *out, size_t room)
+static struct reference_result deliver(const uint32_t *cells, size_t count, uint8_t *out,
+                                       size_t room)
 {
     if (count > room)
         return (struct reference_result){OUT_TOO_SHORT, (uint32_t)count};
@@ -89,6 +103,7 @@ static struct reference_result deliver(const uint32_t *cells, size_t count, uint
  */
 struct compaction {
     const uint8_t *end; /* of the input */
+    uint32_t edition;   /* 1 or 2 */
     bool too_many;      /* a 33rd variable was met */
     size_t variables;   /* distinct variables met, at most 32 */
     uint32_t names[REFERENCE_VARIABLES];
@@ -123,9 +138,9 @@ static struct cursor compact_term(struct compaction *c, struct cursor at)
             *at.out++ = cell;
         } else if (kind(cell) == VARIABLE) {
             *at.out++ = number_variable(c, cell);
-        } else if (kind(cell) == FUNCTOR && arity(cell) > 0) {
+        } else if (kind(cell) == FUNCTOR && arity(cell, c->edition) > 0) {
             *at.out++ = cell;
-            due += arity(cell);
+            due += arity(cell, c->edition);
         } else {
             if (cell != pair_cell)
                 return wrong;
@@ -174,7 +189,8 @@ static struct cursor compact_list(struct compaction *c, struct cursor at)
     return at;
 }
 
-static struct reference_result compact(const uint8_t *in, size_t count, uint8_t *out, size_t room)
+static struct reference_result compact(const uint8_t *in, size_t count, uint8_t *out, size_t room,
+                                       uint32_t edition)
 {
     struct compaction c;
     if (count > REFERENCE_TERM_CELLS)
@@ -182,6 +198,7 @@ static struct reference_result compact(const uint8_t *in, size_t count, uint8_t 
     if (count == 0)
         return refuse(BAD_TERM);
     c.end = in + count * CELL_BYTES;
+    c.edition = edition;
     c.too_many = false;
     c.variables = 0;
     struct cursor at = compact_term(&c, (struct cursor){in, c.tokens});
@@ -201,6 +218,7 @@ static struct reference_result compact(const uint8_t *in, size_t count, uint8_t 
  */
 struct expansion {
     const uint8_t *end;    /* of the input */
+    uint32_t edition;      /* 1 or 2 */
     const uint32_t *limit; /* where the 257th cell stands */
     uint32_t variables;    /* distinct variables met, at most 32 */
     uint32_t cells[2 * REFERENCE_FORM_TOKENS];
@@ -224,9 +242,9 @@ static struct cursor expand_term(struct expansion *e, struct cursor at)
                 return wrong;
             e->variables += payload(token) == e->variables;
             *at.out++ = token;
-        } else if (kind(token) == FUNCTOR && arity(token) > 0) {
+        } else if (kind(token) == FUNCTOR && arity(token, e->edition) > 0) {
             *at.out++ = token;
-            due += arity(token);
+            due += arity(token, e->edition);
         } else {
             if (token != blist_token)
                 return wrong;
@@ -280,12 +298,14 @@ static struct cursor expand_list(struct expansion *e, struct cursor at)
     return wrong;
 }
 
-static struct reference_result expand(const uint8_t *in, size_t count, uint8_t *out, size_t room)
+static struct reference_result expand(const uint8_t *in, size_t count, uint8_t *out, size_t room,
+                                      uint32_t edition)
 {
     struct expansion e;
     if (count == 0 || count > REFERENCE_FORM_TOKENS)
         return refuse(BAD_FORM);
     e.end = in + count * CELL_BYTES;
+    e.edition = edition;
     e.limit = e.cells + REFERENCE_TERM_CELLS;
     e.variables = 0;
     struct cursor at = expand_term(&e, (struct cursor){in, e.cells});
@@ -302,27 +322,33 @@ static uint32_t result_word(struct reference_result result)
     return result.refusal == 0 ? result.cells : 0x80000000u + result.refusal;
 }
 
-uint32_t reference_compact(const uint8_t *in, size_t in_bytes, uint8_t *out, size_t out_bytes)
+uint32_t reference_compact(const uint8_t *in, size_t in_bytes, uint8_t *out, size_t out_bytes,
+                           uint32_t edition)
 {
+    if (!is_edition(edition))
+        return result_word(refuse(BAD_EDITION));
     if (in_bytes % CELL_BYTES != 0)
         return result_word(refuse(BAD_TERM));
-    return result_word(compact(in, in_bytes / CELL_BYTES, out, out_bytes / CELL_BYTES));
+    return result_word(compact(in, in_bytes / CELL_BYTES, out, out_bytes / CELL_BYTES, edition));
 }
 
-uint32_t reference_expand(const uint8_t *in, size_t in_bytes, uint8_t *out, size_t out_bytes)
+uint32_t reference_expand(const uint8_t *in, size_t in_bytes, uint8_t *out, size_t out_bytes,
+                          uint32_t edition)
 {
+    if (!is_edition(edition))
+        return result_word(refuse(BAD_EDITION));
     if (in_bytes % CELL_BYTES != 0)
         return result_word(refuse(BAD_TERM));
-    return result_word(expand(in, in_bytes / CELL_BYTES, out, out_bytes / CELL_BYTES));
+    return result_word(expand(in, in_bytes / CELL_BYTES, out, out_bytes / CELL_BYTES, edition));
 }
 
 /* Over native cells */
 
-typedef struct reference_result converter(const uint8_t *, size_t, uint8_t *, size_t);
+typedef struct reference_result converter(const uint8_t *, size_t, uint8_t *, size_t, uint32_t);
 
 /* Converts cells through bytes; in has at most 383 cells. */
 static struct reference_result convert_cells(converter *convert, const uint32_t *in, size_t count,
-                                             uint32_t *out, size_t room)
+                                             uint32_t *out, size_t room, uint32_t edition)
 {
     uint8_t in_bytes[REFERENCE_FORM_TOKENS * CELL_BYTES];
     uint8_t out_bytes[REFERENCE_FORM_TOKENS * CELL_BYTES];
@@ -330,26 +356,30 @@ static struct reference_result convert_cells(converter *convert, const uint32_t 
         room = REFERENCE_FORM_TOKENS;
     if (count > 0)
         store_cells(in_bytes, in, count);
-    struct reference_result result = convert(in_bytes, count, out_bytes, room);
+    struct reference_result result = convert(in_bytes, count, out_bytes, room, edition);
     for (size_t i = 0; result.refusal == 0 && i < result.cells; i++)
         out[i] = load_cell(out_bytes + i * CELL_BYTES);
     return result;
 }
 
 struct reference_result reference_compact_cells(const uint32_t *in, size_t count,
-                                                uint32_t *out, size_t room)
+                                                uint32_t *out, size_t room, uint32_t edition)
 {
+    if (!is_edition(edition))
+        return refuse(BAD_EDITION);
     if (count > REFERENCE_TERM_CELLS)
         return refuse(TOO_LONG);
-    return convert_cells(compact, in, count, out, room);
+    return convert_cells(compact, in, count, out, room, edition);
 }
 
 struct reference_result reference_expand_cells(const uint32_t *in, size_t count,
-                                               uint32_t *out, size_t room)
+                                               uint32_t *out, size_t room, uint32_t edition)
 {
+    if (!is_edition(edition))
+        return refuse(BAD_EDITION);
     if (count > REFERENCE_FORM_TOKENS)
         return refuse(BAD_FORM);
-    return convert_cells(expand, in, count, out, room);
+    return convert_cells(expand, in, count, out, room, edition);
 }
 
 /* Numbered form */

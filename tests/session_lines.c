@@ -114,12 +114,13 @@ static void draw_long(struct text *line)
         add_format(line, " %08lx", (unsigned long)(UINT32_C(0x20000000) + below(9)));
 }
 
-/* Sessions */
+/* Sessions, whose table is of edition 1 */
 
 void open_line_drawer(struct line_drawer *drawer)
 {
     static const unsigned long_chances[] = {0, 0, 3, 40}, chances[] = {5, 20, 30, 60};
-    open_drawer(&drawer->requests, long_chances[below(4)], chance(50) ? 3 : 12, chance(50) ? 4 : 9);
+    open_drawer(&drawer->requests, 1, long_chances[below(4)], chance(50) ? 3 : 12,
+                chance(50) ? 4 : 9);
     drawer->call_chance = chances[below(4)];
     drawer->answer_chance = chance(40) ? 95 : 50;
     drawer->other_chance = chance(80) ? 10 : 70;

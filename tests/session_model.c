@@ -11,6 +11,7 @@ enum {
     NODES = 1000,
     SUBGOALS = 50,
     ANSWERS = 100,
+    EDITION = 1,
     OUT_CELLS = 8192,
     LONGEST_LINE = 4096,
     MOST_NUMBERS = 2,
@@ -327,7 +328,7 @@ struct session_model *open_session(void)
         fputs("session model: out of memory\n", stderr);
         exit(EXIT_FAILURE);
     }
-    session->table = plain_table_open(NODES, SUBGOALS, ANSWERS);
+    session->table = plain_table_open(NODES, SUBGOALS, ANSWERS, EDITION);
     return session;
 }
 

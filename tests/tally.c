@@ -1,53 +1,68 @@
-/* How often each call had each result, printed and held to what may and must come. */
+/* How often each call had each result in each edition, printed and held to what may and must come. */
 #include "tally.h"
 
 #include <inttypes.h>
 #include <stdio.h>
 
-static uint64_t came[TALLY_ROWS][RESULTS];
+/* By edition, from edition 1. */
+enum { EDITIONS = 2 };
+
+static uint64_t came[EDITIONS][TALLY_ROWS][RESULTS];
 
 static const char *row_name(unsigned row)
 {
     return row == FRESH ? "fresh" : request_names[row];
 }
 
-bool tally_result(const uint32_t possible[TALLY_ROWS], unsigned row, uint64_t word)
+bool tally_result(const uint32_t possible[TALLY_ROWS], uint32_t edition, unsigned row,
+                  uint64_t word)
 {
     uint32_t refusal = tables_refused_by(word);
     uint32_t result = refusal > 0 ? RESULT_WHATS + refusal - 1 : tables_what(word);
     if ((refusal == 0 && result >= RESULT_WHATS) || result >= RESULTS)
         return false;
-    came[row][result]++;
+    came[edition - 1][row][result]++;
     return (possible[row] >> result & 1) != 0;
 }
 
-static void print_row(unsigned row)
+static void print_row(uint32_t edition, unsigned row)
 {
     static const char *const whats[RESULT_WHATS] = {"done", "new",  "old",   "open",  "finished",
                                                     "at",   "none", "cells", "counts"};
     printf("  %-8s", row_name(row));
     for (unsigned result = 0; result < RESULTS; result++) {
-        if (came[row][result] == 0)
+        uint64_t count = came[edition - 1][row][result];
+        if (count == 0)
             continue;
         if (result < RESULT_WHATS)
-            printf(" %s %" PRIu64, whats[result], came[row][result]);
+            printf(" %s %" PRIu64, whats[result], count);
         else
-            printf(" r%u %" PRIu64, result - RESULT_WHATS + 1, came[row][result]);
+            printf(" r%u %" PRIu64, result - RESULT_WHATS + 1, count);
     }
     printf("\n");
+}
+
+static unsigned check_row(uint32_t possible, uint32_t edition, unsigned row, uint64_t least)
+{
+    unsigned too_seldom = 0;
+    for (unsigned result = 0; result < RESULTS; result++) {
+        if ((possible >> result & 1) == 0 || came[edition - 1][row][result] >= least)
+            continue;
+        too_seldom++;
+        printf("failed: too seldom: result %u of %s\n", result, row_name(row));
+    }
+    return too_seldom;
 }
 
 unsigned check_tally(const uint32_t possible[TALLY_ROWS], uint64_t least)
 {
     unsigned too_seldom = 0;
-    for (unsigned row = 0; row < TALLY_ROWS; row++) {
-        if (possible[row] != 0)
-            print_row(row);
-        for (unsigned result = 0; result < RESULTS; result++) {
-            if ((possible[row] >> result & 1) == 0 || came[row][result] >= least)
-                continue;
-            too_seldom++;
-            printf("failed: too seldom: result %u of %s\n", result, row_name(row));
+    for (uint32_t edition = 1; edition <= EDITIONS; edition++) {
+        printf("  edition %u\n", (unsigned)edition);
+        for (unsigned row = 0; row < TALLY_ROWS; row++) {
+            if (possible[row] != 0)
+                print_row(edition, row);
+            too_seldom += check_row(possible[row], edition, row, least);
         }
     }
     return too_seldom;

@@ -1,4 +1,4 @@
-/* How often each call had each result, printed and held to what may and must come. */
+/* How often each call had each result in each edition, printed and held to what may and must come. */
 #ifndef TALLY_H
 #define TALLY_H
 
@@ -18,10 +18,11 @@ enum { RESULT_WHATS = TABLES_COUNTS + 1, RESULTS = RESULT_WHATS + 12 };
 /* Rows are the kinds of request; fresh stands behind them. */
 enum { FRESH = REQUEST_KINDS, TALLY_ROWS };
 
-/* Counts one result. Is it among the possible ones of its row? */
-bool tally_result(const uint32_t possible[TALLY_ROWS], unsigned row, uint64_t word);
+/* Counts one result, of a table of an edition. Is it among the possible ones of its row? */
+bool tally_result(const uint32_t possible[TALLY_ROWS], uint32_t edition, unsigned row,
+                  uint64_t word);
 
-/* Prints the counts, and gives how many of the possible results came less than so often. */
+/* Prints the counts, and gives how many of the possible results came less than so often in an edition. */
 unsigned check_tally(const uint32_t possible[TALLY_ROWS], uint64_t least);
 
 #endif

@@ -94,7 +94,7 @@ def header(cells):
     if len(cells) < 8:
         return NONE
     edition, nodes, subgoals, answers, first, second, third, end = cells[:8]
-    if edition != 1 or first != 8:
+    if edition not in (1, 2) or first != 8:
         return NONE
     rooms = []
     for least, size, low, high in ((1, 5, first, second), (0, 6, second, third), (0, 3, third, end)):

@@ -16,3 +16,4 @@ pub mod Following
 pub mod Untouched
 pub mod Theorem
 pub mod Hollow
+pub mod Histories

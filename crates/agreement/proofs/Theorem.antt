@@ -1,14 +1,28 @@
--- Demand 3 of edition 1, its consequences on the cells, and the marked terms and tables.
+-- Demand 3 of every edition, its consequences on the cells, and the marked terms and tables.
 use Prim.Native.Nat.{ℕ}
-use Rattle.forms.specs.Cells.{arity16}
-use Rattle.forms.specs.Marked.{marked}
-use Rattle.plain.specs.Coding.{Coding, edition1}
+use mathlib.Core.Bool.{true}
+use mathlib.Core.List.{List}
+use mathlib.Core.Path.{_≡_, ap, _∙_}
+use native.Mathlib.Omega.{arith}
+use lib.ListN.{getD}
+use Rattle.basis.specs.Editions.{knownEdition}
+use Rattle.basis.proofs.Cases.{by-cases}
+use Rattle.forms.specs.Cells.{arityOf}
+use Rattle.forms.specs.Marked.{marked, marked-wide}
+use Rattle.plain.specs.Coding.{Coding, codingOf}
 use Rattle.plain.specs.CodingLaws.{CodingLaws}
 use Rattle.plain.specs.Examples.{examples}
 use Rattle.plain.proofs.CompactCoding.{compact-laws}
-use Rattle.space.specs.Layout.{Sizes, sizes}
+use Rattle.space.specs.Layout.{Sizes, sizesOf}
+use Rattle.space.specs.Heading.{headerOf, spaceHeader}
+use Rattle.space.specs.Fresh.{freshAnswer, freshAnswerIn, freshSpaceIn}
+use Rattle.space.specs.declared.Head.{Head}
+use Rattle.space.specs.declared.Header.the-variants as header
+use Rattle.space.specs.declared.FreshAnswer.the-variants.{Done, Refused}
+use Rattle.store.specs.Calls.{cellStep, spaceStep, underAny, under}
+use Rattle.agreement.proofs.HeaderTests.{header-read}
 use Rattle.agreement.specs.Records.{Wide}
-use Rattle.agreement.specs.Promise.{Agreement, Promise, Marked}
+use Rattle.agreement.specs.Promise.{Agreement, Promise, Marked, Marked2}
 use Rattle.agreement.specs.Consequences.{Untouched, Following, SoundForEver}
 use Rattle.agreement.proofs.CellChanges as cells
 use Rattle.agreement.proofs.FreshView as fresh
@@ -26,20 +40,46 @@ cells-hold z w = record {
 
 -- for every layout that is wide enough and every coding that meets the laws
 pub agreement : (z : Sizes) → Wide z → (c : Coding) → CodingLaws c → Agreement z c
-agreement z w c laws = lists.agreement z c (cells-hold z w) laws
+agreement z w c laws = lists.agreement z c (cells-hold z w) laws (cellStep z c) (lists.cellStep-sound z c)
+
+-- a space with a sound header of edition e is one of edition e to the code
+module _ (e : ℕ) (known : knownEdition e ≡ true) where
+  header-any : (cs : List ℕ) (h : Head) → headerOf (sizesOf e) cs ≡ header.Sound h → (spaceHeader cs ≡ header.Sound h) × (h .edition ≡ e)
+  unfolding spaceHeader
+  header-any cs h s =
+      let r = header-read (sizesOf e) cs h s in
+      let i : getD cs 0 0 ≡ e = r .headed .edition in
+      (rw (i, known) s, ap (λ (k : Head). k .edition) (r .is) ∙ i)
+
+  deciding : lists.Deciding (sizesOf e) (codingOf e) spaceStep
+  unfolding spaceStep underAny under
+  deciding cs h q s = let k = header-any cs h s in rw (k .0, k .1)
 
 pub promise : Promise
-promise = agreement sizes cells.sizes-wide edition1 (compact-laws arity16)
+unfolding freshAnswerIn freshSpaceIn
+promise e n f a s qs d = by-cases (knownEdition e)
+    (λ k.
+    let done : freshAnswer (sizesOf e) n f a s ≡ Done = rw k at d in
+    rw k (lists.agreement (sizesOf e) (codingOf e) (cells-hold (sizesOf e) (cells.sizes-wide e)) (compact-laws (arityOf e)) spaceStep (deciding e k) n f a s qs done))
+    (λ k. let r : Refused 2 ≡ Done = rw k at d in let x : _≡_ {A = ℕ} 0 1 = cc in absurd (omega arith))
 
-pub following : Following sizes edition1
-following = calls.following sizes edition1 (cells-hold sizes cells.sizes-wide) (compact-laws arity16)
+-- of one edition
+pub promise-of : (e : ℕ) → Agreement (sizesOf e) (codingOf e)
+promise-of e = agreement (sizesOf e) (cells.sizes-wide e) (codingOf e) (compact-laws (arityOf e))
 
-pub sound-for-ever : SoundForEver sizes edition1
-sound-for-ever = calls.sound-for-ever sizes edition1 (cells-hold sizes cells.sizes-wide) (compact-laws arity16)
+pub following : (e : ℕ) → knownEdition e ≡ true → Following (sizesOf e) (codingOf e) spaceStep
+following e k = calls.following (sizesOf e) (codingOf e) (cells-hold (sizesOf e) (cells.sizes-wide e)) (compact-laws (arityOf e)) spaceStep (deciding e k)
 
-pub untouched : Untouched sizes edition1
-untouched = refusals.untouched sizes edition1
+pub sound-for-ever : (e : ℕ) → knownEdition e ≡ true → SoundForEver (sizesOf e) (codingOf e) spaceStep
+sound-for-ever e k = calls.sound-for-ever (sizesOf e) (codingOf e) (cells-hold (sizesOf e) (cells.sizes-wide e)) (compact-laws (arityOf e)) spaceStep (deciding e k)
+
+pub untouched : Untouched spaceStep
+untouched = refusals.untouched
 
 -- M1 to M10
 pub marked-list : Marked
 marked-list = (marked, examples .0)
+
+-- a functor of 40 arguments
+pub marked-2 : Marked2
+marked-2 = marked-wide

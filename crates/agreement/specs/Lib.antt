@@ -3,3 +3,4 @@ pub mod Promise
 pub mod Consequences
 pub mod Hollow
 pub mod RuledOut
+pub mod History

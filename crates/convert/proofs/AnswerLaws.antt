@@ -17,7 +17,7 @@ use Rattle.forms.specs.declared.Answer.the-variants.{Cells, Refused, Short}
 use Rattle.forms.specs.Terms.{areTerms}
 use Rattle.forms.specs.Numbering.{met}
 use Rattle.forms.specs.Compact.{compactForm, pairForm, legalForm}
-use Rattle.forms.specs.Converting.{reading, loading, fitting, fittingForm, fittingTerms, compacting, expanding, written}
+use Rattle.forms.specs.Converting.{reading, loading, fitting, fittingForm, fittingTerms, compacting, expanding, converterEdition, inEdition, written}
 
 -- what stands at the start of a buffer is no longer than the buffer
 pub taken-room : (n : ℕ) (buffer form : List ℕ) → take n buffer ≡ form → n ≡ length form → n ≤ length buffer
@@ -33,6 +33,19 @@ module _ (need : ℕ) (form out : List ℕ) where
       → (Cells need ≡ fitting need (length out)) × (out′ ≡ written (Cells need) form out)
   unfolding fitting written
   fitting-cells buffer out′ h e w = (rw (le-leb need (length out) h), w ∙ rw e)
+
+-- ---- editions
+
+-- in an edition that there is the answer is the converter's, and in another it is 1
+module _ (e : ℕ) (answer : Answer) (form out : List ℕ) where
+  pub edition-known : (r : Answer) (out′ : List ℕ) → converterEdition e ≡ true → r ≡ answer → out′ ≡ written r form out
+      → (r ≡ inEdition e answer) × (out′ ≡ written r form out)
+  unfolding inEdition
+  edition-known r out′ k a w = (rw k a, w)
+
+  pub edition-refused : converterEdition e ≡ false → (Refused 1 ≡ inEdition e answer) × (out ≡ written (Refused 1) form out)
+  unfolding inEdition written
+  edition-refused k = (rw k, refl)
 
 module _ (arity : ℕ → ℕ) (m : ℕ) (s : List ℕ) where
   -- ---- compacting

@@ -4,7 +4,7 @@ ghost use mathlib.Core.Path.{_≡_};
 ghost use mathlib.Core.Bool.{false, true};
 ghost use Prim.Native.Nat.{ℕ, _+_, _*_, _^_, _≤_, _<_};
 ghost use lib.ListN.{length, getD};
-ghost use Rattle.forms.specs.Cells.{arity16, variable, EPAIR};
+ghost use Rattle.forms.specs.Cells.{arityOf, variable, EPAIR};
 ghost use Rattle.convert.specs.Loading.{after, FormsRan, RestRan};
 
 // How many variables are met after the variable c, where `count` were met before.
@@ -19,9 +19,17 @@ fn met_after(c: u32, count: usize) -> usize
 }
 
 // Reads the forms of n terms from `from` on and writes their pair forms from `start` on.
-pub fn terms(s: &[u32], from: usize, n: usize, known: usize, out: &mut [u32], start: usize) -> Step
+pub fn terms(
+    s: &[u32],
+    from: usize,
+    n: usize,
+    known: usize,
+    out: &mut [u32],
+    start: usize,
+    edition: u32,
+) -> Step
     requires { ⌜ (length (now s) ≤ 383) × (2 * length (now s) ≤ length (now out)) × (from ≤ length (now s)) × (n ≤ 383 + 256 * from) × (known ≤ from) × (start ≤ 2 * from) ⌝ }
-    ensures { λ r. ⌜ FormsRan arity16 (now (s .entry)) from n known (now (out .entry)) start (now (out .exit)) r ⌝ }
+    ensures { λ r. ⌜ FormsRan (arityOf edition) (now (s .entry)) from n known (now (out .entry)) start (now (out .exit)) r ⌝ }
 {
     let mut at = from;
     let mut due = n;
@@ -33,7 +41,7 @@ pub fn terms(s: &[u32], from: usize, n: usize, known: usize, out: &mut [u32], st
         }
         let c = s[at];
         if c == forms::BLIST {
-            let Step::Done(next, end, met) = list(s, at + 1, count, out, to) else {
+            let Step::Done(next, end, met) = list(s, at + 1, count, out, to, edition) else {
                 return Step::Malformed;
             };
             at = next;
@@ -53,7 +61,7 @@ pub fn terms(s: &[u32], from: usize, n: usize, known: usize, out: &mut [u32], st
             due -= 1;
             continue;
         }
-        let forms::Shape::Symbol(k) = forms::shape_of(c) else {
+        let forms::Shape::Symbol(k) = forms::shape_of(c, edition) else {
             return Step::Malformed;
         };
         out[to] = c;
@@ -66,9 +74,9 @@ pub fn terms(s: &[u32], from: usize, n: usize, known: usize, out: &mut [u32], st
 
 // Reads the elements of a list from `from` on, behind BLIST, and writes the list from `start` on.
 // Most elements are constants, and take no call of the term reader.
-fn list(s: &[u32], from: usize, known: usize, out: &mut [u32], start: usize) -> Step
+fn list(s: &[u32], from: usize, known: usize, out: &mut [u32], start: usize, edition: u32) -> Step
     requires { ⌜ (length (now s) ≤ 383) × (2 * length (now s) ≤ length (now out)) × (from ≤ length (now s)) × (known ≤ from) × (start + 2 ≤ 2 * from) ⌝ }
-    ensures { λ r. ⌜ RestRan arity16 (now (s .entry)) from false known (now (out .entry)) start (now (out .exit)) r ⌝ }
+    ensures { λ r. ⌜ RestRan (arityOf edition) (now (s .entry)) from false known (now (out .entry)) start (now (out .exit)) r ⌝ }
 {
     let mut at = from;
     let mut some = false;
@@ -89,19 +97,19 @@ fn list(s: &[u32], from: usize, known: usize, out: &mut [u32], start: usize) -> 
         }
         if c == forms::EPAIR {
             if some {
-                return ending(s, at, count, out, to);
+                return ending(s, at, count, out, to, edition);
             }
             return Step::Malformed;
         }
         out[to] = forms::PAIR;
         if c == forms::ELIST {
-            let Step::Done(next, end, met) = terms(s, at + 1, 1, count, out, to + 1) else {
+            let Step::Done(next, end, met) = terms(s, at + 1, 1, count, out, to + 1, edition) else {
                 return Step::Malformed;
             };
             out[end] = forms::NIL;
             return Step::Done(next, end + 1, met);
         }
-        let Step::Done(next, end, met) = terms(s, at, 1, count, out, to + 1) else {
+        let Step::Done(next, end, met) = terms(s, at, 1, count, out, to + 1, edition) else {
             return Step::Malformed;
         };
         at = next;
@@ -112,9 +120,9 @@ fn list(s: &[u32], from: usize, known: usize, out: &mut [u32], start: usize) -> 
 }
 
 // Reads the EPAIR at `at` and the term that a list ends in behind it: neither [] nor a list.
-fn ending(s: &[u32], at: usize, count: usize, out: &mut [u32], to: usize) -> Step
+fn ending(s: &[u32], at: usize, count: usize, out: &mut [u32], to: usize, edition: u32) -> Step
     requires { ⌜ (length (now s) ≤ 383) × (2 * length (now s) ≤ length (now out)) × (at < length (now s)) × (getD (now s) at 0 ≡ EPAIR) × (count ≤ at) × (to + 2 ≤ 2 * at) ⌝ }
-    ensures { λ r. ⌜ RestRan arity16 (now (s .entry)) at true count (now (out .entry)) to (now (out .exit)) r ⌝ }
+    ensures { λ r. ⌜ RestRan (arityOf edition) (now (s .entry)) at true count (now (out .entry)) to (now (out .exit)) r ⌝ }
 {
     if s.len() <= at + 1 {
         return Step::Malformed;
@@ -126,5 +134,5 @@ fn ending(s: &[u32], at: usize, count: usize, out: &mut [u32], to: usize) -> Ste
     if c == forms::BLIST {
         return Step::Malformed;
     }
-    terms(s, at + 1, 1, count, out, to)
+    terms(s, at + 1, 1, count, out, to, edition)
 }

@@ -8,7 +8,7 @@ ghost use lib.ListN.{length, take, drop, set};
 ghost use lib.Seq.{sets};
 ghost use lib.Dec.{ltb};
 ghost use Rattle.basis.specs.Choice.{pick};
-ghost use Rattle.forms.specs.Cells.{arity16};
+ghost use Rattle.forms.specs.Cells.{arityOf};
 ghost use Rattle.forms.specs.Numbering.{rank};
 ghost use Rattle.convert.specs.Readers.{TermsRan, ListRan};
 
@@ -62,9 +62,10 @@ pub fn terms(
     known: usize,
     out: &mut [u32],
     start: usize,
+    edition: u32,
 ) -> Step
     requires { ⌜ (length (now s) ≤ 256) × (length (now s) ≤ length (now vars)) × (3 * length (now s) ≤ 2 * length (now out)) × (from ≤ length (now s)) × (n ≤ 256 + 256 * from) × (known ≤ from) × (2 * start ≤ 3 * from) ⌝ }
-    ensures { λ r. ⌜ TermsRan arity16 (now (s .entry)) from n (now (vars .entry)) known (now (out .entry)) start (now (vars .exit)) (now (out .exit)) r ⌝ }
+    ensures { λ r. ⌜ TermsRan (arityOf edition) (now (s .entry)) from n (now (vars .entry)) known (now (out .entry)) start (now (vars .exit)) (now (out .exit)) r ⌝ }
 {
     let mut at = from;
     let mut due = n;
@@ -84,7 +85,7 @@ pub fn terms(
             due -= 1;
             continue;
         }
-        match forms::shape_of(c) {
+        match forms::shape_of(c, edition) {
             forms::Shape::Symbol(k) => {
                 out[to] = c;
                 at += 1;
@@ -93,7 +94,8 @@ pub fn terms(
             }
             forms::Shape::Pair => {
                 out[to] = forms::BLIST;
-                let Step::Done(next, end, met) = list(s, at + 1, vars, count, out, to + 1) else {
+                let Step::Done(next, end, met) = list(s, at + 1, vars, count, out, to + 1, edition)
+                else {
                     return Step::Malformed;
                 };
                 at = next;
@@ -115,15 +117,16 @@ fn list(
     known: usize,
     out: &mut [u32],
     start: usize,
+    edition: u32,
 ) -> Step
     requires { ⌜ (length (now s) ≤ 256) × (length (now s) ≤ length (now vars)) × (3 * length (now s) ≤ 2 * length (now out)) × (from ≤ length (now s)) × (known ≤ from) × (2 * start + 1 ≤ 3 * from) ⌝ }
-    ensures { λ r. ⌜ ListRan arity16 (now (s .entry)) from (now (vars .entry)) known (now (out .entry)) start (now (vars .exit)) (now (out .exit)) r ⌝ }
+    ensures { λ r. ⌜ ListRan (arityOf edition) (now (s .entry)) from (now (vars .entry)) known (now (out .entry)) start (now (vars .exit)) (now (out .exit)) r ⌝ }
 {
     let mut at = from;
     let mut count = known;
     let mut to = start;
     loop {
-        let Step::Done(next, end, met) = element(s, at, vars, count, out, to) else {
+        let Step::Done(next, end, met) = element(s, at, vars, count, out, to, edition) else {
             return Step::Malformed;
         };
         if s.len() <= next {
@@ -136,7 +139,7 @@ fn list(
         }
         if c != forms::PAIR {
             out[end] = forms::EPAIR;
-            return terms(s, next, 1, vars, met, out, end + 1);
+            return terms(s, next, 1, vars, met, out, end + 1, edition);
         }
         at = next + 1;
         to = end;
@@ -145,9 +148,17 @@ fn list(
 }
 
 // Reads one element of a list. Most are constants, and take no call of the term reader.
-fn element(s: &[u32], at: usize, vars: &mut [u32], count: usize, out: &mut [u32], to: usize) -> Step
+fn element(
+    s: &[u32],
+    at: usize,
+    vars: &mut [u32],
+    count: usize,
+    out: &mut [u32],
+    to: usize,
+    edition: u32,
+) -> Step
     requires { ⌜ (length (now s) ≤ 256) × (length (now s) ≤ length (now vars)) × (3 * length (now s) ≤ 2 * length (now out)) × (at ≤ length (now s)) × (count ≤ at) × (2 * to ≤ 3 * at) ⌝ }
-    ensures { λ r. ⌜ TermsRan arity16 (now (s .entry)) at 1 (now (vars .entry)) count (now (out .entry)) to (now (vars .exit)) (now (out .exit)) r ⌝ }
+    ensures { λ r. ⌜ TermsRan (arityOf edition) (now (s .entry)) at 1 (now (vars .entry)) count (now (out .entry)) to (now (vars .exit)) (now (out .exit)) r ⌝ }
 {
     if at < s.len() {
         let c = s[at];
@@ -156,5 +167,5 @@ fn element(s: &[u32], at: usize, vars: &mut [u32], count: usize, out: &mut [u32]
             return Step::Done(at + 1, to + 1, count);
         }
     }
-    terms(s, at, 1, vars, count, out, to)
+    terms(s, at, 1, vars, count, out, to, edition)
 }

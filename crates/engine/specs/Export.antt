@@ -6,7 +6,7 @@ use lib.Dec.{eqb}
 use Rattle.basis.specs.Choice.{pick}
 use Rattle.forms.specs.declared.Answer.{Answer}
 use Rattle.forms.specs.declared.Answer.the-variants.{Cells, Refused, Short}
-use Rattle.forms.specs.Cells.{arity16}
+use Rattle.forms.specs.Converting.{converterEdition}
 use Rattle.forms.specs.Compact.{compactForm, pairForm}
 use Rattle.forms.specs.Converting.{compacting, expanding}
 use Rattle.engine.specs.Bytes.{cellsOf, bytesOf}
@@ -37,9 +37,13 @@ unfoldable pub exported : (List ℕ → ℕ → Answer) → List ℕ → List �
 exported converter input out = pick (eqb (length input % 4) 0) (converter (cellsOf input) (length out / 4)) (Refused 3)
 
 -- `tables_compact` of one term
-unfoldable pub compactBytes : List ℕ → List ℕ → Outcome
-compactBytes input out = handed (exported (compacting arity16 1) input out) (compactForm arity16 (cellsOf input)) out
+unfoldable pub compactBytes : (ℕ → ℕ) → List ℕ → List ℕ → Outcome
+compactBytes arity input out = handed (exported (compacting arity 1) input out) (compactForm arity (cellsOf input)) out
 
 -- `tables_expand` of the form of one term
-unfoldable pub expandBytes : List ℕ → List ℕ → Outcome
-expandBytes input out = handed (exported (expanding arity16 1) input out) (pairForm arity16 (cellsOf input)) out
+unfoldable pub expandBytes : (ℕ → ℕ) → List ℕ → List ℕ → Outcome
+expandBytes arity input out = handed (exported (expanding arity 1) input out) (pairForm arity (cellsOf input)) out
+
+-- in the edition of this number; another is refused (1), before all else
+unfoldable pub outcomeIn : ℕ → Outcome → List ℕ → Outcome
+outcomeIn e o out = pick (converterEdition e) o (outcome (2 ^ 31 + 1) out)

@@ -11,27 +11,31 @@ use words::next_word;
 use words::refusal_word;
 use words::result_word;
 ghost use mathlib.Core.Path.{_≡_};
-ghost use Rattle.plain.specs.Coding.{edition1};
+ghost use mathlib.Core.List.{[]};
 ghost use Rattle.plain.specs.Requests as request;
-ghost use Rattle.space.specs.Layout.{sizes};
-ghost use Rattle.space.specs.Fresh.{freshAnswer, freshSpace};
-ghost use Rattle.store.specs.Calls.{cellStep};
-ghost use Rattle.words.specs.Words.{word, saidFresh, countsOf, countsReply, countsOut};
+ghost use Rattle.space.specs.Fresh.{freshAnswerIn, freshSpaceIn};
+ghost use Rattle.words.specs.Words.{word, saidFresh, Returns, ReturnsCounts};
 
 // ---- fresh, and the calls that write
 
-// Makes a space of these capacities; refused, it stays as it was.
+// Makes a space of an edition with these capacities; refused, it stays as it was.
 #[no_mangle]
-pub extern "C" fn tables_fresh(space: &mut [u32], nodes: u32, subgoals: u32, answers: u32) -> u64
-    ensures { λ w. ⌜ (w ≡ word (saidFresh (freshAnswer sizes nodes subgoals answers (now (space .entry))))) × (now (space .exit) ≡ freshSpace sizes nodes subgoals answers (now (space .entry))) ⌝ }
+pub extern "C" fn tables_fresh(
+    space: &mut [u32],
+    nodes: u32,
+    subgoals: u32,
+    answers: u32,
+    edition: u32,
+) -> u64
+    ensures { λ w. ⌜ (w ≡ word (saidFresh (freshAnswerIn edition nodes subgoals answers (now (space .entry))))) × (now (space .exit) ≡ freshSpaceIn edition nodes subgoals answers (now (space .entry))) ⌝ }
 {
-    fresh_word(space::fresh::fresh(space, nodes, subgoals, answers))
+    fresh_word(space::fresh::fresh(space, nodes, subgoals, answers, edition))
 }
 
 // Finds or enters the subgoal that a term calls, given in pair form.
 #[no_mangle]
 pub extern "C" fn tables_call(space: &mut [u32], term: &[u32]) -> u64
-    ensures { λ w. ⌜ (w ≡ word (cellStep sizes edition1 (now (space .entry)) (request.call (now (term .entry))) .reply)) × (now (space .exit) ≡ cellStep sizes edition1 (now (space .entry)) (request.call (now (term .entry))) .state) ⌝ }
+    ensures { λ w. ⌜ Returns (now (space .entry)) (request.call (now (term .entry))) w [] (now (space .exit)) ⌝ }
 {
     call_word(store::calls::call(space, term))
 }
@@ -39,7 +43,7 @@ pub extern "C" fn tables_call(space: &mut [u32], term: &[u32]) -> u64
 // Finds or enters an answer of a subgoal: its terms one after another, as many as the subgoal has variables.
 #[no_mangle]
 pub extern "C" fn tables_answer(space: &mut [u32], subgoal: u32, terms: &[u32]) -> u64
-    ensures { λ w. ⌜ (w ≡ word (cellStep sizes edition1 (now (space .entry)) (request.answer subgoal (now (terms .entry))) .reply)) × (now (space .exit) ≡ cellStep sizes edition1 (now (space .entry)) (request.answer subgoal (now (terms .entry))) .state) ⌝ }
+    ensures { λ w. ⌜ Returns (now (space .entry)) (request.answer subgoal (now (terms .entry))) w [] (now (space .exit)) ⌝ }
 {
     answer_word(store::calls::answer(space, subgoal, terms))
 }
@@ -47,7 +51,7 @@ pub extern "C" fn tables_answer(space: &mut [u32], subgoal: u32, terms: &[u32]) 
 // Finishes a subgoal; from then on it takes no answers.
 #[no_mangle]
 pub extern "C" fn tables_finish(space: &mut [u32], subgoal: u32) -> u64
-    ensures { λ w. ⌜ (w ≡ word (cellStep sizes edition1 (now (space .entry)) (request.finish subgoal) .reply)) × (now (space .exit) ≡ cellStep sizes edition1 (now (space .entry)) (request.finish subgoal) .state) ⌝ }
+    ensures { λ w. ⌜ Returns (now (space .entry)) (request.finish subgoal) w [] (now (space .exit)) ⌝ }
 {
     finish_word(store::calls::finish(space, subgoal))
 }
@@ -57,7 +61,7 @@ pub extern "C" fn tables_finish(space: &mut [u32], subgoal: u32) -> u64
 // The subgoal's answer after a given one; after 0 its first.
 #[no_mangle]
 pub extern "C" fn tables_next(space: &[u32], subgoal: u32, after: u32) -> u64
-    ensures { λ w. ⌜ w ≡ word (cellStep sizes edition1 (now (space .entry)) (request.next subgoal after) .reply) ⌝ }
+    ensures { λ w. ⌜ Returns (now (space .entry)) (request.next subgoal after) w [] (now (space .entry)) ⌝ }
 {
     next_word(reads::reads::next(space, subgoal, after))
 }
@@ -65,7 +69,7 @@ pub extern "C" fn tables_next(space: &[u32], subgoal: u32, after: u32) -> u64
 // Writes the terms of an answer to the start of out, in pair form; the cells behind them stay.
 #[no_mangle]
 pub extern "C" fn tables_load(space: &[u32], answer: u32, out: &mut [u32]) -> u64
-    ensures { λ w. ⌜ (w ≡ word (cellStep sizes edition1 (now (space .entry)) (request.load answer (now (out .entry))) .reply)) × (now (out .exit) ≡ cellStep sizes edition1 (now (space .entry)) (request.load answer (now (out .entry))) .out) ⌝ }
+    ensures { λ w. ⌜ Returns (now (space .entry)) (request.load answer (now (out .entry))) w (now (out .exit)) (now (space .entry)) ⌝ }
 {
     cells_word(reads::reads::load(space, answer, out))
 }
@@ -73,7 +77,7 @@ pub extern "C" fn tables_load(space: &[u32], answer: u32, out: &mut [u32]) -> u6
 // Writes the subgoal of an answer with the answer's terms for its variables, in the same way.
 #[no_mangle]
 pub extern "C" fn tables_instance(space: &[u32], answer: u32, out: &mut [u32]) -> u64
-    ensures { λ w. ⌜ (w ≡ word (cellStep sizes edition1 (now (space .entry)) (request.instance answer (now (out .entry))) .reply)) × (now (out .exit) ≡ cellStep sizes edition1 (now (space .entry)) (request.instance answer (now (out .entry))) .out) ⌝ }
+    ensures { λ w. ⌜ Returns (now (space .entry)) (request.instance answer (now (out .entry))) w (now (out .exit)) (now (space .entry)) ⌝ }
 {
     cells_word(reads::reads::instance(space, answer, out))
 }
@@ -82,7 +86,7 @@ pub extern "C" fn tables_instance(space: &[u32], answer: u32, out: &mut [u32]) -
 // the room.
 #[no_mangle]
 pub extern "C" fn tables_counts(space: &[u32], out: &mut [u32]) -> u64
-    ensures { λ w. ⌜ (w ≡ word (countsReply (countsOf (now (space .entry))) (now (out .entry)))) × (now (out .exit) ≡ countsOut (countsOf (now (space .entry))) (now (out .entry))) ⌝ }
+    ensures { λ w. ⌜ ReturnsCounts (now (space .entry)) w (now (out .entry)) (now (out .exit)) ⌝ }
 {
     let answer = reads::reads::counts(space);
     match answer {

@@ -7,9 +7,10 @@ ghost use mathlib.Core.Path.{_≡_};
 ghost use mathlib.Core.List.{_++_};
 ghost use Prim.Native.Nat.{ℕ, _+_, _*_, _^_, _/_, _≤_, _<_};
 ghost use lib.ListN.{length, take, drop};
+ghost use Rattle.forms.specs.Cells.{arityOf};
 ghost use Rattle.forms.specs.Converting.{fitting};
 ghost use Rattle.engine.specs.Bytes.{cellOf, cellsOf, bytesOf};
-ghost use Rattle.engine.specs.Export.{outcome, handed, compactBytes, expandBytes};
+ghost use Rattle.engine.specs.Export.{outcome, handed, compactBytes, expandBytes, outcomeIn};
 
 // A refusal is returned as 2^31 plus its number.
 const REFUSED: u32 = 2147483648;
@@ -76,12 +77,13 @@ fn compact_with(
     vars: &mut [u32],
     form: &mut [u32],
     out: &mut [u8],
+    edition: u32,
 ) -> u32
     requires { ⌜ (4 * n ≡ length (now input)) × (n ≤ length (now cells)) × (n ≤ length (now vars)) × (3 * n ≤ 2 * length (now form)) × (length (now form) ≤ 384) ⌝ }
-    ensures { λ r. ⌜ outcome r (now (out .exit)) ≡ compactBytes (now (input .entry)) (now (out .entry)) ⌝ }
+    ensures { λ r. ⌜ outcome r (now (out .exit)) ≡ compactBytes (arityOf edition) (now (input .entry)) (now (out .entry)) ⌝ }
 {
     decode(input, n, cells);
-    let read = convert::read_terms(&cells[..n], 1, vars, form);
+    let read = convert::read_terms(&cells[..n], 1, vars, form, edition);
     let Reading::Form(k, _) = read else {
         match read {
             Reading::Refusal(r) => return REFUSED + r,
@@ -93,9 +95,8 @@ fn compact_with(
 
 // Compacts one term. Short terms get short buffers, since making a buffer clears it; over 256 cells
 // nothing is read.
-#[no_mangle]
-pub extern "C" fn tables_compact(input: &[u8], out: &mut [u8]) -> u32
-    ensures { λ r. ⌜ outcome r (now (out .exit)) ≡ compactBytes (now (input .entry)) (now (out .entry)) ⌝ }
+fn compact_input(input: &[u8], out: &mut [u8], edition: u32) -> u32
+    ensures { λ r. ⌜ outcome r (now (out .exit)) ≡ compactBytes (arityOf edition) (now (input .entry)) (now (out .entry)) ⌝ }
 {
     let bytes = input.len();
     if bytes % 4 != 0 {
@@ -106,31 +107,38 @@ pub extern "C" fn tables_compact(input: &[u8], out: &mut [u8]) -> u32
         let mut cells = [0u32; 16];
         let mut vars = [0u32; 16];
         let mut form = [0u32; 24];
-        return compact_with(input, n, &mut cells, &mut vars, &mut form, out);
+        return compact_with(input, n, &mut cells, &mut vars, &mut form, out, edition);
     }
     if n <= 128 {
         let mut cells = [0u32; 128];
         let mut vars = [0u32; 128];
         let mut form = [0u32; 192];
-        return compact_with(input, n, &mut cells, &mut vars, &mut form, out);
+        return compact_with(input, n, &mut cells, &mut vars, &mut form, out, edition);
     }
     if n <= 256 {
         let mut cells = [0u32; 256];
         let mut vars = [0u32; 256];
         let mut form = [0u32; 384];
-        return compact_with(input, n, &mut cells, &mut vars, &mut form, out);
+        return compact_with(input, n, &mut cells, &mut vars, &mut form, out, edition);
     }
     REFUSED + 4
 }
 
 // Expands the n cells of input, with buffers that are long enough for them: each token writes at most
 // two cells.
-fn expand_with(input: &[u8], n: usize, form: &mut [u32], cells: &mut [u32], out: &mut [u8]) -> u32
+fn expand_with(
+    input: &[u8],
+    n: usize,
+    form: &mut [u32],
+    cells: &mut [u32],
+    out: &mut [u8],
+    edition: u32,
+) -> u32
     requires { ⌜ (4 * n ≡ length (now input)) × (n ≤ length (now form)) × (2 * n ≤ length (now cells)) × (length (now cells) ≤ 766) ⌝ }
-    ensures { λ r. ⌜ outcome r (now (out .exit)) ≡ expandBytes (now (input .entry)) (now (out .entry)) ⌝ }
+    ensures { λ r. ⌜ outcome r (now (out .exit)) ≡ expandBytes (arityOf edition) (now (input .entry)) (now (out .entry)) ⌝ }
 {
     decode(input, n, form);
-    let Loading::Terms(k) = convert::load_terms(&form[..n], 1, cells) else {
+    let Loading::Terms(k) = convert::load_terms(&form[..n], 1, cells, edition) else {
         return REFUSED + 13;
     };
     deliver(cells, k, out)
@@ -138,9 +146,8 @@ fn expand_with(input: &[u8], n: usize, form: &mut [u32], cells: &mut [u32], out:
 
 // Expands the form of one term. Short forms get short buffers, since making a buffer clears it; no
 // legal form is over 383 tokens, so nothing longer is read.
-#[no_mangle]
-pub extern "C" fn tables_expand(input: &[u8], out: &mut [u8]) -> u32
-    ensures { λ r. ⌜ outcome r (now (out .exit)) ≡ expandBytes (now (input .entry)) (now (out .entry)) ⌝ }
+fn expand_input(input: &[u8], out: &mut [u8], edition: u32) -> u32
+    ensures { λ r. ⌜ outcome r (now (out .exit)) ≡ expandBytes (arityOf edition) (now (input .entry)) (now (out .entry)) ⌝ }
 {
     let bytes = input.len();
     if bytes % 4 != 0 {
@@ -150,22 +157,44 @@ pub extern "C" fn tables_expand(input: &[u8], out: &mut [u8]) -> u32
     if n <= 16 {
         let mut form = [0u32; 16];
         let mut cells = [0u32; 32];
-        return expand_with(input, n, &mut form, &mut cells, out);
+        return expand_with(input, n, &mut form, &mut cells, out, edition);
     }
     if n <= 64 {
         let mut form = [0u32; 64];
         let mut cells = [0u32; 128];
-        return expand_with(input, n, &mut form, &mut cells, out);
+        return expand_with(input, n, &mut form, &mut cells, out, edition);
     }
     if n <= 128 {
         let mut form = [0u32; 128];
         let mut cells = [0u32; 256];
-        return expand_with(input, n, &mut form, &mut cells, out);
+        return expand_with(input, n, &mut form, &mut cells, out, edition);
     }
     if n <= 383 {
         let mut form = [0u32; 383];
         let mut cells = [0u32; 766];
-        return expand_with(input, n, &mut form, &mut cells, out);
+        return expand_with(input, n, &mut form, &mut cells, out, edition);
     }
     REFUSED + 13
+}
+
+// Compacts one term in the edition of this number.
+#[no_mangle]
+pub extern "C" fn tables_compact(input: &[u8], out: &mut [u8], edition: u32) -> u32
+    ensures { λ r. ⌜ outcome r (now (out .exit)) ≡ outcomeIn edition (compactBytes (arityOf edition) (now (input .entry)) (now (out .entry))) (now (out .entry)) ⌝ }
+{
+    if forms::is_converter_edition(edition) {
+        return compact_input(input, out, edition);
+    }
+    REFUSED + 1
+}
+
+// Expands the form of one term in the edition of this number.
+#[no_mangle]
+pub extern "C" fn tables_expand(input: &[u8], out: &mut [u8], edition: u32) -> u32
+    ensures { λ r. ⌜ outcome r (now (out .exit)) ≡ outcomeIn edition (expandBytes (arityOf edition) (now (input .entry)) (now (out .entry))) (now (out .entry)) ⌝ }
+{
+    if forms::is_converter_edition(edition) {
+        return expand_input(input, out, edition);
+    }
+    REFUSED + 1
 }

@@ -1,8 +1,9 @@
 -- What compacting and expanding answer, and what is in out afterwards, for every list of cells and every length of out.
 use Prim.Native.Nat.{ℕ}
+use mathlib.Core.Bool.{Bool, true}
 use mathlib.Core.List.{List, [], _++_}
 use lib.ListN.{length, drop}
-use lib.Dec.{leb, ltb}
+use lib.Dec.{eqb, leb, ltb}
 use Rattle.basis.specs.Choice.{pick}
 use Rattle.forms.specs.declared.Reading.{Reading}
 use Rattle.forms.specs.declared.Reading.the-variants.{Form, Refusal}
@@ -47,6 +48,14 @@ compacting arity m cs room = fittingForm (reading arity m cs) room
 -- expanding m terms into an out of `room` cells: refusals 13 and 12, in this order
 unfoldable pub expanding : (ℕ → ℕ) → ℕ → List ℕ → ℕ → Answer
 expanding arity m cs room = fittingTerms (loading arity m cs) room
+
+-- the editions that a converter takes: 1 and 2, whatever editions of a space there are
+unfoldable pub converterEdition : ℕ → Bool
+converterEdition e = pick (eqb e 1) true (eqb e 2)
+
+-- a converter's answer in the edition of this number; another number is refused (1), before all else
+unfoldable pub inEdition : ℕ → Answer → Answer
+inEdition e answer = pick (converterEdition e) answer (Refused 1)
 
 -- what is in out afterwards: the cells written before what was there; refused, what was there
 unfoldable pub written : Answer → List ℕ → List ℕ → List ℕ

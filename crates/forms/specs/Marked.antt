@@ -1,10 +1,11 @@
--- The marked terms M1 to M8 of the request.
+-- The marked terms M1 to M8 of the request, and beside them one of edition 2.
 use Prim.Native.Nat.{ℕ, _+_, _*_}
-use mathlib.Core.List.{List, [], _∷_}
+use mathlib.Core.List.{List, [], _∷_, _++_}
 use mathlib.Core.Path.{_≡_, refl}
+use lib.ListN.{replicate}
 use Rattle.forms.specs.declared.Answer.{Answer}
 use Rattle.forms.specs.declared.Answer.the-variants.{Cells, Refused, Short}
-use Rattle.forms.specs.Cells.{tag, nil, PAIR, BLIST, ELIST, EPAIR, shapeOf, symbolic, tokenOf, arity16}
+use Rattle.forms.specs.Cells.{tag, nil, PAIR, BLIST, ELIST, EPAIR, shapeOf, symbolic, tokenOf, arityOf}
 use Rattle.forms.specs.Terms.{Term, pairs, every, applied, paired, begun, reads, areTerms}
 use Rattle.forms.specs.Numbering.{rank, seen, met, renamed, numbered}
 use Rattle.forms.specs.Compact.{compact, elements, compactForm, filled, lastOf, tailOf, inside, into, collected, whole, entered, items, front, formTerms, pairForm, same, areForms, legalForm}
@@ -22,25 +23,44 @@ fun name arity = tag 4 (name * 16 + arity)
 abbrev pub MarkedTerms : Type 0
 MarkedTerms =
     -- M1 f(X,g(Y,X),Z)
-    (compactForm arity16 (fun 1 3 ∷ var 7 ∷ fun 2 2 ∷ var 9 ∷ var 7 ∷ var 8 ∷ []) ≡ fun 1 3 ∷ var 0 ∷ fun 2 2 ∷ var 1 ∷ var 0 ∷ var 2 ∷ [])
+    (compactForm (arityOf 1) (fun 1 3 ∷ var 7 ∷ fun 2 2 ∷ var 9 ∷ var 7 ∷ var 8 ∷ []) ≡ fun 1 3 ∷ var 0 ∷ fun 2 2 ∷ var 1 ∷ var 0 ∷ var 2 ∷ [])
     -- M2 f(g(Y,Z),X,Z)
-    × (compactForm arity16 (fun 1 3 ∷ fun 2 2 ∷ var 9 ∷ var 8 ∷ var 7 ∷ var 8 ∷ []) ≡ fun 1 3 ∷ fun 2 2 ∷ var 0 ∷ var 1 ∷ var 2 ∷ var 1 ∷ [])
+    × (compactForm (arityOf 1) (fun 1 3 ∷ fun 2 2 ∷ var 9 ∷ var 8 ∷ var 7 ∷ var 8 ∷ []) ≡ fun 1 3 ∷ fun 2 2 ∷ var 0 ∷ var 1 ∷ var 2 ∷ var 1 ∷ [])
     -- M3 [1,2,3]
-    × (compactForm arity16 (PAIR ∷ int 1 ∷ PAIR ∷ int 2 ∷ PAIR ∷ int 3 ∷ nil ∷ []) ≡ BLIST ∷ int 1 ∷ int 2 ∷ ELIST ∷ int 3 ∷ [])
+    × (compactForm (arityOf 1) (PAIR ∷ int 1 ∷ PAIR ∷ int 2 ∷ PAIR ∷ int 3 ∷ nil ∷ []) ≡ BLIST ∷ int 1 ∷ int 2 ∷ ELIST ∷ int 3 ∷ [])
     -- M4 [1,2|3]
-    × (compactForm arity16 (PAIR ∷ int 1 ∷ PAIR ∷ int 2 ∷ int 3 ∷ []) ≡ BLIST ∷ int 1 ∷ int 2 ∷ EPAIR ∷ int 3 ∷ [])
+    × (compactForm (arityOf 1) (PAIR ∷ int 1 ∷ PAIR ∷ int 2 ∷ int 3 ∷ []) ≡ BLIST ∷ int 1 ∷ int 2 ∷ EPAIR ∷ int 3 ∷ [])
     -- M5 [1,[2,3],[]]
-    × (compactForm arity16 (PAIR ∷ int 1 ∷ PAIR ∷ PAIR ∷ int 2 ∷ PAIR ∷ int 3 ∷ nil ∷ PAIR ∷ nil ∷ nil ∷ []) ≡ BLIST ∷ int 1 ∷ BLIST ∷ int 2 ∷ ELIST ∷ int 3 ∷ ELIST ∷ nil ∷ [])
+    × (compactForm (arityOf 1) (PAIR ∷ int 1 ∷ PAIR ∷ PAIR ∷ int 2 ∷ PAIR ∷ int 3 ∷ nil ∷ PAIR ∷ nil ∷ nil ∷ []) ≡ BLIST ∷ int 1 ∷ BLIST ∷ int 2 ∷ ELIST ∷ int 3 ∷ ELIST ∷ nil ∷ [])
     -- M6 [1|2]: four tokens from three cells
-    × (compactForm arity16 (PAIR ∷ int 1 ∷ int 2 ∷ []) ≡ BLIST ∷ int 1 ∷ EPAIR ∷ int 2 ∷ [])
-    × (compacting arity16 1 (PAIR ∷ int 1 ∷ int 2 ∷ []) 4 ≡ Cells 4)
+    × (compactForm (arityOf 1) (PAIR ∷ int 1 ∷ int 2 ∷ []) ≡ BLIST ∷ int 1 ∷ EPAIR ∷ int 2 ∷ [])
+    × (compacting (arityOf 1) 1 (PAIR ∷ int 1 ∷ int 2 ∷ []) 4 ≡ Cells 4)
     -- the terms of an answer are numbered together, and a list that ends in a term has that term as its tail
-    × (compactForm arity16 (var 7 ∷ var 9 ∷ []) ≡ var 0 ∷ var 1 ∷ [])
-    × (pairForm arity16 (BLIST ∷ int 1 ∷ int 2 ∷ EPAIR ∷ int 3 ∷ []) ≡ PAIR ∷ int 1 ∷ PAIR ∷ int 2 ∷ int 3 ∷ [])
+    × (compactForm (arityOf 1) (var 7 ∷ var 9 ∷ []) ≡ var 0 ∷ var 1 ∷ [])
+    × (pairForm (arityOf 1) (BLIST ∷ int 1 ∷ int 2 ∷ EPAIR ∷ int 3 ∷ []) ≡ PAIR ∷ int 1 ∷ PAIR ∷ int 2 ∷ int 3 ∷ [])
     -- M7 and M8 are 13
-    × (expanding arity16 1 (BLIST ∷ EPAIR ∷ int 1 ∷ []) 256 ≡ Refused 13)
-    × (expanding arity16 1 (BLIST ∷ int 1 ∷ EPAIR ∷ nil ∷ []) 256 ≡ Refused 13)
+    × (expanding (arityOf 1) 1 (BLIST ∷ EPAIR ∷ int 1 ∷ []) 256 ≡ Refused 13)
+    × (expanding (arityOf 1) 1 (BLIST ∷ int 1 ∷ EPAIR ∷ nil ∷ []) 256 ≡ Refused 13)
 
 pub marked : MarkedTerms
-unfolding compactForm reading loading fittingForm fittingTerms compacting expanding legalForm areTerms areForms fitting pairForm formTerms front symbolic tokenOf items entered filled lastOf tailOf into inside collected whole reads begun applied paired shapeOf every compact elements pairs numbered renamed met seen rank same
+unfolding compactForm reading loading fittingForm fittingTerms compacting expanding legalForm areTerms areForms fitting pairForm formTerms front symbolic tokenOf items entered filled lastOf tailOf into inside collected whole reads begun applied paired shapeOf arityOf every compact elements pairs numbered renamed met seen rank same
 marked = (refl, refl, refl, refl, refl, refl, refl, refl, refl, refl, refl)
+
+-- ---- edition 2
+
+-- a functor of 40 arguments: variables 7 and 9, thirty-seven integers, and variable 7 again
+abbrev wideTerm : ℕ → ℕ → List ℕ
+wideTerm first second = tag 4 (3 * 256 + 40) ∷ var first ∷ var second ∷ (replicate 37 (int 1) ++ (var first ∷ []))
+
+-- it is one term in edition 2; edition 1 reads 8 arguments and finds cells left over
+abbrev pub MarkedWide : Type 0
+MarkedWide =
+    (compactForm (arityOf 2) (wideTerm 7 9) ≡ wideTerm 0 1)
+    × (compacting (arityOf 2) 1 (wideTerm 7 9) 41 ≡ Cells 41)
+    × (expanding (arityOf 2) 1 (wideTerm 0 1) 41 ≡ Cells 41)
+    × (compacting (arityOf 1) 1 (wideTerm 7 9) 41 ≡ Refused 3)
+    × (expanding (arityOf 1) 1 (wideTerm 0 1) 41 ≡ Refused 13)
+
+pub marked-wide : MarkedWide
+unfolding compactForm reading loading fittingForm fittingTerms compacting expanding legalForm areTerms areForms fitting pairForm formTerms front symbolic tokenOf items entered filled lastOf tailOf into inside collected whole reads begun applied paired shapeOf arityOf every compact elements pairs numbered renamed met seen rank same
+marked-wide = (refl, refl, refl, refl, refl)

@@ -1,6 +1,7 @@
 // What a cell stands for, in pair form and in compact form, and what readers and converters answer.
 ghost use mathlib.Core.Path.{_≡_};
-ghost use Rattle.forms.specs.Cells.{shapeOf, arity16, payload, variable, constant, callable};
+ghost use Rattle.forms.specs.Cells.{shapeOf, arityOf, payload, variable, constant, callable};
+ghost use Rattle.forms.specs.Converting.{converterEdition};
 
 // What a cell of pair form stands for: a symbol that takes some arguments (a variable, an atom and
 // an integer take none), a pair, or nothing legal.
@@ -90,14 +91,34 @@ pub fn is_callable(c: u32) -> bool
     kind == 4
 }
 
-// The shape of a cell of edition 1.
-pub fn shape_of(c: u32) -> Shape
-    ensures { λ r. ⌜ r ≡ shapeOf arity16 c ⌝ }
+// Whether a converter takes the edition of this number.
+pub fn is_converter_edition(edition: u32) -> bool
+    ensures { λ r. ⌜ r ≡ converterEdition edition ⌝ }
+{
+    if edition == 1 {
+        return true;
+    }
+    edition == 2
+}
+
+// The arity in a functor's payload.
+fn arity_of(edition: u32, payload: u32) -> usize
+    ensures { λ r. ⌜ r ≡ arityOf edition payload ⌝ }
+{
+    if edition == 1 {
+        return basis::wide(payload % 16);
+    }
+    basis::wide(payload % 256)
+}
+
+// The shape of a cell.
+pub fn shape_of(c: u32, edition: u32) -> Shape
+    ensures { λ r. ⌜ r ≡ shapeOf (arityOf edition) c ⌝ }
 {
     let kind = c / 268435456;
     let payload = c % 268435456;
     if kind == 4 {
-        let k = (payload % 16) as usize;
+        let k = arity_of(edition, payload);
         if k == 0 {
             return Shape::Illegal;
         }

@@ -7,7 +7,7 @@ use lib.ListN.{length, getD, drop, set}
 use Rattle.basis.specs.Choice.{pick}
 use Rattle.forms.specs.Compact.{same}
 use Rattle.plain.specs.Words.{Word, trieNodes}
-use Rattle.plain.specs.Coding.{Coding, Reading, refused, accepted}
+use Rattle.plain.specs.Coding.{Coding, Reading, refused, accepted, codingOf}
 use Rattle.plain.specs.Requests.{State, Open, Finished, Request, call, answer, finish, next, load, instance, counts, Counts, Reply, new, oldSubgoal, oldAnswer, done, at, none, cells, used, refused, short, Result, Seen, trace}
 
 -- ---- state
@@ -202,3 +202,13 @@ step c t counts = becomes t (used (counted t))
 -- what is seen of a list of calls
 abbrev pub tableTrace : Coding → Table → List Request → List Seen
 tableTrace c t qs = trace (step c) counted t qs
+
+-- ---- the table of an edition
+
+-- The edition is chosen when the table is made, with N, F and A, and no call changes it; so it stands beside them here and is
+-- the parameter of every step, not a field that each change would copy.
+abbrev pub editionStep : ℕ → Table → Request → Result Table
+editionStep e = step (codingOf e)
+
+abbrev pub editionTrace : (e n f a : ℕ) → List Request → List Seen
+editionTrace e n f a qs = tableTrace (codingOf e) (fresh n f a) qs

@@ -1,8 +1,9 @@
--- Counts, next, load and instance leave the space as it is, and say no more cells written than were lent.
+-- Counts, next, load and instance leave the space as it is, which their contracts say too, and say no more cells written than
+-- were lent.
 use Prim.Native.Nat.{ℕ, _≤_}
-use mathlib.Core.Path.{_≡_, refl}
+use mathlib.Core.Path.{_≡_, refl, sym}
 use mathlib.Core.Bool.{Bool, true, false}
-use mathlib.Core.List.{List}
+use mathlib.Core.List.{List, []}
 use native.Mathlib.Omega.{arith}
 use lib.Dec.{eqb, leb, ltb}
 use lib.ListN.{length}
@@ -10,10 +11,10 @@ use borrow.Author.Tests.{leb-true}
 use Rattle.basis.specs.Choice.{pick}
 use Rattle.basis.proofs.Cases.{by-cases}
 use Rattle.plain.specs.Words.{Word}
-use Rattle.plain.specs.Coding.{Coding}
+use Rattle.plain.specs.Coding.{Coding, codingOf}
 use Rattle.plain.specs.Requests.{Reply, Request, next, load, instance, counts, lent, none, at, cells, refused, short}
-use Rattle.space.specs.Layout.{Sizes}
-use Rattle.space.specs.Heading.{headerOf}
+use Rattle.space.specs.Layout.{Sizes, sizesOf}
+use Rattle.space.specs.Heading.{spaceHeader}
 use Rattle.space.specs.declared.Head.{Head}
 use Rattle.space.specs.declared.Header.{Header}
 use Rattle.space.specs.declared.Header.the-variants as header
@@ -22,7 +23,8 @@ use Rattle.trie.specs.Paths as path
 use Rattle.store.specs.Views.{View, viewOf, subgoalTrie, answerTrie}
 use Rattle.store.specs.Decisions.{Decision, says, gives, refuses, soundSubgoal, soundAnswer, soundAnswerOf, soundPair, starting, handed, onward, onPath, loaded, instanced, decide}
 use Rattle.store.specs.Changes.{change}
-use Rattle.store.specs.Calls.{reply, under, cellStep}
+use Rattle.store.specs.Calls.{reply, under, underAny, spaceStep, Answers}
+use Rattle.store.proofs.AnswersLaws.{step-none}
 
 -- ---- what the decisions of a reading call have in common, if refusals have it
 
@@ -105,28 +107,33 @@ module _ (c : Coding) (v : View) where
   instance-reads a out = instance-comes Reads refuses-reads c v a out gives-reads
 
 -- a call whose decision writes nothing leaves the space, under any header
-module _ (z : Sizes) (c : Coding) (cs : List ℕ) (q : Request) where
-  under-stays : (e : Header) → ((v : View) → Reads (decide c v q)) → under z c cs q e .state ≡ cs
-  unfolding under
-  under-stays (header.Sound h) x = x (viewOf z cs h) z cs h
+module _ (cs : List ℕ) (q : Request) where
+  under-stays : (e : Header) → ((c : Coding) (v : View) → Reads (decide c v q)) → cs ≡ underAny cs q e .state
+  unfolding underAny under
+  under-stays (header.Sound h) x = sym (x _ _ _ cs h)
   under-stays (header.Refused r) x = refl
 
-  pub step-stays : ((v : View) → Reads (decide c v q)) → cellStep z c cs q .state ≡ cs
-  unfolding cellStep
-  step-stays x = under-stays (headerOf z cs) x
+  step-stays : ((c : Coding) (v : View) → Reads (decide c v q)) → cs ≡ spaceStep cs q .state
+  unfolding spaceStep
+  step-stays x = under-stays (spaceHeader cs) x
 
-module _ (z : Sizes) (c : Coding) (cs : List ℕ) where
-  pub counts-stays : cellStep z c cs counts .state ≡ cs
-  counts-stays = step-stays z c cs counts (λ v. counts-reads c v)
+-- ---- so their contracts follow from what they answer and leave in out
 
-  pub next-stays : (s a : ℕ) → cellStep z c cs (next s a) .state ≡ cs
-  next-stays s a = step-stays z c cs (next s a) (λ v. next-reads c v s a)
+module _ (cs : List ℕ) (r : Reply) where
+  pub counts-answers : r ≡ spaceStep cs counts .reply → Answers cs counts r [] cs
+  unfolding lent
+  counts-answers e = (e, step-none cs counts refl, step-stays cs counts counts-reads)
 
-  pub load-stays : (a : ℕ) (out : List ℕ) → cellStep z c cs (load a out) .state ≡ cs
-  load-stays a out = step-stays z c cs (load a out) (λ v. load-reads c v a out)
+  pub next-answers : (s a : ℕ) → r ≡ spaceStep cs (next s a) .reply → Answers cs (next s a) r [] cs
+  unfolding lent
+  next-answers s a e = (e, step-none cs (next s a) refl, step-stays cs (next s a) (λ c v. next-reads c v s a))
 
-  pub instance-stays : (a : ℕ) (out : List ℕ) → cellStep z c cs (instance a out) .state ≡ cs
-  instance-stays a out = step-stays z c cs (instance a out) (λ v. instance-reads c v a out)
+  module _ (a : ℕ) (out out′ : List ℕ) where
+    pub load-answers : (r ≡ spaceStep cs (load a out) .reply) × (out′ ≡ spaceStep cs (load a out) .out) → Answers cs (load a out) r out′ cs
+    load-answers k = (k .0, k .1, step-stays cs (load a out) (λ c v. load-reads c v a out))
+
+    pub instance-answers : (r ≡ spaceStep cs (instance a out) .reply) × (out′ ≡ spaceStep cs (instance a out) .out) → Answers cs (instance a out) r out′ cs
+    instance-answers k = (k .0, k .1, step-stays cs (instance a out) (λ c v. instance-reads c v a out))
 
 -- ---- the cells that are said to be written were lent
 
@@ -144,17 +151,17 @@ gives-fits ks v room n e =
     (λ t. let l = leb-true (length ks) room t in let f : cells (length ks) ≡ cells n = rw t at e in let q : length ks ≡ n = cc in omega arith)
     (λ t. let f : short (length ks) ≡ cells n = rw t at e in let z : _≡_ {A = ℕ} 0 1 = cc in absurd (omega arith))
 
-module _ (z : Sizes) (c : Coding) (cs : List ℕ) where
-  under-fits : (q : Request) (e : Header) → ((v : View) → Fits (decide c v q)) → (n : ℕ) → under z c cs q e .reply ≡ cells n → n ≤ length (lent q)
-  unfolding under
-  under-fits q (header.Sound h) x n e = x (viewOf z cs h) (viewOf z cs h) (length (lent q)) n e
+module _ (cs : List ℕ) where
+  under-fits : (q : Request) (e : Header) → ((c : Coding) (v : View) → Fits (decide c v q)) → (n : ℕ) → underAny cs q e .reply ≡ cells n → n ≤ length (lent q)
+  unfolding underAny under
+  under-fits q (header.Sound h) x n e = x (codingOf (h .edition)) (viewOf (sizesOf (h .edition)) cs h) (viewOf (sizesOf (h .edition)) cs h) (length (lent q)) n e
   under-fits q (header.Refused r) x n e = let z : _≡_ {A = ℕ} 0 1 = cc in absurd (omega arith)
 
   module _ (a : ℕ) (out : List ℕ) (n : ℕ) where
-    pub load-fits : cellStep z c cs (load a out) .reply ≡ cells n → n ≤ length out
-    unfolding cellStep lent
-    load-fits e = under-fits (load a out) (headerOf z cs) (λ v. load-comes Fits refuses-fits c v a out gives-fits) n e
+    pub load-fits : spaceStep cs (load a out) .reply ≡ cells n → n ≤ length out
+    unfolding spaceStep lent
+    load-fits e = under-fits (load a out) (spaceHeader cs) (λ c v. load-comes Fits refuses-fits c v a out gives-fits) n e
 
-    pub instance-fits : cellStep z c cs (instance a out) .reply ≡ cells n → n ≤ length out
-    unfolding cellStep lent
-    instance-fits e = under-fits (instance a out) (headerOf z cs) (λ v. instance-comes Fits refuses-fits c v a out gives-fits) n e
+    pub instance-fits : spaceStep cs (instance a out) .reply ≡ cells n → n ≤ length out
+    unfolding spaceStep lent
+    instance-fits e = under-fits (instance a out) (spaceHeader cs) (λ c v. instance-comes Fits refuses-fits c v a out gives-fits) n e

@@ -17,22 +17,23 @@ use store::CountsAnswer;
 use store::NextAnswer;
 ghost use mathlib.Core.Path.{_≡_};
 ghost use mathlib.Core.Bool.{true};
+ghost use mathlib.Core.List.{[]};
 ghost use Prim.Native.Nat.{_≤_, _<_};
 ghost use lib.ListN.{length};
-ghost use Rattle.forms.specs.Cells.{arity16};
+ghost use Rattle.forms.specs.Cells.{arityOf};
 ghost use Rattle.forms.specs.Compact.{pairForm};
-ghost use Rattle.plain.specs.Coding.{edition1};
+ghost use Rattle.plain.specs.Coding.{codingOf};
 ghost use Rattle.plain.specs.Requests.{next, load, instance, counts};
-ghost use Rattle.space.specs.Layout.{sizes};
+ghost use Rattle.space.specs.Layout.{sizesOf};
 ghost use Rattle.space.specs.Sound.{Bounds};
 ghost use Rattle.store.specs.Views.{viewOf};
 ghost use Rattle.store.specs.Decisions.{says, gives, soundPair, starting, handed, onward, loaded, instanced, decide};
-ghost use Rattle.store.specs.Calls.{reply, outAfter, cellStep};
+ghost use Rattle.store.specs.Calls.{reply, outAfter, Answers};
 ghost use Rattle.store.specs.Replies.{saidNext, saidCells, saidCounts};
 
 // Nodes, subgoals and answers used.
 pub fn counts(space: &[u32]) -> CountsAnswer
-    ensures { λ r. ⌜ saidCounts r ≡ cellStep sizes edition1 (now (space .entry)) counts .reply ⌝ }
+    ensures { λ r. ⌜ Answers (now (space .entry)) counts (saidCounts r) [] (now (space .entry)) ⌝ }
 {
     let header = read_header(space);
     let Header::Sound(h) = header else {
@@ -51,7 +52,7 @@ pub fn counts(space: &[u32]) -> CountsAnswer
 // Answer a, which a record names, is handed out: it is to be the subgoal's.
 fn hand_out(space: &[u32], h: Head, s: usize, a: usize) -> NextAnswer
     requires { ⌜ Bounds (now space) h × (a ≤ h .answers) ⌝ }
-    ensures { λ r. ⌜ says (saidNext r) ≡ handed (viewOf sizes (now (space .entry)) h) s a ⌝ }
+    ensures { λ r. ⌜ says (saidNext r) ≡ handed (viewOf (sizesOf (h .edition)) (now (space .entry)) h) s a ⌝ }
 {
     if a == 0 {
         return NextAnswer::NoMore;
@@ -69,7 +70,7 @@ fn hand_out(space: &[u32], h: Head, s: usize, a: usize) -> NextAnswer
 // From answer a on, or from the subgoal's first answer.
 fn go_on(space: &[u32], h: Head, s: usize, a: usize) -> NextAnswer
     requires { ⌜ Bounds (now space) h × (1 ≤ s) × (s ≤ h .subgoals) × (a ≤ h .answers) ⌝ }
-    ensures { λ r. ⌜ says (saidNext r) ≡ onward (viewOf sizes (now (space .entry)) h) s a ⌝ }
+    ensures { λ r. ⌜ says (saidNext r) ≡ onward (viewOf (sizesOf (h .edition)) (now (space .entry)) h) s a ⌝ }
 {
     let SubgoalRead::Sound(g) = read_subgoal(space, h, s) else {
         return NextAnswer::Refused(9);
@@ -86,7 +87,7 @@ fn go_on(space: &[u32], h: Head, s: usize, a: usize) -> NextAnswer
 // May next start at a? The record of a is taken as it stands.
 fn starts(space: &[u32], h: Head, s: usize, a: usize) -> bool
     requires { ⌜ Bounds (now space) h ⌝ }
-    ensures { λ r. ⌜ r ≡ starting (viewOf sizes (now (space .entry)) h) s a ⌝ }
+    ensures { λ r. ⌜ r ≡ starting (viewOf (sizesOf (h .edition)) (now (space .entry)) h) s a ⌝ }
 {
     if a == 0 {
         return true;
@@ -101,7 +102,7 @@ fn starts(space: &[u32], h: Head, s: usize, a: usize) -> bool
 // Next, under a sound header.
 fn next_in(space: &[u32], h: Head, s: usize, a: usize) -> NextAnswer
     requires { ⌜ Bounds (now space) h ⌝ }
-    ensures { λ r. ⌜ says (saidNext r) ≡ decide edition1 (viewOf sizes (now (space .entry)) h) (next s a) ⌝ }
+    ensures { λ r. ⌜ says (saidNext r) ≡ decide (codingOf (h .edition)) (viewOf (sizesOf (h .edition)) (now (space .entry)) h) (next s a) ⌝ }
 {
     if s == 0 {
         return NextAnswer::Refused(7);
@@ -117,7 +118,7 @@ fn next_in(space: &[u32], h: Head, s: usize, a: usize) -> NextAnswer
 
 // The subgoal's first answer after a given one, or after none.
 pub fn next(space: &[u32], subgoal: u32, after: u32) -> NextAnswer
-    ensures { λ r. ⌜ saidNext r ≡ cellStep sizes edition1 (now (space .entry)) (next subgoal after) .reply ⌝ }
+    ensures { λ r. ⌜ Answers (now (space .entry)) (next subgoal after) (saidNext r) [] (now (space .entry)) ⌝ }
 {
     let header = read_header(space);
     let Header::Sound(h) = header else {
@@ -132,7 +133,7 @@ pub fn next(space: &[u32], subgoal: u32, after: u32) -> NextAnswer
 // Are answer a and the subgoal that it names sound?
 fn pair_sound(space: &[u32], h: Head, a: usize) -> bool
     requires { ⌜ Bounds (now space) h × (1 ≤ a) × (a ≤ h .answers) ⌝ }
-    ensures { λ r. ⌜ r ≡ soundPair (viewOf sizes (now (space .entry)) h) a ⌝ }
+    ensures { λ r. ⌜ r ≡ soundPair (viewOf (sizesOf (h .edition)) (now (space .entry)) h) a ⌝ }
 {
     let AnswerRead::Sound(y) = read_answer(space, h, a) else {
         return false;
@@ -146,8 +147,8 @@ fn pair_sound(space: &[u32], h: Head, a: usize) -> bool
 // Load of an answer whose records are sound.
 fn load_with(space: &[u32], h: Head, a: usize, out: &mut [u32]) -> Answer
     requires { ⌜ Bounds (now space) h × (1 ≤ a) × (a ≤ h .answers) ⌝ }
-    requires { ⌜ soundPair (viewOf sizes (now space) h) a ≡ true ⌝ }
-    ensures { λ r. ⌜ (saidCells r ≡ reply (viewOf sizes (now (space .entry)) h) (loaded edition1 (viewOf sizes (now (space .entry)) h) a (λ w. gives (pairForm arity16 w))) (length (now (out .entry)))) × (now (out .exit) ≡ outAfter (loaded edition1 (viewOf sizes (now (space .entry)) h) a (λ w. gives (pairForm arity16 w))) (now (out .entry))) ⌝ }
+    requires { ⌜ soundPair (viewOf (sizesOf (h .edition)) (now space) h) a ≡ true ⌝ }
+    ensures { λ r. ⌜ (saidCells r ≡ reply (viewOf (sizesOf (h .edition)) (now (space .entry)) h) (loaded (codingOf (h .edition)) (viewOf (sizesOf (h .edition)) (now (space .entry)) h) a (λ w. gives (pairForm (arityOf (h .edition)) w))) (length (now (out .entry)))) × (now (out .exit) ≡ outAfter (loaded (codingOf (h .edition)) (viewOf (sizesOf (h .edition)) (now (space .entry)) h) a (λ w. gives (pairForm (arityOf (h .edition)) w))) (now (out .entry))) ⌝ }
 {
     let y = answer_in(space, h, a);
     let g = subgoal_in(space, h, y.subgoal);
@@ -157,7 +158,7 @@ fn load_with(space: &[u32], h: Head, a: usize, out: &mut [u32]) -> Answer
 // Load, under a sound header.
 fn load_in(space: &[u32], h: Head, a: usize, out: &mut [u32]) -> Answer
     requires { ⌜ Bounds (now space) h ⌝ }
-    ensures { λ r. ⌜ (saidCells r ≡ reply (viewOf sizes (now (space .entry)) h) (decide edition1 (viewOf sizes (now (space .entry)) h) (load a (now (out .entry)))) (length (now (out .entry)))) × (now (out .exit) ≡ outAfter (decide edition1 (viewOf sizes (now (space .entry)) h) (load a (now (out .entry)))) (now (out .entry))) ⌝ }
+    ensures { λ r. ⌜ (saidCells r ≡ reply (viewOf (sizesOf (h .edition)) (now (space .entry)) h) (decide (codingOf (h .edition)) (viewOf (sizesOf (h .edition)) (now (space .entry)) h) (load a (now (out .entry)))) (length (now (out .entry)))) × (now (out .exit) ≡ outAfter (decide (codingOf (h .edition)) (viewOf (sizesOf (h .edition)) (now (space .entry)) h) (load a (now (out .entry)))) (now (out .entry))) ⌝ }
 {
     if a == 0 {
         return Answer::Refused(7);
@@ -173,7 +174,7 @@ fn load_in(space: &[u32], h: Head, a: usize, out: &mut [u32]) -> Answer
 
 // The terms of an answer in pair form.
 pub fn load(space: &[u32], answer: u32, out: &mut [u32]) -> Answer
-    ensures { λ r. ⌜ (saidCells r ≡ cellStep sizes edition1 (now (space .entry)) (load answer (now (out .entry))) .reply) × (now (out .exit) ≡ cellStep sizes edition1 (now (space .entry)) (load answer (now (out .entry))) .out) ⌝ }
+    ensures { λ r. ⌜ Answers (now (space .entry)) (load answer (now (out .entry))) (saidCells r) (now (out .exit)) (now (space .entry)) ⌝ }
 {
     let header = read_header(space);
     let Header::Sound(h) = header else {
@@ -188,8 +189,8 @@ pub fn load(space: &[u32], answer: u32, out: &mut [u32]) -> Answer
 // Instance of an answer whose records are sound.
 fn instance_with(space: &[u32], h: Head, a: usize, out: &mut [u32]) -> Answer
     requires { ⌜ Bounds (now space) h × (1 ≤ a) × (a ≤ h .answers) ⌝ }
-    requires { ⌜ soundPair (viewOf sizes (now space) h) a ≡ true ⌝ }
-    ensures { λ r. ⌜ (saidCells r ≡ reply (viewOf sizes (now (space .entry)) h) (loaded edition1 (viewOf sizes (now (space .entry)) h) a (λ w. instanced edition1 (viewOf sizes (now (space .entry)) h) ((viewOf sizes (now (space .entry)) h) .answer a .subgoal) (λ u. gives (edition1 .instanceOf u w)))) (length (now (out .entry)))) × (now (out .exit) ≡ outAfter (loaded edition1 (viewOf sizes (now (space .entry)) h) a (λ w. instanced edition1 (viewOf sizes (now (space .entry)) h) ((viewOf sizes (now (space .entry)) h) .answer a .subgoal) (λ u. gives (edition1 .instanceOf u w)))) (now (out .entry))) ⌝ }
+    requires { ⌜ soundPair (viewOf (sizesOf (h .edition)) (now space) h) a ≡ true ⌝ }
+    ensures { λ r. ⌜ (saidCells r ≡ reply (viewOf (sizesOf (h .edition)) (now (space .entry)) h) (loaded (codingOf (h .edition)) (viewOf (sizesOf (h .edition)) (now (space .entry)) h) a (λ w. instanced (codingOf (h .edition)) (viewOf (sizesOf (h .edition)) (now (space .entry)) h) ((viewOf (sizesOf (h .edition)) (now (space .entry)) h) .answer a .subgoal) (λ u. gives ((codingOf (h .edition)) .instanceOf u w)))) (length (now (out .entry)))) × (now (out .exit) ≡ outAfter (loaded (codingOf (h .edition)) (viewOf (sizesOf (h .edition)) (now (space .entry)) h) a (λ w. instanced (codingOf (h .edition)) (viewOf (sizesOf (h .edition)) (now (space .entry)) h) ((viewOf (sizesOf (h .edition)) (now (space .entry)) h) .answer a .subgoal) (λ u. gives ((codingOf (h .edition)) .instanceOf u w)))) (now (out .entry))) ⌝ }
 {
     let y = answer_in(space, h, a);
     let g = subgoal_in(space, h, y.subgoal);
@@ -199,7 +200,7 @@ fn instance_with(space: &[u32], h: Head, a: usize, out: &mut [u32]) -> Answer
 // Instance, under a sound header.
 fn instance_in(space: &[u32], h: Head, a: usize, out: &mut [u32]) -> Answer
     requires { ⌜ Bounds (now space) h ⌝ }
-    ensures { λ r. ⌜ (saidCells r ≡ reply (viewOf sizes (now (space .entry)) h) (decide edition1 (viewOf sizes (now (space .entry)) h) (instance a (now (out .entry)))) (length (now (out .entry)))) × (now (out .exit) ≡ outAfter (decide edition1 (viewOf sizes (now (space .entry)) h) (instance a (now (out .entry)))) (now (out .entry))) ⌝ }
+    ensures { λ r. ⌜ (saidCells r ≡ reply (viewOf (sizesOf (h .edition)) (now (space .entry)) h) (decide (codingOf (h .edition)) (viewOf (sizesOf (h .edition)) (now (space .entry)) h) (instance a (now (out .entry)))) (length (now (out .entry)))) × (now (out .exit) ≡ outAfter (decide (codingOf (h .edition)) (viewOf (sizesOf (h .edition)) (now (space .entry)) h) (instance a (now (out .entry)))) (now (out .entry))) ⌝ }
 {
     if a == 0 {
         return Answer::Refused(7);
@@ -215,7 +216,7 @@ fn instance_in(space: &[u32], h: Head, a: usize, out: &mut [u32]) -> Answer
 
 // The subgoal of an answer with variable i replaced by the answer's term i, in pair form.
 pub fn instance(space: &[u32], answer: u32, out: &mut [u32]) -> Answer
-    ensures { λ r. ⌜ (saidCells r ≡ cellStep sizes edition1 (now (space .entry)) (instance answer (now (out .entry))) .reply) × (now (out .exit) ≡ cellStep sizes edition1 (now (space .entry)) (instance answer (now (out .entry))) .out) ⌝ }
+    ensures { λ r. ⌜ Answers (now (space .entry)) (instance answer (now (out .entry))) (saidCells r) (now (out .exit)) (now (space .entry)) ⌝ }
 {
     let header = read_header(space);
     let Header::Sound(h) = header else {

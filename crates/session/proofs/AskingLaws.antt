@@ -13,10 +13,8 @@ use Rattle.forms.specs.Compact.{same}
 use Rattle.text.specs.Fields.{Fields, fields, Number, noNumber, number, Cells, noCells, cellsOf, firstNumber, behind, onlyNumber, hexCells}
 use Rattle.text.specs.Digits.{Puts}
 use Rattle.text.proofs.DigitsLaws.{sets-append}
-use Rattle.plain.specs.Coding.{edition1}
 use Rattle.plain.specs.Requests.{Request, Reply, call, answer, finish, next, load, instance, counts}
-use Rattle.space.specs.Layout.{sizes}
-use Rattle.store.specs.Calls.{cellStep}
+use Rattle.store.specs.Calls.{spaceStep}
 use Rattle.session.specs.Lines.{Meaning, bad, asks, withCells, withNumber, oneNumber, twoNumbers, numberAndCells, noField, wordCall, wordAnswer, wordFinish, wordNext, wordLoad, wordInstance, wordCounts, wordMeans, means}
 use Rattle.session.specs.Texts.{newline, textBad, replyText, textRoom}
 use Rattle.session.specs.Session.{Said, outLeft, says, Leaves, response, responding}
@@ -54,33 +52,33 @@ some-bad fs gs g q e = ap (λ (hs : List (List ℕ)). noField hs q) e
 -- ---- what is left
 
 module _ (space out text after : List ℕ) (end : ℕ) (m : Meaning) where
-  pub bad-leaves : m ≡ bad → Puts 0 textBad text end after → Leaves (says (cellStep sizes edition1) m space out) text end after space
+  pub bad-leaves : m ≡ bad → Puts 0 textBad text end after → Leaves (says spaceStep m space out) text end after space
   unfolding says
   bad-leaves e p = rw e (p, refl)
 
-  pub asks-leaves : (q : Request) (x : Reply) (space′ : List ℕ) → m ≡ asks q → x ≡ cellStep sizes edition1 space q .reply → space′ ≡ cellStep sizes edition1 space q .state
-      → Puts 0 (replyText x (cellStep sizes edition1 space q .out)) text end after → Leaves (says (cellStep sizes edition1) m space out) text end after space′
+  pub asks-leaves : (q : Request) (x : Reply) (space′ : List ℕ) → m ≡ asks q → x ≡ spaceStep space q .reply → space′ ≡ spaceStep space q .state
+      → Puts 0 (replyText x (spaceStep space q .out)) text end after → Leaves (says spaceStep m space out) text end after space′
   unfolding says
   asks-leaves q x space′ e r s p = rw e (rw (← r) p, s)
 
 module _ (space out : List ℕ) (m : Meaning) where
-  pub bad-out : m ≡ bad → out ≡ says (cellStep sizes edition1) m space out .out
+  pub bad-out : m ≡ bad → out ≡ says spaceStep m space out .out
   unfolding says
   bad-out e = rw e refl
 
-  pub asks-out : (q : Request) → m ≡ asks q → outLeft q out (cellStep sizes edition1 space q .out) ≡ says (cellStep sizes edition1) m space out .out
+  pub asks-out : (q : Request) → m ≡ asks q → outLeft q out (spaceStep space q .out) ≡ says spaceStep m space out .out
   unfolding says
   asks-out q e = rw e refl
 
 pub leaves-alike : (space out text after space′ : List ℕ) (end : ℕ) (m n : Meaning) → m ≡ n
-    → Leaves (says (cellStep sizes edition1) n space out) text end after space′ → Leaves (says (cellStep sizes edition1) m space out) text end after space′
+    → Leaves (says spaceStep n space out) text end after space′ → Leaves (says spaceStep m space out) text end after space′
 leaves-alike space out text after space′ end m n e p = rw e p
 
 -- ---- the calls that leave out
 
 module _ (space out : List ℕ) where
   abbrev Keeps : Meaning → Type 0
-  Keeps m = out ≡ says (cellStep sizes edition1) m space out .out
+  Keeps m = out ≡ says spaceStep m space out .out
 
   pub keeps-alike : (m n : Meaning) → m ≡ n → Keeps n → Keeps m
   keeps-alike m n e k = rw e k
@@ -179,7 +177,7 @@ means-long line out h = rw (lt-leb _ _ h)
 
 module _ (line text space out after : List ℕ) (end : ℕ) where
   abbrev answered : Said (List ℕ)
-  answered = says (cellStep sizes edition1) (means line out) space out
+  answered = says spaceStep (means line out) space out
 
   pub response-none : length text < textRoom (length out) → response 0 text space out ≡ responding line text space out
   unfolding responding

@@ -1,14 +1,16 @@
 -- A session over cells prints what the plain table would: the promise, line by line.
 use Prim.Native.Nat.{ℕ}
+use mathlib.Core.Bool.{true}
 use mathlib.Core.List.{List, [], _∷_, _++_}
 use mathlib.Core.Path.{_≡_, refl, ap}
-use Rattle.plain.specs.Coding.{edition1}
+use Rattle.plain.specs.Coding.{codingOf}
 use Rattle.plain.specs.Requests.{Request, Result, left}
 use Rattle.plain.specs.Table.{fresh, step}
-use Rattle.space.specs.Layout.{sizes}
-use Rattle.space.specs.Fresh.{freshAnswer, freshSpace}
+use Rattle.basis.specs.Editions.{knownEdition}
+use Rattle.space.specs.Layout.{sizesOf}
+use Rattle.space.specs.Fresh.{freshAnswer, freshSpace, freshAnswerIn, freshSpaceIn}
 use Rattle.space.specs.declared.FreshAnswer.the-variants.{Done}
-use Rattle.store.specs.Calls.{cellStep}
+use Rattle.store.specs.Calls.{spaceStep}
 use Rattle.agreement.proofs.Theorem.{following}
 use Rattle.session.specs.Lines.{Meaning, bad, asks, means}
 use Rattle.session.specs.Texts.{newline, textBad, replyText}
@@ -20,28 +22,32 @@ unfolding left
 left-more calls s [] q = refl
 left-more calls s (p ∷ qs) q = left-more calls (calls s p .state) qs q
 
-module _ (n f a : ℕ) (s : List ℕ) (d : freshAnswer sizes n f a s ≡ Done) where
+one-known : knownEdition 1 ≡ true
+unfolding knownEdition
+one-known = refl
+
+module _ (n f a : ℕ) (s : List ℕ) (d : freshAnswer (sizesOf 1) n f a s ≡ Done) where
   abbrev cells-left : List Request → List ℕ
-  cells-left qs = left (cellStep sizes edition1) (freshSpace sizes n f a s) qs
+  cells-left qs = left spaceStep (freshSpace (sizesOf 1) n f a s) qs
 
   -- a line, where the lines behind it print alike after any calls
   line-alike : (m : Meaning) (lines : List (List ℕ)) (qs : List Request) (out : List ℕ)
-      → ((ps : List Request) (out′ : List ℕ) → session (cellStep sizes edition1) lines (cells-left ps) out′ ≡ session (step edition1) lines (left (step edition1) (fresh n f a) ps) out′)
-      → (let r = says (cellStep sizes edition1) m (cells-left qs) out in r .text ++ (newline ∷ session (cellStep sizes edition1) lines (r .state) (r .out)))
-      ≡ (let r = says (step edition1) m (left (step edition1) (fresh n f a) qs) out in r .text ++ (newline ∷ session (step edition1) lines (r .state) (r .out)))
+      → ((ps : List Request) (out′ : List ℕ) → session spaceStep lines (cells-left ps) out′ ≡ session (step (codingOf 1)) lines (left (step (codingOf 1)) (fresh n f a) ps) out′)
+      → (let r = says spaceStep m (cells-left qs) out in r .text ++ (newline ∷ session spaceStep lines (r .state) (r .out)))
+      ≡ (let r = says (step (codingOf 1)) m (left (step (codingOf 1)) (fresh n f a) qs) out in r .text ++ (newline ∷ session (step (codingOf 1)) lines (r .state) (r .out)))
   unfolding says
   line-alike bad lines qs out k = ap (λ (t : List ℕ). textBad ++ (newline ∷ t)) (k qs out)
   line-alike (asks q) lines qs out k =
-      let e = following n f a s qs q d in
-      let r = step edition1 (left (step edition1) (fresh n f a) qs) q in
-      rw (left-more (cellStep sizes edition1) (freshSpace sizes n f a s) qs q, left-more (step edition1) (fresh n f a) qs q, e .0, e .1)
+      let e = following 1 one-known n f a s qs q d in
+      let r = step (codingOf 1) (left (step (codingOf 1)) (fresh n f a) qs) q in
+      rw (left-more spaceStep (freshSpace (sizesOf 1) n f a s) qs q, left-more (step (codingOf 1)) (fresh n f a) qs q, e .0, e .1)
       (ap (λ (t : List ℕ). replyText (r .reply) (r .out) ++ (newline ∷ t)) (k (qs ++ (q ∷ [])) (outLeft q out (r .out))))
 
-  lines-alike : (lines : List (List ℕ)) (qs : List Request) (out : List ℕ) → session (cellStep sizes edition1) lines (cells-left qs) out ≡ session (step edition1) lines (left (step edition1) (fresh n f a) qs) out
+  lines-alike : (lines : List (List ℕ)) (qs : List Request) (out : List ℕ) → session spaceStep lines (cells-left qs) out ≡ session (step (codingOf 1)) lines (left (step (codingOf 1)) (fresh n f a) qs) out
   unfolding session
   lines-alike [] qs out = refl
   lines-alike (line ∷ lines) qs out = line-alike (means line out) lines qs out (λ ps out′. lines-alike lines ps out′)
 
 pub printed : Printed
-unfolding left
+unfolding left freshAnswerIn freshSpaceIn knownEdition
 printed n f a s lines out d = lines-alike n f a s d lines [] out

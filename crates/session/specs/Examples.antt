@@ -3,16 +3,17 @@ use Prim.Native.Nat.{ℕ, _+_, _*_}
 use mathlib.Core.List.{List, [], _∷_, _++_}
 use mathlib.Core.Path.{_≡_, refl}
 use lib.ListN.{replicate}
+use Rattle.basis.specs.Editions.{knownEdition}
 use Rattle.forms.specs.Numbering.{rank, seen, met, renamed, numbered}
 use Rattle.forms.specs.Compact.{compact, elements, compactForm, filled, lastOf, tailOf, inside, into, collected, entered, items, front, formTerms, pairForm, same}
-use Rattle.forms.specs.Cells.{callable, tag, nil, PAIR, shapeOf, symbolic, tokenOf}
+use Rattle.forms.specs.Cells.{arityOf, callable, tag, nil, PAIR, shapeOf, symbolic, tokenOf}
 use Rattle.forms.specs.Terms.{pairs, every, applied, paired, begun, reads, areTerms}
 use Rattle.forms.specs.Converting.{reading}
 use Rattle.forms.specs.Compact.{areForms, legalForm}
-use Rattle.plain.specs.Coding.{judged, handedOn, predicate, compacted, substituted, edition1}
-use Rattle.space.specs.Layout.{sizes}
-use Rattle.space.specs.Heading.{inRange, capacity, whole, counted, headerOf}
-use Rattle.space.specs.Fresh.{freshCells}
+use Rattle.plain.specs.Coding.{judged, handedOn, predicate, compacted, substituted}
+use Rattle.space.specs.Layout.{subgoalWidth, answerWidth}
+use Rattle.space.specs.Heading.{inRange, capacity, whole, counted, headerOf, spaceHeader}
+use Rattle.space.specs.Fresh.{freshCells, freshFits, freshSpace, freshSpaceIn}
 use Rattle.space.specs.Judging.{follows, nodeSound, bothOrNeither, subgoalSound, answerSound}
 use Rattle.trie.specs.Siblings.{searchSiblings, searchChildren}
 use Rattle.trie.specs.Walks.{walkFrom, walk}
@@ -20,14 +21,14 @@ use Rattle.trie.specs.Paths.{gather}
 use Rattle.trie.specs.Append.{leadCell, appendNode, appendPath}
 use Rattle.store.specs.Decisions.{calledOld, calledNew, calledAt, called, answeredNew, answeredOld, answeredAt, answered, starting, handed, onward, onPath, loaded, instanced, decide}
 use Rattle.store.specs.Changes.{subgoalEntered, answerEntered, change}
-use Rattle.store.specs.Calls.{reply, outAfter, under, cellStep, cellTrace}
+use Rattle.store.specs.Calls.{reply, outAfter, under, underAny, spaceStep}
 use Rattle.plain.specs.Requests.{Open, Request, call, answer, finish, next, load, instance, counts, Reply, new, oldSubgoal, cells, used, refused, short, lent}
 use Rattle.plain.specs.Examples.{var, atom, fun}
 use Rattle.text.specs.Fields.{fields, valueFrom, numeral, hexCells}
 use Rattle.text.specs.Digits.{digitsBefore, cellTexts, numbered as with-number}
 use Rattle.session.specs.Lines.{wordMeans, means, bad, asks, wordCall, wordAnswer, wordFinish, wordNext, wordInstance, wordCounts}
 use Rattle.session.specs.Texts.{newline, replyText, textNew, textOld, textOpen, textDone, textAt, textNone, textCells, textCounts, textRefused}
-use Rattle.session.specs.Session.{says, session, cellSession}
+use Rattle.session.specs.Session.{sessionEdition, says, session, cellSession}
 
 -- "20000005"
 abbrev atom5 : List ℕ
@@ -94,6 +95,6 @@ sessionText =
     ∷ [])
 
 -- over a space that it fills, and an out of 7 cells
-pub worked : cellSession sessionLines (freshCells sizes 11 1 2 []) (replicate 7 0) ≡ sessionText
-unfolding session says means wordMeans fields valueFrom numeral hexCells replyText digitsBefore cellTexts lent inRange capacity counted headerOf freshCells follows nodeSound bothOrNeither subgoalSound answerSound searchSiblings searchChildren walkFrom walk gather leadCell appendNode appendPath calledOld calledNew calledAt called answeredNew answeredOld answeredAt answered starting handed onward onPath loaded instanced decide subgoalEntered answerEntered change reply outAfter under cellStep areForms legalForm judged handedOn reading callable predicate compacted substituted compactForm areTerms pairForm formTerms front symbolic tokenOf items entered filled lastOf tailOf into inside collected reads begun applied paired shapeOf every compact elements pairs numbered renamed met seen rank same whole
+pub worked : cellSession sessionLines (freshSpaceIn sessionEdition 11 1 2 (replicate 75 9)) (replicate 7 0) ≡ sessionText
+unfolding session says means wordMeans fields valueFrom numeral hexCells replyText digitsBefore cellTexts lent inRange capacity counted knownEdition headerOf spaceHeader subgoalWidth answerWidth freshCells freshFits freshSpace freshSpaceIn follows nodeSound bothOrNeither subgoalSound answerSound searchSiblings searchChildren walkFrom walk gather leadCell appendNode appendPath calledOld calledNew calledAt called answeredNew answeredOld answeredAt answered starting handed onward onPath loaded instanced decide subgoalEntered answerEntered change reply outAfter under underAny spaceStep areForms legalForm judged handedOn reading callable predicate compacted substituted compactForm areTerms pairForm formTerms front symbolic tokenOf items entered filled lastOf tailOf into inside collected reads begun applied paired shapeOf arityOf every compact elements pairs numbered renamed met seen rank same whole
 worked = refl

@@ -5,16 +5,19 @@ use mathlib.Core.Path.{_≡_}
 use lib.Dec.{leb}
 use lib.ListN.{length, drop}
 use Rattle.basis.specs.Choice.{pick}
-use Rattle.plain.specs.Coding.{edition1}
+use Rattle.plain.specs.Coding.{codingOf}
 use Rattle.plain.specs.Requests.{Request, Result, call, answer, finish, next, load, instance, counts}
 use Rattle.plain.specs.Table.{Table, fresh, step}
-use Rattle.space.specs.Layout.{sizes}
-use Rattle.space.specs.Fresh.{freshAnswer, freshSpace}
+use Rattle.space.specs.Fresh.{freshAnswerIn, freshSpaceIn}
 use Rattle.space.specs.declared.FreshAnswer.the-variants.{Done}
-use Rattle.store.specs.Calls.{cellStep}
+use Rattle.store.specs.Calls.{spaceStep}
 use Rattle.text.specs.Digits.{Puts}
 use Rattle.session.specs.Lines.{Meaning, bad, asks, means}
 use Rattle.session.specs.Texts.{newline, textBad, replyText, textRoom}
+
+-- the edition of the program's space
+abbrev pub sessionEdition : ℕ
+sessionEdition = 1
 
 -- the line printed, its newline not counted, the table and out
 pub record Said (S : Type 0) : Type 0 where
@@ -65,7 +68,7 @@ response n text space out = record { printed = n; text = text; space = space; ou
 -- a text that might be too short for the reply stays as it is, and so does all else
 unfoldable pub responding : List ℕ → List ℕ → List ℕ → List ℕ → Response
 responding line text space out =
-    let r = says (cellStep sizes edition1) (means line out) space out in
+    let r = says spaceStep (means line out) space out in
     let bytes = r .text ++ (newline ∷ []) in
     pick (leb (textRoom (length out)) (length text))
     (response (length bytes) (bytes ++ drop (length bytes) text) (r .state) (r .out))
@@ -73,13 +76,13 @@ responding line text space out =
 
 -- over a space, and over the plain table
 abbrev pub cellSession : List (List ℕ) → List ℕ → List ℕ → List ℕ
-cellSession = session (cellStep sizes edition1)
+cellSession = session spaceStep
 
 abbrev pub plainSession : List (List ℕ) → Table → List ℕ → List ℕ
-plainSession = session (step edition1)
+plainSession = session (step (codingOf sessionEdition))
 
 -- whatever the lines are, a session from a fresh space prints what the plain table would
 abbrev pub Printed : Type 0
 Printed =
-    (n f a : ℕ) (s : List ℕ) (lines : List (List ℕ)) (out : List ℕ) → freshAnswer sizes n f a s ≡ Done
-    → cellSession lines (freshSpace sizes n f a s) out ≡ plainSession lines (fresh n f a) out
+    (n f a : ℕ) (s : List ℕ) (lines : List (List ℕ)) (out : List ℕ) → freshAnswerIn sessionEdition n f a s ≡ Done
+    → cellSession lines (freshSpaceIn sessionEdition n f a s) out ≡ plainSession lines (fresh n f a) out

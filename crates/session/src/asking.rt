@@ -24,10 +24,8 @@ ghost use Prim.Native.Nat.{ℕ, _≤_};
 ghost use lib.ListN.{length};
 ghost use Rattle.text.specs.Fields.{hexCells};
 ghost use Rattle.text.specs.Places.{restAt, Ends};
-ghost use Rattle.plain.specs.Coding.{edition1};
 ghost use Rattle.plain.specs.Requests as request;
-ghost use Rattle.space.specs.Layout.{sizes};
-ghost use Rattle.store.specs.Calls.{cellStep};
+ghost use Rattle.store.specs.Calls.{spaceStep};
 ghost use Rattle.session.specs.Lines.{withCells, oneNumber, twoNumbers, numberAndCells, noField};
 ghost use Rattle.session.specs.Texts.{textRoom};
 ghost use Rattle.session.specs.Session.{says, Leaves};
@@ -35,7 +33,7 @@ ghost use Rattle.session.specs.Session.{says, Leaves};
 // call, with cells. A line of 4,096 bytes has room for 454.
 pub fn ask_call(line: &[u8], at: usize, space: &mut [u32], text: &mut [u8]) -> usize
     requires { ⌜ Ends (now line) at × (length (now line) ≤ 4096) × (64 ≤ length (now text)) ⌝ }
-    ensures { λ r. ⌜ ((out : List ℕ) → Leaves (says (cellStep sizes edition1) (withCells (hexCells (restAt (now (line .entry)) at)) request.call) (now (space .entry)) out) (now (text .entry)) r (now (text .exit)) (now (space .exit))) ⌝ }
+    ensures { λ r. ⌜ ((out : List ℕ) → Leaves (says spaceStep (withCells (hexCells (restAt (now (line .entry)) at)) request.call) (now (space .entry)) out) (now (text .entry)) r (now (text .exit)) (now (space .exit))) ⌝ }
 {
     let mut cells = [0u32; 456];
     let CellsRead::Cells(n) = read_cells(line, at, &mut cells) else {
@@ -48,7 +46,7 @@ pub fn ask_call(line: &[u8], at: usize, space: &mut [u32], text: &mut [u8]) -> u
 // answer, with a number and cells.
 pub fn ask_answer(line: &[u8], at: usize, space: &mut [u32], text: &mut [u8]) -> usize
     requires { ⌜ Ends (now line) at × (length (now line) ≤ 4096) × (64 ≤ length (now text)) ⌝ }
-    ensures { λ r. ⌜ ((out : List ℕ) → Leaves (says (cellStep sizes edition1) (numberAndCells (restAt (now (line .entry)) at) request.answer) (now (space .entry)) out) (now (text .entry)) r (now (text .exit)) (now (space .exit))) ⌝ }
+    ensures { λ r. ⌜ ((out : List ℕ) → Leaves (says spaceStep (numberAndCells (restAt (now (line .entry)) at) request.answer) (now (space .entry)) out) (now (text .entry)) r (now (text .exit)) (now (space .exit))) ⌝ }
 {
     let Numeral::Value(subgoal, end) = first_number(line, at) else {
         return print_bad(text);
@@ -64,7 +62,7 @@ pub fn ask_answer(line: &[u8], at: usize, space: &mut [u32], text: &mut [u8]) ->
 // finish, with a number.
 pub fn ask_finish(line: &[u8], at: usize, space: &mut [u32], text: &mut [u8]) -> usize
     requires { ⌜ Ends (now line) at × (64 ≤ length (now text)) ⌝ }
-    ensures { λ r. ⌜ ((out : List ℕ) → Leaves (says (cellStep sizes edition1) (oneNumber (restAt (now (line .entry)) at) request.finish) (now (space .entry)) out) (now (text .entry)) r (now (text .exit)) (now (space .exit))) ⌝ }
+    ensures { λ r. ⌜ ((out : List ℕ) → Leaves (says spaceStep (oneNumber (restAt (now (line .entry)) at) request.finish) (now (space .entry)) out) (now (text .entry)) r (now (text .exit)) (now (space .exit))) ⌝ }
 {
     let Numeral::Value(subgoal, _) = only_number(line, at) else {
         return print_bad(text);
@@ -76,7 +74,7 @@ pub fn ask_finish(line: &[u8], at: usize, space: &mut [u32], text: &mut [u8]) ->
 // next, with two numbers.
 pub fn ask_next(line: &[u8], at: usize, space: &[u32], text: &mut [u8]) -> usize
     requires { ⌜ Ends (now line) at × (64 ≤ length (now text)) ⌝ }
-    ensures { λ r. ⌜ ((out : List ℕ) → Leaves (says (cellStep sizes edition1) (twoNumbers (restAt (now (line .entry)) at) request.next) (now (space .entry)) out) (now (text .entry)) r (now (text .exit)) (now (space .entry))) ⌝ }
+    ensures { λ r. ⌜ ((out : List ℕ) → Leaves (says spaceStep (twoNumbers (restAt (now (line .entry)) at) request.next) (now (space .entry)) out) (now (text .entry)) r (now (text .exit)) (now (space .entry))) ⌝ }
 {
     let Numeral::Value(subgoal, end) = first_number(line, at) else {
         return print_bad(text);
@@ -91,7 +89,7 @@ pub fn ask_next(line: &[u8], at: usize, space: &[u32], text: &mut [u8]) -> usize
 // load, with a number. What was written to out is printed.
 pub fn ask_load(line: &[u8], at: usize, space: &[u32], out: &mut [u32], text: &mut [u8]) -> usize
     requires { ⌜ Ends (now line) at × (textRoom (length (now out)) ≤ length (now text)) ⌝ }
-    ensures { λ r. ⌜ Leaves (says (cellStep sizes edition1) (oneNumber (restAt (now (line .entry)) at) (λ a. request.load a (now (out .entry)))) (now (space .entry)) (now (out .entry))) (now (text .entry)) r (now (text .exit)) (now (space .entry)) × (now (out .exit) ≡ says (cellStep sizes edition1) (oneNumber (restAt (now (line .entry)) at) (λ a. request.load a (now (out .entry)))) (now (space .entry)) (now (out .entry)) .out) ⌝ }
+    ensures { λ r. ⌜ Leaves (says spaceStep (oneNumber (restAt (now (line .entry)) at) (λ a. request.load a (now (out .entry)))) (now (space .entry)) (now (out .entry))) (now (text .entry)) r (now (text .exit)) (now (space .entry)) × (now (out .exit) ≡ says spaceStep (oneNumber (restAt (now (line .entry)) at) (λ a. request.load a (now (out .entry)))) (now (space .entry)) (now (out .entry)) .out) ⌝ }
 {
     let Numeral::Value(number, _) = only_number(line, at) else {
         return print_bad(text);
@@ -109,7 +107,7 @@ pub fn ask_instance(
     text: &mut [u8],
 ) -> usize
     requires { ⌜ Ends (now line) at × (textRoom (length (now out)) ≤ length (now text)) ⌝ }
-    ensures { λ r. ⌜ Leaves (says (cellStep sizes edition1) (oneNumber (restAt (now (line .entry)) at) (λ a. request.instance a (now (out .entry)))) (now (space .entry)) (now (out .entry))) (now (text .entry)) r (now (text .exit)) (now (space .entry)) × (now (out .exit) ≡ says (cellStep sizes edition1) (oneNumber (restAt (now (line .entry)) at) (λ a. request.instance a (now (out .entry)))) (now (space .entry)) (now (out .entry)) .out) ⌝ }
+    ensures { λ r. ⌜ Leaves (says spaceStep (oneNumber (restAt (now (line .entry)) at) (λ a. request.instance a (now (out .entry)))) (now (space .entry)) (now (out .entry))) (now (text .entry)) r (now (text .exit)) (now (space .entry)) × (now (out .exit) ≡ says spaceStep (oneNumber (restAt (now (line .entry)) at) (λ a. request.instance a (now (out .entry)))) (now (space .entry)) (now (out .entry)) .out) ⌝ }
 {
     let Numeral::Value(number, _) = only_number(line, at) else {
         return print_bad(text);
@@ -121,7 +119,7 @@ pub fn ask_instance(
 // counts, with no field: the line ends behind the word.
 pub fn ask_counts(line: &[u8], at: usize, space: &[u32], text: &mut [u8]) -> usize
     requires { ⌜ Ends (now line) at × (64 ≤ length (now text)) ⌝ }
-    ensures { λ r. ⌜ ((out : List ℕ) → Leaves (says (cellStep sizes edition1) (noField (restAt (now (line .entry)) at) request.counts) (now (space .entry)) out) (now (text .entry)) r (now (text .exit)) (now (space .entry))) ⌝ }
+    ensures { λ r. ⌜ ((out : List ℕ) → Leaves (says spaceStep (noField (restAt (now (line .entry)) at) request.counts) (now (space .entry)) out) (now (text .entry)) r (now (text .exit)) (now (space .entry))) ⌝ }
 {
     if at < line.len() {
         return print_bad(text);

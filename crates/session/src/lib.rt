@@ -17,9 +17,7 @@ ghost use Prim.Native.Nat.{_≤_};
 ghost use lib.Dec.{leb};
 ghost use lib.ListN.{length};
 ghost use Rattle.text.specs.Fields.{fields};
-ghost use Rattle.plain.specs.Coding.{edition1};
-ghost use Rattle.space.specs.Layout.{sizes};
-ghost use Rattle.store.specs.Calls.{cellStep};
+ghost use Rattle.store.specs.Calls.{spaceStep};
 ghost use Rattle.session.specs.Lines.{wordMeans, means};
 ghost use Rattle.session.specs.Texts.{textRoom};
 ghost use Rattle.session.specs.Session.{says, Leaves, response, responding};
@@ -27,7 +25,7 @@ ghost use Rattle.session.specs.Session.{says, Leaves, response, respondi
 // The reply to a line of at most 4,096 bytes, by its first word; without the newline.
 fn reply(line: &[u8], space: &mut [u32], out: &mut [u32], text: &mut [u8]) -> usize
     requires { ⌜ (length (now line) ≤ 4096) × (textRoom (length (now out)) ≤ length (now text)) ⌝ }
-    ensures { λ r. ⌜ Leaves (says (cellStep sizes edition1) (wordMeans (fields (now (line .entry))) (now (out .entry))) (now (space .entry)) (now (out .entry))) (now (text .entry)) r (now (text .exit)) (now (space .exit)) × (now (out .exit) ≡ says (cellStep sizes edition1) (wordMeans (fields (now (line .entry))) (now (out .entry))) (now (space .entry)) (now (out .entry)) .out) ⌝ }
+    ensures { λ r. ⌜ Leaves (says spaceStep (wordMeans (fields (now (line .entry))) (now (out .entry))) (now (space .entry)) (now (out .entry))) (now (text .entry)) r (now (text .exit)) (now (space .exit)) × (now (out .exit) ≡ says spaceStep (wordMeans (fields (now (line .entry))) (now (out .entry))) (now (space .entry)) (now (out .entry)) .out) ⌝ }
 {
     let at = first_end(line);
     if is_word(&line[..at], b"call") {
@@ -57,7 +55,7 @@ fn reply(line: &[u8], space: &mut [u32], out: &mut [u32], text: &mut [u8]) -> us
 // The same of a line of any length: one of over 4,096 bytes is not read.
 fn reply_or_bad(line: &[u8], space: &mut [u32], out: &mut [u32], text: &mut [u8]) -> usize
     requires { ⌜ textRoom (length (now out)) ≤ length (now text) ⌝ }
-    ensures { λ r. ⌜ Leaves (says (cellStep sizes edition1) (means (now (line .entry)) (now (out .entry))) (now (space .entry)) (now (out .entry))) (now (text .entry)) r (now (text .exit)) (now (space .exit)) × (now (out .exit) ≡ says (cellStep sizes edition1) (means (now (line .entry)) (now (out .entry))) (now (space .entry)) (now (out .entry)) .out) ⌝ }
+    ensures { λ r. ⌜ Leaves (says spaceStep (means (now (line .entry)) (now (out .entry))) (now (space .entry)) (now (out .entry))) (now (text .entry)) r (now (text .exit)) (now (space .exit)) × (now (out .exit) ≡ says spaceStep (means (now (line .entry)) (now (out .entry))) (now (space .entry)) (now (out .entry)) .out) ⌝ }
 {
     if line.len() <= 4096 {
         return reply(line, space, out, text);

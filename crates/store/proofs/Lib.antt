@@ -3,3 +3,4 @@ pub mod CallsWalks
 pub mod CallsReading
 pub mod CallsCases
 pub mod CallsAnswers
+pub mod AnswersLaws

@@ -1,13 +1,14 @@
 -- The seven calls on the cells of a space, sound or damaged: refusal 1, then the decision, then the change.
 use Prim.Native.Nat.{ℕ, _+_}
 use mathlib.Core.List.{List, [], _++_}
+use mathlib.Core.Path.{_≡_}
 use lib.Dec.{leb}
 use lib.ListN.{length, drop, getD}
 use Rattle.basis.specs.Choice.{pick}
-use Rattle.plain.specs.Coding.{Coding, edition1}
+use Rattle.plain.specs.Coding.{Coding, codingOf}
 use Rattle.plain.specs.Requests.{Request, lent, Counts, Reply, new, done, cells, refused, short, Result, Seen, trace}
-use Rattle.space.specs.Layout.{Sizes, sizes, nodesCell, subgoalsCell, answersCell}
-use Rattle.space.specs.Heading.{headerOf}
+use Rattle.space.specs.Layout.{Sizes, sizesOf, nodesCell, subgoalsCell, answersCell}
+use Rattle.space.specs.Heading.{headerOf, spaceHeader}
 use Rattle.space.specs.declared.Head.{Head}
 use Rattle.space.specs.declared.Header.{Header}
 use Rattle.space.specs.declared.Header.the-variants as header
@@ -39,9 +40,23 @@ under z c cs q (header.Sound h) =
     record { reply = reply (viewOf z cs h) d (length (lent q)); out = outAfter d (lent q); state = change z cs h d }
 under z c cs q (header.Refused r) = record { reply = refused r; out = lent q; state = cs }
 
--- what a call leaves
+-- what a call leaves of a space of one edition
 unfoldable pub cellStep : Sizes → Coding → List ℕ → Request → Result (List ℕ)
 cellStep z c cs q = under z c cs q (headerOf z cs)
+
+-- what a call leaves of a space of any edition: the one that its header names
+unfoldable pub underAny : List ℕ → Request → Header → Result (List ℕ)
+underAny cs q (header.Sound h) = under (sizesOf (h .edition)) (codingOf (h .edition)) cs q (header.Sound h)
+underAny cs q (header.Refused r) = record { reply = refused r; out = lent q; state = cs }
+
+unfoldable pub spaceStep : List ℕ → Request → Result (List ℕ)
+spaceStep cs q = underAny cs q (spaceHeader cs)
+
+-- On the cells `before` the call q answers r, and leaves `out` of the out that was lent to it and `after` of the cells:
+-- the contract of every call. A space that is lent to read alone is afterwards what it was, so there `after` is `before`.
+abbrev pub Answers : List ℕ → Request → Reply → List ℕ → List ℕ → Type 0
+Answers before q r out after =
+    (r ≡ spaceStep before q .reply) × (out ≡ spaceStep before q .out) × (after ≡ spaceStep before q .state)
 
 -- the counts as they stand in the header
 abbrev pub countedCells : List ℕ → Counts

@@ -34,15 +34,16 @@ use trie::Walked;
 use trie::appends::append_path;
 use trie::walks::walk_tokens;
 ghost use mathlib.Core.Path.{_≡_};
+ghost use mathlib.Core.List.{[]};
 ghost use Prim.Native.Nat.{_+_, _*_, _<_, _≤_};
 ghost use lib.Dec.{eqb};
 ghost use lib.ListN.{length};
 ghost use Rattle.basis.specs.Choice.{pick};
 ghost use Rattle.basis.specs.Writes.{writes};
-ghost use Rattle.forms.specs.Cells.{arity16};
-ghost use Rattle.plain.specs.Coding.{judged, compacted, edition1};
+ghost use Rattle.forms.specs.Cells.{arityOf};
+ghost use Rattle.plain.specs.Coding.{judged, compacted, codingOf};
 ghost use Rattle.plain.specs.Requests as request;
-ghost use Rattle.space.specs.Layout.{sizes, subgoalIn};
+ghost use Rattle.space.specs.Layout.{sizes, sizesOf, subgoalIn};
 ghost use Rattle.space.specs.Sound.{Bounds};
 ghost use Rattle.space.specs.declared.Header.the-variants as header;
 ghost use Rattle.trie.specs.Siblings.{trieIn};
@@ -50,7 +51,7 @@ ghost use Rattle.trie.specs.Walks.{walk};
 ghost use Rattle.store.specs.Views.{viewOf};
 ghost use Rattle.store.specs.Decisions.{Decision, refuses, stateOf, calledOld, calledNew, calledAt, called, soundLast, answeredNew, answeredOld, answeredAt, answered, entersAnswer, entersEmpty};
 ghost use Rattle.store.specs.Changes.{chained, subgoalEntered, answerEntered, change};
-ghost use Rattle.store.specs.Calls.{reply, under, cellStep};
+ghost use Rattle.store.specs.Calls.{reply, under, Answers};
 ghost use Rattle.store.specs.Replies.{saidState, saidCall, saidAnswer, saidFinish};
 
 // ---- finish
@@ -58,7 +59,7 @@ ghost use Rattle.store.specs.Replies.{saidState, saidCall, saidAnswer, s
 // In a space whose header is sound.
 fn finish_in(space: &mut [u32], h: Head, s: usize) -> FinishAnswer
     requires { ⌜ Bounds (now space) h ⌝ }
-    ensures { λ r. ⌜ (saidFinish r ≡ under sizes edition1 (now (space .entry)) (request.finish s) (header.Sound h) .reply) × (now (space .exit) ≡ under sizes edition1 (now (space .entry)) (request.finish s) (header.Sound h) .state) ⌝ }
+    ensures { λ r. ⌜ (saidFinish r ≡ under (sizesOf (h .edition)) (codingOf (h .edition)) (now (space .entry)) (request.finish s) (header.Sound h) .reply) × (now (space .exit) ≡ under (sizesOf (h .edition)) (codingOf (h .edition)) (now (space .entry)) (request.finish s) (header.Sound h) .state) ⌝ }
 {
     if s == 0 {
         return FinishAnswer::Refused(7);
@@ -75,7 +76,7 @@ fn finish_in(space: &mut [u32], h: Head, s: usize) -> FinishAnswer
 
 // Finishes a subgoal; to finish it again changes nothing.
 pub fn finish(space: &mut [u32], subgoal: u32) -> FinishAnswer
-    ensures { λ r. ⌜ (saidFinish r ≡ cellStep sizes edition1 (now (space .entry)) (request.finish subgoal) .reply) × (now (space .exit) ≡ cellStep sizes edition1 (now (space .entry)) (request.finish subgoal) .state) ⌝ }
+    ensures { λ r. ⌜ Answers (now (space .entry)) (request.finish subgoal) (saidFinish r) [] (now (space .exit)) ⌝ }
 {
     let read = read_header(space);
     let Header::Sound(h) = read else {
@@ -102,7 +103,7 @@ fn state_of(x: usize) -> State
 // The path was found whole at a leaf whose link is s.
 fn call_old(space: &[u32], h: Head, leaf: usize, s: usize) -> CallAnswer
     requires { ⌜ Bounds (now space) h × (s ≤ h .subgoals) ⌝ }
-    ensures { λ r. ⌜ saidCall r ≡ reply (viewOf sizes (now (space .entry)) h) (calledOld (viewOf sizes (now (space .entry)) h) leaf s) 0 ⌝ }
+    ensures { λ r. ⌜ saidCall r ≡ reply (viewOf (sizesOf (h .edition)) (now (space .entry)) h) (calledOld (viewOf (sizesOf (h .edition)) (now (space .entry)) h) leaf s) 0 ⌝ }
 {
     if s == 0 {
         return CallAnswer::Refused(9);
@@ -120,7 +121,7 @@ fn call_old(space: &[u32], h: Head, leaf: usize, s: usize) -> CallAnswer
 fn enter_subgoal(space: &mut [u32], h: Head, parent: usize, last: usize, tokens: &[u32], m: usize)
     requires { ⌜ Bounds (now space) h × (parent < h .nodes) × (last < h .nodes) × (m ≤ 32) ⌝ }
     requires { ⌜ (h .nodes + length (now tokens) < h .«node_capacity») × (h .subgoals < h .«subgoal_capacity») ⌝ }
-    ensures { λ r. ⌜ now (space .exit) ≡ subgoalEntered sizes (now (space .entry)) h parent last (now (tokens .entry)) m ⌝ }
+    ensures { λ r. ⌜ now (space .exit) ≡ subgoalEntered (sizesOf (h .edition)) (now (space .entry)) h parent last (now (tokens .entry)) m ⌝ }
 {
     let root = h.nodes + tokens.len();
     let leaf = root - 1;
@@ -157,7 +158,7 @@ fn call_new(
     m: usize,
 ) -> CallAnswer
     requires { ⌜ Bounds (now space) h × (parent < h .nodes) × (last < h .nodes) × (m ≤ 32) ⌝ }
-    ensures { λ r. ⌜ (saidCall r ≡ reply (viewOf sizes (now (space .entry)) h) (calledNew (viewOf sizes (now (space .entry)) h) parent last (now (tokens .entry)) m) 0) × (now (space .exit) ≡ change sizes (now (space .entry)) h (calledNew (viewOf sizes (now (space .entry)) h) parent last (now (tokens .entry)) m)) ⌝ }
+    ensures { λ r. ⌜ (saidCall r ≡ reply (viewOf (sizesOf (h .edition)) (now (space .entry)) h) (calledNew (viewOf (sizesOf (h .edition)) (now (space .entry)) h) parent last (now (tokens .entry)) m) 0) × (now (space .exit) ≡ change (sizesOf (h .edition)) (now (space .entry)) h (calledNew (viewOf (sizesOf (h .edition)) (now (space .entry)) h) parent last (now (tokens .entry)) m)) ⌝ }
 {
     let free = h.node_capacity - h.nodes;
     if free <= tokens.len() {
@@ -174,7 +175,7 @@ fn call_new(
 // A term with this form and m variables is called.
 fn call_at(space: &mut [u32], h: Head, tokens: &[u32], m: usize) -> CallAnswer
     requires { ⌜ Bounds (now space) h × (m ≤ 32) ⌝ }
-    ensures { λ r. ⌜ (saidCall r ≡ reply (viewOf sizes (now (space .entry)) h) (calledAt (viewOf sizes (now (space .entry)) h) (walk (trieIn sizes (now (space .entry)) (h .nodes) (h .subgoals)) 0 (now (tokens .entry))) m) 0) × (now (space .exit) ≡ change sizes (now (space .entry)) h (calledAt (viewOf sizes (now (space .entry)) h) (walk (trieIn sizes (now (space .entry)) (h .nodes) (h .subgoals)) 0 (now (tokens .entry))) m)) ⌝ }
+    ensures { λ r. ⌜ (saidCall r ≡ reply (viewOf (sizesOf (h .edition)) (now (space .entry)) h) (calledAt (viewOf (sizesOf (h .edition)) (now (space .entry)) h) (walk (trieIn sizes (now (space .entry)) (h .nodes) (h .subgoals)) 0 (now (tokens .entry))) m) 0) × (now (space .exit) ≡ change (sizesOf (h .edition)) (now (space .entry)) h (calledAt (viewOf (sizesOf (h .edition)) (now (space .entry)) h) (walk (trieIn sizes (now (space .entry)) (h .nodes) (h .subgoals)) 0 (now (tokens .entry))) m)) ⌝ }
 {
     let walked = walk_tokens(space, h.nodes, h.subgoals, 0, tokens);
     match walked {
@@ -200,9 +201,9 @@ fn call_with(
 ) -> CallAnswer
     requires { ⌜ Bounds (now space) h ⌝ }
     requires { ⌜ (length (now term) ≤ 256 → (length (now term) ≤ length (now vars)) × (3 * length (now term) ≤ 2 * length (now form))) ⌝ }
-    ensures { λ r. ⌜ (saidCall r ≡ under sizes edition1 (now (space .entry)) (request.call (now (term .entry))) (header.Sound h) .reply) × (now (space .exit) ≡ under sizes edition1 (now (space .entry)) (request.call (now (term .entry))) (header.Sound h) .state) ⌝ }
+    ensures { λ r. ⌜ (saidCall r ≡ under (sizesOf (h .edition)) (codingOf (h .edition)) (now (space .entry)) (request.call (now (term .entry))) (header.Sound h) .reply) × (now (space .exit) ≡ under (sizesOf (h .edition)) (codingOf (h .edition)) (now (space .entry)) (request.call (now (term .entry))) (header.Sound h) .state) ⌝ }
 {
-    let read = read_terms(term, 1, vars, form);
+    let read = read_terms(term, 1, vars, form, h.edition);
     let Reading::Form(n, m) = read else {
         match read {
             Reading::Refusal(r) => return CallAnswer::Refused(r),
@@ -217,7 +218,7 @@ fn call_with(
 
 // Enters the subgoal that a callable term calls, or finds it. Short terms get short buffers.
 pub fn call(space: &mut [u32], term: &[u32]) -> CallAnswer
-    ensures { λ r. ⌜ (saidCall r ≡ cellStep sizes edition1 (now (space .entry)) (request.call (now (term .entry))) .reply) × (now (space .exit) ≡ cellStep sizes edition1 (now (space .entry)) (request.call (now (term .entry))) .state) ⌝ }
+    ensures { λ r. ⌜ Answers (now (space .entry)) (request.call (now (term .entry))) (saidCall r) [] (now (space .exit)) ⌝ }
 {
     let read = read_header(space);
     let Header::Sound(h) = read else {
@@ -240,8 +241,8 @@ pub fn call(space: &mut [u32], term: &[u32]) -> CallAnswer
 
 // The last answer of subgoal s, where there is one, is the subgoal's and has none after it.
 fn last_sound(space: &[u32], h: Head, s: usize, last: usize) -> bool
-    requires { ⌜ Bounds (now space) h × (last ≤ h .answers) × (last ≡ subgoalIn sizes (now space) (h .«subgoal_offset») s .last) ⌝ }
-    ensures { λ r. ⌜ r ≡ soundLast (viewOf sizes (now (space .entry)) h) s ⌝ }
+    requires { ⌜ Bounds (now space) h × (last ≤ h .answers) × (last ≡ subgoalIn (sizesOf (h .edition)) (now space) (h .«subgoal_offset») s .last) ⌝ }
+    ensures { λ r. ⌜ r ≡ soundLast (viewOf (sizesOf (h .edition)) (now (space .entry)) h) s ⌝ }
 {
     if last == 0 {
         return true;
@@ -257,8 +258,8 @@ fn last_sound(space: &[u32], h: Head, s: usize, last: usize) -> bool
 
 // The refusal of a new answer that takes so many nodes more; 0 for none.
 fn refusal(space: &[u32], h: Head, s: usize, g: Subgoal, more: usize) -> u32
-    requires { ⌜ Bounds (now space) h × (g ≡ subgoalIn sizes (now space) (h .«subgoal_offset») s) × (g .last ≤ h .answers) ⌝ }
-    ensures { λ r. ⌜ ((d : Decision) → answeredNew (viewOf sizes (now (space .entry)) h) s more d ≡ pick (eqb r 0) d (refuses r)) ⌝ }
+    requires { ⌜ Bounds (now space) h × (g ≡ subgoalIn (sizesOf (h .edition)) (now space) (h .«subgoal_offset») s) × (g .last ≤ h .answers) ⌝ }
+    ensures { λ r. ⌜ ((d : Decision) → answeredNew (viewOf (sizesOf (h .edition)) (now (space .entry)) h) s more d ≡ pick (eqb r 0) d (refuses r)) ⌝ }
 {
     if last_sound(space, h, s, g.last) {
         let free = h.node_capacity - h.nodes;
@@ -276,7 +277,7 @@ fn refusal(space: &[u32], h: Head, s: usize, g: Subgoal, more: usize) -> u32
 // The new answer a becomes the subgoal's first, or the next of its last.
 fn chain(space: &mut [u32], h: Head, s: usize, g: Subgoal, a: usize)
     requires { ⌜ Bounds (now space) h × (1 ≤ s) × (s ≤ h .subgoals) × (g .last ≤ h .answers) × (a ≤ h .«answer_capacity») ⌝ }
-    ensures { λ r. ⌜ now (space .exit) ≡ writes (chained sizes h s g a) (now (space .entry)) ⌝ }
+    ensures { λ r. ⌜ now (space .exit) ≡ writes (chained (sizesOf (h .edition)) h s g a) (now (space .entry)) ⌝ }
 {
     let last = g.last;
     if last == 0 {
@@ -290,7 +291,7 @@ fn chain(space: &mut [u32], h: Head, s: usize, g: Subgoal, a: usize)
 fn enter_answer(space: &mut [u32], h: Head, s: usize, g: Subgoal, leaf: usize, nodes: usize)
     requires { ⌜ Bounds (now space) h × (1 ≤ s) × (s ≤ h .subgoals) × (g .last ≤ h .answers) ⌝ }
     requires { ⌜ (leaf < h .«node_capacity») × (nodes ≤ h .«node_capacity») × (h .answers < h .«answer_capacity») ⌝ }
-    ensures { λ r. ⌜ now (space .exit) ≡ answerEntered sizes (now (space .entry)) h s g leaf nodes ⌝ }
+    ensures { λ r. ⌜ now (space .exit) ≡ answerEntered (sizesOf (h .edition)) (now (space .entry)) h s g leaf nodes ⌝ }
 {
     let a = h.answers + 1;
     write_link(space, h.node_capacity, leaf, a as u32);
@@ -307,8 +308,8 @@ fn enter_answer(space: &mut [u32], h: Head, s: usize, g: Subgoal, leaf: usize, n
 
 // A new answer whose leaf is the answer root: that of no terms.
 fn answer_empty(space: &mut [u32], h: Head, s: usize, g: Subgoal) -> AnswerAnswer
-    requires { ⌜ Bounds (now space) h × (1 ≤ s) × (s ≤ h .subgoals) × (g ≡ subgoalIn sizes (now space) (h .«subgoal_offset») s) × (g .last ≤ h .answers) × (g .root < h .nodes) ⌝ }
-    ensures { λ r. ⌜ (saidAnswer r ≡ reply (viewOf sizes (now (space .entry)) h) (answeredNew (viewOf sizes (now (space .entry)) h) s 0 (entersEmpty s)) 0) × (now (space .exit) ≡ change sizes (now (space .entry)) h (answeredNew (viewOf sizes (now (space .entry)) h) s 0 (entersEmpty s))) ⌝ }
+    requires { ⌜ Bounds (now space) h × (1 ≤ s) × (s ≤ h .subgoals) × (g ≡ subgoalIn (sizesOf (h .edition)) (now space) (h .«subgoal_offset») s) × (g .last ≤ h .answers) × (g .root < h .nodes) ⌝ }
+    ensures { λ r. ⌜ (saidAnswer r ≡ reply (viewOf (sizesOf (h .edition)) (now (space .entry)) h) (answeredNew (viewOf (sizesOf (h .edition)) (now (space .entry)) h) s 0 (entersEmpty s)) 0) × (now (space .exit) ≡ change (sizesOf (h .edition)) (now (space .entry)) h (answeredNew (viewOf (sizesOf (h .edition)) (now (space .entry)) h) s 0 (entersEmpty s))) ⌝ }
 {
     let k = refusal(space, h, s, g, 0);
     if k == 0 {
@@ -329,9 +330,9 @@ fn answer_new(
     last: usize,
     tokens: &[u32],
 ) -> AnswerAnswer
-    requires { ⌜ Bounds (now space) h × (1 ≤ s) × (s ≤ h .subgoals) × (g ≡ subgoalIn sizes (now space) (h .«subgoal_offset») s) × (g .last ≤ h .answers) ⌝ }
+    requires { ⌜ Bounds (now space) h × (1 ≤ s) × (s ≤ h .subgoals) × (g ≡ subgoalIn (sizesOf (h .edition)) (now space) (h .«subgoal_offset») s) × (g .last ≤ h .answers) ⌝ }
     requires { ⌜ (parent < h .nodes) × (last < h .nodes) ⌝ }
-    ensures { λ r. ⌜ (saidAnswer r ≡ reply (viewOf sizes (now (space .entry)) h) (answeredNew (viewOf sizes (now (space .entry)) h) s (length (now (tokens .entry))) (entersAnswer s parent last (now (tokens .entry)))) 0) × (now (space .exit) ≡ change sizes (now (space .entry)) h (answeredNew (viewOf sizes (now (space .entry)) h) s (length (now (tokens .entry))) (entersAnswer s parent last (now (tokens .entry))))) ⌝ }
+    ensures { λ r. ⌜ (saidAnswer r ≡ reply (viewOf (sizesOf (h .edition)) (now (space .entry)) h) (answeredNew (viewOf (sizesOf (h .edition)) (now (space .entry)) h) s (length (now (tokens .entry))) (entersAnswer s parent last (now (tokens .entry)))) 0) × (now (space .exit) ≡ change (sizesOf (h .edition)) (now (space .entry)) h (answeredNew (viewOf (sizesOf (h .edition)) (now (space .entry)) h) s (length (now (tokens .entry))) (entersAnswer s parent last (now (tokens .entry))))) ⌝ }
 {
     let k = refusal(space, h, s, g, tokens.len());
     if k == 0 {
@@ -354,8 +355,8 @@ fn answer_old(
     leaf: usize,
     a: usize,
 ) -> AnswerAnswer
-    requires { ⌜ Bounds (now space) h × (1 ≤ s) × (s ≤ h .subgoals) × (g ≡ subgoalIn sizes (now space) (h .«subgoal_offset») s) × (g .last ≤ h .answers) × (g .root < h .nodes) × (a ≤ h .answers) ⌝ }
-    ensures { λ r. ⌜ (saidAnswer r ≡ reply (viewOf sizes (now (space .entry)) h) (answeredOld (viewOf sizes (now (space .entry)) h) s (now (tokens .entry)) leaf a) 0) × (now (space .exit) ≡ change sizes (now (space .entry)) h (answeredOld (viewOf sizes (now (space .entry)) h) s (now (tokens .entry)) leaf a)) ⌝ }
+    requires { ⌜ Bounds (now space) h × (1 ≤ s) × (s ≤ h .subgoals) × (g ≡ subgoalIn (sizesOf (h .edition)) (now space) (h .«subgoal_offset») s) × (g .last ≤ h .answers) × (g .root < h .nodes) × (a ≤ h .answers) ⌝ }
+    ensures { λ r. ⌜ (saidAnswer r ≡ reply (viewOf (sizesOf (h .edition)) (now (space .entry)) h) (answeredOld (viewOf (sizesOf (h .edition)) (now (space .entry)) h) s (now (tokens .entry)) leaf a) 0) × (now (space .exit) ≡ change (sizesOf (h .edition)) (now (space .entry)) h (answeredOld (viewOf (sizesOf (h .edition)) (now (space .entry)) h) s (now (tokens .entry)) leaf a)) ⌝ }
 {
     if a == 0 {
         if tokens.len() == 0 {
@@ -374,8 +375,8 @@ fn answer_old(
 
 // Terms with this form answer subgoal s.
 fn answer_at(space: &mut [u32], h: Head, s: usize, g: Subgoal, tokens: &[u32]) -> AnswerAnswer
-    requires { ⌜ Bounds (now space) h × (1 ≤ s) × (s ≤ h .subgoals) × (g ≡ subgoalIn sizes (now space) (h .«subgoal_offset») s) × (g .last ≤ h .answers) × (g .root < h .nodes) ⌝ }
-    ensures { λ r. ⌜ (saidAnswer r ≡ reply (viewOf sizes (now (space .entry)) h) (answeredAt (viewOf sizes (now (space .entry)) h) s (now (tokens .entry)) (walk (trieIn sizes (now (space .entry)) (h .nodes) (h .answers)) (g .root) (now (tokens .entry)))) 0) × (now (space .exit) ≡ change sizes (now (space .entry)) h (answeredAt (viewOf sizes (now (space .entry)) h) s (now (tokens .entry)) (walk (trieIn sizes (now (space .entry)) (h .nodes) (h .answers)) (g .root) (now (tokens .entry))))) ⌝ }
+    requires { ⌜ Bounds (now space) h × (1 ≤ s) × (s ≤ h .subgoals) × (g ≡ subgoalIn (sizesOf (h .edition)) (now space) (h .«subgoal_offset») s) × (g .last ≤ h .answers) × (g .root < h .nodes) ⌝ }
+    ensures { λ r. ⌜ (saidAnswer r ≡ reply (viewOf (sizesOf (h .edition)) (now (space .entry)) h) (answeredAt (viewOf (sizesOf (h .edition)) (now (space .entry)) h) s (now (tokens .entry)) (walk (trieIn sizes (now (space .entry)) (h .nodes) (h .answers)) (g .root) (now (tokens .entry)))) 0) × (now (space .exit) ≡ change (sizesOf (h .edition)) (now (space .entry)) h (answeredAt (viewOf (sizesOf (h .edition)) (now (space .entry)) h) s (now (tokens .entry)) (walk (trieIn sizes (now (space .entry)) (h .nodes) (h .answers)) (g .root) (now (tokens .entry))))) ⌝ }
 {
     let walked = walk_tokens(space, h.nodes, h.answers, g.root, tokens);
     match walked {
@@ -401,11 +402,11 @@ fn answer_with(
     vars: &mut [u32],
     form: &mut [u32],
 ) -> AnswerAnswer
-    requires { ⌜ Bounds (now space) h × (1 ≤ s) × (s ≤ h .subgoals) × (g ≡ subgoalIn sizes (now space) (h .«subgoal_offset») s) × (g .last ≤ h .answers) × (g .root < h .nodes) ⌝ }
+    requires { ⌜ Bounds (now space) h × (1 ≤ s) × (s ≤ h .subgoals) × (g ≡ subgoalIn (sizesOf (h .edition)) (now space) (h .«subgoal_offset») s) × (g .last ≤ h .answers) × (g .root < h .nodes) ⌝ }
     requires { ⌜ (length (now terms) ≤ 256 → (length (now terms) ≤ length (now vars)) × (3 * length (now terms) ≤ 2 * length (now form))) ⌝ }
-    ensures { λ r. ⌜ (saidAnswer r ≡ reply (viewOf sizes (now (space .entry)) h) (answered (viewOf sizes (now (space .entry)) h) s (judged arity16 (g .variables) (now (terms .entry)) (compacted arity16 (now (terms .entry))))) 0) × (now (space .exit) ≡ change sizes (now (space .entry)) h (answered (viewOf sizes (now (space .entry)) h) s (judged arity16 (g .variables) (now (terms .entry)) (compacted arity16 (now (terms .entry)))))) ⌝ }
+    ensures { λ r. ⌜ (saidAnswer r ≡ reply (viewOf (sizesOf (h .edition)) (now (space .entry)) h) (answered (viewOf (sizesOf (h .edition)) (now (space .entry)) h) s (judged (arityOf (h .edition)) (g .variables) (now (terms .entry)) (compacted (arityOf (h .edition)) (now (terms .entry))))) 0) × (now (space .exit) ≡ change (sizesOf (h .edition)) (now (space .entry)) h (answered (viewOf (sizesOf (h .edition)) (now (space .entry)) h) s (judged (arityOf (h .edition)) (g .variables) (now (terms .entry)) (compacted (arityOf (h .edition)) (now (terms .entry)))))) ⌝ }
 {
-    let read = read_terms(terms, g.variables, vars, form);
+    let read = read_terms(terms, g.variables, vars, form, h.edition);
     let Reading::Form(n, _) = read else {
         match read {
             Reading::Refusal(r) => return AnswerAnswer::Refused(r),
@@ -417,8 +418,8 @@ fn answer_with(
 
 // An open subgoal is answered. Short terms get short buffers.
 fn answer_open(space: &mut [u32], h: Head, s: usize, g: Subgoal, terms: &[u32]) -> AnswerAnswer
-    requires { ⌜ Bounds (now space) h × (1 ≤ s) × (s ≤ h .subgoals) × (g ≡ subgoalIn sizes (now space) (h .«subgoal_offset») s) × (g .last ≤ h .answers) × (g .root < h .nodes) ⌝ }
-    ensures { λ r. ⌜ (saidAnswer r ≡ reply (viewOf sizes (now (space .entry)) h) (answered (viewOf sizes (now (space .entry)) h) s (judged arity16 (g .variables) (now (terms .entry)) (compacted arity16 (now (terms .entry))))) 0) × (now (space .exit) ≡ change sizes (now (space .entry)) h (answered (viewOf sizes (now (space .entry)) h) s (judged arity16 (g .variables) (now (terms .entry)) (compacted arity16 (now (terms .entry)))))) ⌝ }
+    requires { ⌜ Bounds (now space) h × (1 ≤ s) × (s ≤ h .subgoals) × (g ≡ subgoalIn (sizesOf (h .edition)) (now space) (h .«subgoal_offset») s) × (g .last ≤ h .answers) × (g .root < h .nodes) ⌝ }
+    ensures { λ r. ⌜ (saidAnswer r ≡ reply (viewOf (sizesOf (h .edition)) (now (space .entry)) h) (answered (viewOf (sizesOf (h .edition)) (now (space .entry)) h) s (judged (arityOf (h .edition)) (g .variables) (now (terms .entry)) (compacted (arityOf (h .edition)) (now (terms .entry))))) 0) × (now (space .exit) ≡ change (sizesOf (h .edition)) (now (space .entry)) h (answered (viewOf (sizesOf (h .edition)) (now (space .entry)) h) s (judged (arityOf (h .edition)) (g .variables) (now (terms .entry)) (compacted (arityOf (h .edition)) (now (terms .entry)))))) ⌝ }
 {
     if terms.len() <= 16 {
         let mut vars = [0u32; 16];
@@ -433,7 +434,7 @@ fn answer_open(space: &mut [u32], h: Head, s: usize, g: Subgoal, terms: &[u32]) 
 // In a space whose header is sound: the number, the subgoal and its answer root, the state.
 fn answer_in(space: &mut [u32], h: Head, s: usize, terms: &[u32]) -> AnswerAnswer
     requires { ⌜ Bounds (now space) h ⌝ }
-    ensures { λ r. ⌜ (saidAnswer r ≡ under sizes edition1 (now (space .entry)) (request.answer s (now (terms .entry))) (header.Sound h) .reply) × (now (space .exit) ≡ under sizes edition1 (now (space .entry)) (request.answer s (now (terms .entry))) (header.Sound h) .state) ⌝ }
+    ensures { λ r. ⌜ (saidAnswer r ≡ under (sizesOf (h .edition)) (codingOf (h .edition)) (now (space .entry)) (request.answer s (now (terms .entry))) (header.Sound h) .reply) × (now (space .exit) ≡ under (sizesOf (h .edition)) (codingOf (h .edition)) (now (space .entry)) (request.answer s (now (terms .entry))) (header.Sound h) .state) ⌝ }
 {
     if s == 0 {
         return AnswerAnswer::Refused(7);
@@ -458,7 +459,7 @@ fn answer_in(space: &mut [u32], h: Head, s: usize, terms: &[u32]) -> AnswerAnswe
 
 // Enters the answer terms of an open subgoal, or finds them: one term for each of its variables.
 pub fn answer(space: &mut [u32], subgoal: u32, terms: &[u32]) -> AnswerAnswer
-    ensures { λ r. ⌜ (saidAnswer r ≡ cellStep sizes edition1 (now (space .entry)) (request.answer subgoal (now (terms .entry))) .reply) × (now (space .exit) ≡ cellStep sizes edition1 (now (space .entry)) (request.answer subgoal (now (terms .entry))) .state) ⌝ }
+    ensures { λ r. ⌜ Answers (now (space .entry)) (request.answer subgoal (now (terms .entry))) (saidAnswer r) [] (now (space .exit)) ⌝ }
 {
     let read = read_header(space);
     let Header::Sound(h) = read else {

@@ -123,6 +123,6 @@ fn main() {
     let mut text = [0u8; 73792];
     let mut line = [0u8; 4097];
     let mut read = io::large_buffer();
-    fresh(&mut space, 1000, 50, 100);
+    fresh(&mut space, 1000, 50, 100, 1);
     run(&mut read, &mut line, &mut space, &mut out, &mut text);
 }

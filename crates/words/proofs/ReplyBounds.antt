@@ -7,8 +7,9 @@ use native.Mathlib.Omega.{arith}
 use lib.Dec.{eqb, leb, ltb}
 use lib.ListN.{length, getD, length-append}
 use Rattle.basis.specs.Choice.{pick}
+use Rattle.basis.specs.Editions.{knownEdition}
 use Rattle.basis.proofs.Cases.{by-cases}
-use Rattle.forms.specs.Cells.{variable, payload, arity16}
+use Rattle.forms.specs.Cells.{variable, payload, arityOf}
 use Rattle.forms.specs.Terms.{Term, cell, arg, pair, pairs, every, areTerms}
 use Rattle.forms.specs.Numbering.{met}
 use Rattle.forms.specs.Compact.{compactForm, formTerms, pairForm, legalForm}
@@ -16,13 +17,13 @@ use Rattle.forms.specs.Converting.{reading}
 use Rattle.forms.specs.declared.Reading as forms
 use Rattle.forms.specs.declared.Reading.the-variants.{Form, Refusal}
 use Rattle.forms.proofs.RoundTrip.{legal-parts}
-use Rattle.plain.specs.Coding.{Reading, refused, accepted, handedOn, judged, predicate, compacted, substituted, edition1}
+use Rattle.plain.specs.Coding.{Reading, refused, accepted, handedOn, judged, predicate, compacted, substituted, codingOf}
 use Rattle.plain.specs.Requests.{State, Open, Finished, Request, call, answer, finish, next, load, instance, counts, lent, oldSubgoal, oldAnswer, at, none, refused}
 use Rattle.plain.specs.Words.{Word}
-use Rattle.space.specs.Layout.{sizes}
-use Rattle.space.specs.Heading.{headerOf, capacity, counted}
+use Rattle.space.specs.Layout.{sizesOf}
+use Rattle.space.specs.Heading.{headerOf, spaceHeader, capacity, counted}
 use Rattle.space.specs.Heading as heading
-use Rattle.space.specs.Fresh.{freshFits, freshAnswer}
+use Rattle.space.specs.Fresh.{freshFits, freshAnswer, freshAnswerIn}
 use Rattle.space.specs.declared.Header.{Header}
 use Rattle.space.specs.declared.Header.the-variants as header
 use Rattle.space.specs.declared.Capacity.{Capacity}
@@ -32,7 +33,7 @@ use Rattle.trie.specs.Paths.{Path, tokens, gather, longest}
 use Rattle.trie.specs.Paths as path
 use Rattle.store.specs.Views.{View, viewOf, subgoalTrie, answerTrie}
 use Rattle.store.specs.Decisions.{Decision, says, gives, entersSubgoal, entersAnswer, entersEmpty, finishes, refuses, soundSubgoal, soundAnswer, soundAnswerOf, sound, known, stateOf, soundLast, whileOpen, calledOld, calledNew, calledAt, called, answeredNew, answeredOld, answeredAt, answered, starting, handed, onward, onPath, loaded, instanced, soundPair, decide}
-use Rattle.store.specs.Calls.{reply, under, cellStep}
+use Rattle.store.specs.Calls.{reply, under, underAny, spaceStep}
 use Rattle.words.specs.Words.{saidFresh}
 use Rattle.words.specs.Bounded.{Bounded}
 
@@ -43,9 +44,9 @@ refusal-tests r k w false true true e = let z : r ≡ 5 = cc in omega arith
 refusal-tests r k w false true false e = let z : _≡_ {A = ℕ} 0 1 = cc in absurd (omega arith)
 refusal-tests r k w false false c e = let z : r ≡ 3 = cc in omega arith
 
-pub refusal-small : (m r : ℕ) (s : List ℕ) → Refusal r ≡ reading arity16 m s → r ≤ 5
+pub refusal-small : (arity : ℕ → ℕ) (m r : ℕ) (s : List ℕ) → Refusal r ≡ reading arity m s → r ≤ 5
 unfolding reading
-refusal-small m r s e = refusal-tests r (length (compactForm arity16 s)) (length (met [] s)) (ltb 256 (length s)) (areTerms arity16 m s) (ltb 32 (length (met [] s))) e
+refusal-small arity m r s e = refusal-tests r (length (compactForm arity s)) (length (met [] s)) (ltb 256 (length s)) (areTerms arity m s) (ltb 32 (length (met [] s))) e
 
 -- ---- the cells of an instance
 
@@ -67,9 +68,9 @@ module _ (us : List Term) (few : length (every pairs us) ≤ 256) where
   all-cells [] = omega arith
   all-cells (t ∷ ts) = simp length-append (omega (arith, term-cells t, all-cells ts))
 
-legal-cells : (m : ℕ) (w : Word) → legalForm arity16 m w ≡ true → length (every pairs (formTerms arity16 w)) ≤ 256
+legal-cells : (arity : ℕ → ℕ) (m : ℕ) (w : Word) → legalForm arity m w ≡ true → length (every pairs (formTerms arity w)) ≤ 256
 unfolding pairForm
-legal-cells m w h = legal-parts arity16 m w h .cells
+legal-cells arity m w h = legal-parts arity m w h .cells
 
 and-first : (a b : Bool) → (a && b) ≡ true → a ≡ true
 and-first true b e = refl
@@ -167,128 +168,141 @@ abbrev SmallReading : Reading → Type 0
 SmallReading (refused r) = r ≤ 13
 SmallReading (accepted w m) = Unit {0}
 
-handed-on-small : (m : ℕ) (cs : List ℕ) (x : forms.Reading) (legal : Reading) → x ≡ reading arity16 m cs → SmallReading legal → SmallReading (handedOn x legal)
-unfolding handedOn
-handed-on-small m cs (Form n v) legal e f = f
-handed-on-small m cs (Refusal r) legal e f = omega (arith, refusal-small m r cs e)
-
-judged-small : (m : ℕ) (cs : List ℕ) (legal : Reading) → SmallReading legal → SmallReading (judged arity16 m cs legal)
-unfolding judged
-judged-small m cs legal f = handed-on-small m cs (reading arity16 m cs) legal refl f
-
-compacted-small : (cs : List ℕ) → SmallReading (compacted arity16 cs)
-unfolding compacted
-compacted-small cs = tt
-
-callable-small : (b : Bool) (cs : List ℕ) → SmallReading (pick b (compacted arity16 cs) (refused 6))
-callable-small true cs = compacted-small cs
-callable-small false cs = omega arith
-
-small-called : (v : View) (r : Reading) → SmallReading r → Small (called v r)
-unfolding called
-small-called v (refused r) f = f
-small-called v (accepted w m) f = small-called-at v (walk (subgoalTrie v) 0 w) m
-
-small-answered : (v : View) (s : ℕ) (r : Reading) → SmallReading r → Small (answered v s r)
-unfolding answered
-small-answered v s (refused r) f = f
-small-answered v s (accepted w m) f = small-answered-at v s w (walk (answerTrie v) (v .subgoal s .root) w)
-
--- ---- the header
-
 abbrev SmallHeader : Header → Type 0
 SmallHeader (header.Sound h) = Unit {0}
 SmallHeader (header.Refused r) = r ≤ 13
 
-header-whole : (k : Capacity) (f : ℕ → Header) → ((n : ℕ) → SmallHeader (f n)) → SmallHeader (heading.whole k f)
-unfolding heading.whole
-header-whole (Whole n) f g = g n
-header-whole Broken f g = omega arith
+-- the calls on a space of edition ed
+module _ (ed : ℕ) where
+  handed-on-small : (m : ℕ) (cs : List ℕ) (x : forms.Reading) (legal : Reading) → x ≡ reading (arityOf ed) m cs → SmallReading legal → SmallReading (handedOn x legal)
+  unfolding handedOn
+  handed-on-small m cs (Form n v) legal e f = f
+  handed-on-small m cs (Refusal r) legal e f = omega (arith, refusal-small (arityOf ed) m r cs e)
 
-header-counted : (s : List ℕ) (n f a : ℕ) → SmallHeader (counted s n f a)
-unfolding counted
-header-counted s n f a = by-cases (ltb (length s) (getD s 7 0)) (λ q. rw q (omega arith))
-    (λ q. rw q (by-cases (eqb (getD s 1 0) 0) (λ q. rw q (omega arith))
-    (λ q. rw q (by-cases (ltb n (getD s 1 0)) (λ q. rw q (omega arith))
-    (λ q. rw q (by-cases (ltb f (getD s 2 0)) (λ q. rw q (omega arith))
-    (λ q. rw q (by-cases (ltb a (getD s 3 0)) (λ q. rw q (omega arith)) (λ q. rw q tt)))))))))
+  judged-small : (m : ℕ) (cs : List ℕ) (legal : Reading) → SmallReading legal → SmallReading (judged (arityOf ed) m cs legal)
+  unfolding judged
+  judged-small m cs legal f = handed-on-small m cs (reading (arityOf ed) m cs) legal refl f
 
-header-small : (s : List ℕ) → SmallHeader (headerOf sizes s)
-unfolding headerOf
-header-small s = by-cases (ltb (length s) 8) (λ q. rw q (omega arith))
-    (λ q. rw q (by-cases (eqb (getD s 0 0) 1)
-    (λ q. rw q (by-cases (eqb (getD s 4 0) 8)
-    (λ q. rw q (header-whole (capacity 1 (sizes .node) 8 (getD s 5 0)) (λ n. heading.whole (capacity 0 (sizes .subgoal) (getD s 5 0) (getD s 6 0)) (λ f. heading.whole (capacity 0 (sizes .answer) (getD s 6 0) (getD s 7 0)) (λ a. counted s n f a)))
-    (λ n. header-whole (capacity 0 (sizes .subgoal) (getD s 5 0) (getD s 6 0)) (λ f. heading.whole (capacity 0 (sizes .answer) (getD s 6 0) (getD s 7 0)) (λ a. counted s n f a))
-    (λ f. header-whole (capacity 0 (sizes .answer) (getD s 6 0) (getD s 7 0)) (λ a. counted s n f a) (header-counted s n f)))))
-    (λ q. rw q (omega arith))))
-    (λ q. rw q (omega arith))))
+  compacted-small : (cs : List ℕ) → SmallReading (compacted (arityOf ed) cs)
+  unfolding compacted
+  compacted-small cs = tt
 
--- ---- the seven calls
+  callable-small : (b : Bool) (cs : List ℕ) → SmallReading (pick b (compacted (arityOf ed) cs) (refused 6))
+  callable-small true cs = compacted-small cs
+  callable-small false cs = omega arith
 
-small-load : (v : View) (a : ℕ) → Small (loaded edition1 v a (λ w. gives (pairForm arity16 w)))
-unfolding loaded pairForm
-small-load v a =
-    let g = v .subgoal (v .answer a .subgoal) in
-    small-path (gather longest (answerTrie v) (g .root) (v .answer a .leaf)) (legalForm arity16 (g .variables)) (λ w. gives (every pairs (formTerms arity16 w)))
-    (λ w l. omega (arith, legal-cells (g .variables) w l))
+  small-called : (v : View) (r : Reading) → SmallReading r → Small (called v r)
+  unfolding called
+  small-called v (refused r) f = f
+  small-called v (accepted w m) f = small-called-at v (walk (subgoalTrie v) 0 w) m
 
-small-instanced : (v : View) (s : ℕ) (w : Word) → length (every pairs (formTerms arity16 w)) ≤ 256 → Small (instanced edition1 v s (λ u. gives (edition1 .instanceOf u w)))
-unfolding instanced
-small-instanced v s w l =
-    let g = v .subgoal s in
-    small-path (gather longest (subgoalTrie v) 0 (g .leaf)) (λ u. legalForm arity16 1 u && eqb (length (met [] u)) (g .variables)) (λ u. gives (edition1 .instanceOf u w))
-    (λ u k. omega (arith, all-cells (formTerms arity16 w) l (formTerms arity16 u), legal-cells 1 u (and-first (legalForm arity16 1 u) (eqb (length (met [] u)) (g .variables)) k)))
+  small-answered : (v : View) (s : ℕ) (r : Reading) → SmallReading r → Small (answered v s r)
+  unfolding answered
+  small-answered v s (refused r) f = f
+  small-answered v s (accepted w m) f = small-answered-at v s w (walk (answerTrie v) (v .subgoal s .root) w)
 
-small-instance : (v : View) (a : ℕ) → Small (loaded edition1 v a (λ w. instanced edition1 v (v .answer a .subgoal) (λ u. gives (edition1 .instanceOf u w))))
-unfolding loaded
-small-instance v a =
-    let s = v .answer a .subgoal in
-    let g = v .subgoal s in
-    small-path (gather longest (answerTrie v) (g .root) (v .answer a .leaf)) (legalForm arity16 (g .variables)) (λ w. instanced edition1 v s (λ u. gives (edition1 .instanceOf u w)))
-    (λ w l. small-instanced v s w (legal-cells (g .variables) w l))
+  -- ---- the header
 
-decide-small : (v : View) (q : Request) → Small (decide edition1 v q)
-unfolding decide
-decide-small v (call cs) =
-    small-called v (edition1 .called cs) (judged-small 1 cs (pick (predicate cs) (compacted arity16 cs) (refused 6)) (callable-small (predicate cs) cs))
-decide-small v (answer s cs) =
-    let g = v .subgoal s in
-    let r = edition1 .answered (g .variables) cs in
-    small-known (sound (soundSubgoal v s && rootSound (answerTrie v) (g .root)) (whileOpen (stateOf (g .state)) (answered v s r))) (v .subgoals) s
-    (small-sound (whileOpen (stateOf (g .state)) (answered v s r)) (soundSubgoal v s && rootSound (answerTrie v) (g .root))
-    (λ q. small-while (answered v s r) (stateOf (g .state)) (small-answered v s r (judged-small (g .variables) cs (compacted arity16 cs) (compacted-small cs)))))
-decide-small v (finish s) =
-    small-known (sound (soundSubgoal v s) (finishes s)) (v .subgoals) s (small-sound (finishes s) (soundSubgoal v s) (λ q. tt))
-decide-small v (next s a) =
-    small-known (pick (starting v s a) (onward v s a) (refuses 7)) (v .subgoals) s
-    (small-pick (starting v s a) (onward v s a) 7 (omega arith) (λ q. small-onward v s a))
-decide-small v (load a out) =
-    let d = loaded edition1 v a (λ w. gives (pairForm arity16 w)) in
-    small-known (sound (soundPair v a) d) (v .answers) a (small-sound d (soundPair v a) (λ q. small-load v a))
-decide-small v (instance a out) =
-    let d = loaded edition1 v a (λ w. instanced edition1 v (v .answer a .subgoal) (λ u. gives (edition1 .instanceOf u w))) in
-    small-known (sound (soundPair v a) d) (v .answers) a (small-sound d (soundPair v a) (λ q. small-instance v a))
-decide-small v counts = tt
+  header-whole : (k : Capacity) (f : ℕ → Header) → ((n : ℕ) → SmallHeader (f n)) → SmallHeader (heading.whole k f)
+  unfolding heading.whole
+  header-whole (Whole n) f g = g n
+  header-whole Broken f g = omega arith
 
-reply-bounded : (v : View) (d : Decision) (room : ℕ) → Small d → Bounded (reply v d room)
-unfolding reply
-reply-bounded v (says r) room f = f
-reply-bounded v (gives ks) room f = by-cases (leb (length ks) room) (λ q. rw q f) (λ q. rw q f)
-reply-bounded v (entersSubgoal parent last left m) room f = tt
-reply-bounded v (entersAnswer s parent last left) room f = tt
-reply-bounded v (entersEmpty s) room f = tt
-reply-bounded v (finishes s) room f = tt
+  header-counted : (s : List ℕ) (n f a : ℕ) → SmallHeader (counted s n f a)
+  unfolding counted
+  header-counted s n f a = by-cases (ltb (length s) (getD s 7 0)) (λ q. rw q (omega arith))
+      (λ q. rw q (by-cases (eqb (getD s 1 0) 0) (λ q. rw q (omega arith))
+      (λ q. rw q (by-cases (ltb n (getD s 1 0)) (λ q. rw q (omega arith))
+      (λ q. rw q (by-cases (ltb f (getD s 2 0)) (λ q. rw q (omega arith))
+      (λ q. rw q (by-cases (ltb a (getD s 3 0)) (λ q. rw q (omega arith)) (λ q. rw q tt)))))))))
 
-under-bounded : (s : List ℕ) (q : Request) (h : Header) → SmallHeader h → Bounded (under sizes edition1 s q h .reply)
-unfolding under
-under-bounded s q (header.Sound h) f = reply-bounded (viewOf sizes s h) (decide edition1 (viewOf sizes s h) q) (length (lent q)) (decide-small (viewOf sizes s h) q)
-under-bounded s q (header.Refused r) f = f
+  header-small : (s : List ℕ) → SmallHeader (headerOf (sizesOf ed) s)
+  unfolding headerOf
+  header-small s = by-cases (ltb (length s) 8) (λ q. rw q (omega arith))
+      (λ q. rw q (by-cases (eqb (getD s 0 0) ed)
+      (λ q. rw q (by-cases (eqb (getD s 4 0) 8)
+      (λ q. rw q (header-whole (capacity 1 (sizesOf ed .node) 8 (getD s 5 0)) (λ n. heading.whole (capacity 0 (sizesOf ed .subgoal) (getD s 5 0) (getD s 6 0)) (λ f. heading.whole (capacity 0 (sizesOf ed .answer) (getD s 6 0) (getD s 7 0)) (λ a. counted s n f a)))
+      (λ n. header-whole (capacity 0 (sizesOf ed .subgoal) (getD s 5 0) (getD s 6 0)) (λ f. heading.whole (capacity 0 (sizesOf ed .answer) (getD s 6 0) (getD s 7 0)) (λ a. counted s n f a))
+      (λ f. header-whole (capacity 0 (sizesOf ed .answer) (getD s 6 0) (getD s 7 0)) (λ a. counted s n f a) (header-counted s n f)))))
+      (λ q. rw q (omega arith))))
+      (λ q. rw q (omega arith))))
 
-pub step-bounded : (s : List ℕ) (q : Request) → Bounded (cellStep sizes edition1 s q .reply)
-unfolding cellStep
-step-bounded s q = under-bounded s q (headerOf sizes s) (header-small s)
+  -- ---- the seven calls
 
-pub fresh-bounded : (n f a : ℕ) (s : List ℕ) → Bounded (saidFresh (freshAnswer sizes n f a s))
-unfolding freshAnswer
-fresh-bounded n f a s = by-cases (freshFits sizes n f a s) (λ q. rw q tt) (λ q. rw q (omega arith))
+  small-load : (v : View) (a : ℕ) → Small (loaded (codingOf ed) v a (λ w. gives (pairForm (arityOf ed) w)))
+  unfolding loaded pairForm
+  small-load v a =
+      let g = v .subgoal (v .answer a .subgoal) in
+      small-path (gather longest (answerTrie v) (g .root) (v .answer a .leaf)) (legalForm (arityOf ed) (g .variables)) (λ w. gives (every pairs (formTerms (arityOf ed) w)))
+      (λ w l. omega (arith, legal-cells (arityOf ed) (g .variables) w l))
+
+  small-instanced : (v : View) (s : ℕ) (w : Word) → length (every pairs (formTerms (arityOf ed) w)) ≤ 256 → Small (instanced (codingOf ed) v s (λ u. gives ((codingOf ed) .instanceOf u w)))
+  unfolding instanced
+  small-instanced v s w l =
+      let g = v .subgoal s in
+      small-path (gather longest (subgoalTrie v) 0 (g .leaf)) (λ u. legalForm (arityOf ed) 1 u && eqb (length (met [] u)) (g .variables)) (λ u. gives ((codingOf ed) .instanceOf u w))
+      (λ u k. omega (arith, all-cells (formTerms (arityOf ed) w) l (formTerms (arityOf ed) u), legal-cells (arityOf ed) 1 u (and-first (legalForm (arityOf ed) 1 u) (eqb (length (met [] u)) (g .variables)) k)))
+
+  small-instance : (v : View) (a : ℕ) → Small (loaded (codingOf ed) v a (λ w. instanced (codingOf ed) v (v .answer a .subgoal) (λ u. gives ((codingOf ed) .instanceOf u w))))
+  unfolding loaded
+  small-instance v a =
+      let s = v .answer a .subgoal in
+      let g = v .subgoal s in
+      small-path (gather longest (answerTrie v) (g .root) (v .answer a .leaf)) (legalForm (arityOf ed) (g .variables)) (λ w. instanced (codingOf ed) v s (λ u. gives ((codingOf ed) .instanceOf u w)))
+      (λ w l. small-instanced v s w (legal-cells (arityOf ed) (g .variables) w l))
+
+  decide-small : (v : View) (q : Request) → Small (decide (codingOf ed) v q)
+  unfolding decide
+  decide-small v (call cs) =
+      small-called v ((codingOf ed) .called cs) (judged-small 1 cs (pick (predicate cs) (compacted (arityOf ed) cs) (refused 6)) (callable-small (predicate cs) cs))
+  decide-small v (answer s cs) =
+      let g = v .subgoal s in
+      let r = (codingOf ed) .answered (g .variables) cs in
+      small-known (sound (soundSubgoal v s && rootSound (answerTrie v) (g .root)) (whileOpen (stateOf (g .state)) (answered v s r))) (v .subgoals) s
+      (small-sound (whileOpen (stateOf (g .state)) (answered v s r)) (soundSubgoal v s && rootSound (answerTrie v) (g .root))
+      (λ q. small-while (answered v s r) (stateOf (g .state)) (small-answered v s r (judged-small (g .variables) cs (compacted (arityOf ed) cs) (compacted-small cs)))))
+  decide-small v (finish s) =
+      small-known (sound (soundSubgoal v s) (finishes s)) (v .subgoals) s (small-sound (finishes s) (soundSubgoal v s) (λ q. tt))
+  decide-small v (next s a) =
+      small-known (pick (starting v s a) (onward v s a) (refuses 7)) (v .subgoals) s
+      (small-pick (starting v s a) (onward v s a) 7 (omega arith) (λ q. small-onward v s a))
+  decide-small v (load a out) =
+      let d = loaded (codingOf ed) v a (λ w. gives (pairForm (arityOf ed) w)) in
+      small-known (sound (soundPair v a) d) (v .answers) a (small-sound d (soundPair v a) (λ q. small-load v a))
+  decide-small v (instance a out) =
+      let d = loaded (codingOf ed) v a (λ w. instanced (codingOf ed) v (v .answer a .subgoal) (λ u. gives ((codingOf ed) .instanceOf u w))) in
+      small-known (sound (soundPair v a) d) (v .answers) a (small-sound d (soundPair v a) (λ q. small-instance v a))
+  decide-small v counts = tt
+
+  reply-bounded : (v : View) (d : Decision) (room : ℕ) → Small d → Bounded (reply v d room)
+  unfolding reply
+  reply-bounded v (says r) room f = f
+  reply-bounded v (gives ks) room f = by-cases (leb (length ks) room) (λ q. rw q f) (λ q. rw q f)
+  reply-bounded v (entersSubgoal parent last left m) room f = tt
+  reply-bounded v (entersAnswer s parent last left) room f = tt
+  reply-bounded v (entersEmpty s) room f = tt
+  reply-bounded v (finishes s) room f = tt
+
+  under-bounded : (s : List ℕ) (q : Request) (h : Header) → SmallHeader h → Bounded (under (sizesOf ed) (codingOf ed) s q h .reply)
+  unfolding under
+  under-bounded s q (header.Sound h) f = reply-bounded (viewOf (sizesOf ed) s h) (decide (codingOf ed) (viewOf (sizesOf ed) s h) q) (length (lent q)) (decide-small (viewOf (sizesOf ed) s h) q)
+  under-bounded s q (header.Refused r) f = f
+
+any-small : (s : List ℕ) → SmallHeader (spaceHeader s)
+unfolding spaceHeader
+any-small s = by-cases (knownEdition (getD s 0 0)) (λ q. rw q (header-small (getD s 0 0) s)) (λ q. rw q (omega arith))
+
+any-bounded : (s : List ℕ) (q : Request) (h : Header) → SmallHeader h → Bounded (underAny s q h .reply)
+unfolding underAny
+any-bounded s q (header.Sound h) f = under-bounded (h .edition) s q (header.Sound h) f
+any-bounded s q (header.Refused r) f = f
+
+pub step-bounded : (s : List ℕ) (q : Request) → Bounded (spaceStep s q .reply)
+unfolding spaceStep
+step-bounded s q = any-bounded s q (spaceHeader s) (any-small s)
+
+pub fresh-bounded : (e n f a : ℕ) (s : List ℕ) → Bounded (saidFresh (freshAnswerIn e n f a s))
+unfolding freshAnswerIn freshAnswer
+fresh-bounded e n f a s = by-cases (knownEdition e)
+    (λ k. by-cases (freshFits (sizesOf e) n f a s) (λ q. rw (k, q) tt) (λ q. rw (k, q) (omega arith)))
+    (λ k. rw k (omega arith))

@@ -3,12 +3,12 @@ use Prim.Native.Nat.{ℕ, _+_, _*_, _^_}
 use mathlib.Core.List.{List, [], _∷_}
 use mathlib.Core.Path.{_≡_, refl}
 use Rattle.plain.specs.Requests.{Open, Finished, finish, next, new, oldSubgoal, oldAnswer, done, at, none, cells, refused, short}
-use Rattle.plain.specs.Coding.{edition1}
-use Rattle.space.specs.Layout.{sizes}
-use Rattle.space.specs.Heading.{inRange, capacity, whole, counted, headerOf}
-use Rattle.space.specs.Fresh.{freshCells, freshFits, freshAnswer}
+use Rattle.basis.specs.Editions.{knownEdition}
+use Rattle.space.specs.Layout.{sizes, subgoalWidth, answerWidth}
+use Rattle.space.specs.Heading.{inRange, capacity, whole, counted, headerOf, spaceHeader}
+use Rattle.space.specs.Fresh.{freshCells, freshFits, freshAnswer, freshAnswerIn}
 use Rattle.store.specs.Decisions.{decide}
-use Rattle.store.specs.Calls.{reply, under, cellStep}
+use Rattle.store.specs.Calls.{reply, under, underAny, spaceStep}
 use Rattle.words.specs.Words.{word, saidFresh, counting, countsReply, countsOut, countsOf}
 
 -- a fresh space for four nodes, two subgoals and one answer: 43 cells
@@ -32,13 +32,15 @@ words = (refl, refl, refl, refl, refl, refl, refl, refl, refl, refl)
 
 pub calls :
     -- its cells are room for a space like it, and not for one with an answer more
-    (word (saidFresh (freshAnswer sizes 4 2 1 space)) ≡ 0)
-    × (word (saidFresh (freshAnswer sizes 4 2 2 space)) ≡ 258 * 2 ^ 32)
+    (word (saidFresh (freshAnswerIn 1 4 2 1 space)) ≡ 0)
+    × (word (saidFresh (freshAnswerIn 1 4 2 2 space)) ≡ 258 * 2 ^ 32)
+    -- there is no edition 256
+    × (word (saidFresh (freshAnswerIn 256 4 2 1 space)) ≡ 258 * 2 ^ 32)
     -- no subgoal has number 1 yet; no space has no cells
-    × (word (cellStep sizes edition1 space (finish 1) .reply) ≡ 263 * 2 ^ 32)
-    × (word (cellStep sizes edition1 [] (next 1 0) .reply) ≡ 257 * 2 ^ 32)
-unfolding word freshAnswer freshFits freshCells inRange capacity whole counted headerOf decide reply under cellStep
-calls = (refl, refl, refl, refl)
+    × (word (spaceStep space (finish 1) .reply) ≡ 263 * 2 ^ 32)
+    × (word (spaceStep [] (next 1 0) .reply) ≡ 257 * 2 ^ 32)
+unfolding word freshAnswerIn freshAnswer freshFits freshCells inRange capacity whole counted knownEdition headerOf spaceHeader subgoalWidth answerWidth decide reply under underAny spaceStep
+calls = (refl, refl, refl, refl, refl)
 
 pub counts :
     -- one node is used; the cell behind the three stays
@@ -50,5 +52,5 @@ pub counts :
     -- the header is refused first, whether or not out is long enough
     × (word (countsReply (countsOf []) (9 ∷ 9 ∷ [])) ≡ 257 * 2 ^ 32)
     × (countsOut (countsOf []) (9 ∷ 9 ∷ 9 ∷ []) ≡ 9 ∷ 9 ∷ 9 ∷ [])
-unfolding word countsReply countsOut counting freshCells inRange capacity whole counted headerOf decide reply under cellStep
+unfolding word countsReply countsOut counting freshCells inRange capacity whole counted knownEdition headerOf spaceHeader subgoalWidth answerWidth decide reply under underAny spaceStep
 counts = (refl, refl, refl, refl, refl, refl)

@@ -1,15 +1,14 @@
 -- The result words of the calls over cells: an answer as one number, and what `tables_counts` does.
 use Prim.Native.Nat.{ℕ, _+_, _*_, _^_}
-use mathlib.Core.List.{List, _∷_}
+use mathlib.Core.List.{List, [], _∷_}
+use mathlib.Core.Path.{_≡_}
 use lib.Dec.{leb}
 use lib.ListN.{length, drop}
 use Rattle.basis.specs.Choice.{pick}
-use Rattle.plain.specs.Coding.{edition1}
-use Rattle.plain.specs.Requests.{Open, Finished, counts, Counts, Reply, new, oldSubgoal, oldAnswer, done, at, none, cells, used, refused, short}
-use Rattle.space.specs.Layout.{sizes}
+use Rattle.plain.specs.Requests.{Open, Finished, Request, counts, Counts, Reply, new, oldSubgoal, oldAnswer, done, at, none, cells, used, refused, short}
 use Rattle.space.specs.declared.FreshAnswer.{FreshAnswer}
 use Rattle.space.specs.declared.FreshAnswer.the-variants as fresh
-use Rattle.store.specs.Calls.{cellStep}
+use Rattle.store.specs.Calls.{spaceStep, Answers}
 
 -- what was answered in the upper half, its value in the lower
 abbrev pub worded : ℕ → ℕ → ℕ
@@ -33,6 +32,10 @@ word (short n) = worded (256 + 12) n
 abbrev pub saidFresh : FreshAnswer → Reply
 saidFresh fresh.Done = done
 saidFresh (fresh.Refused r) = refused r
+
+-- An export returns w: the word of what the call answers. The contract of every exported call but `tables_counts`.
+abbrev pub Returns : List ℕ → Request → ℕ → List ℕ → List ℕ → Type 0
+Returns before q w out after = (r : Reply) × Answers before q r out after × (w ≡ word r)
 
 -- ---- `tables_counts`
 
@@ -60,4 +63,9 @@ countsOut reply out =
 
 -- what counts answers on the cells of a space
 abbrev pub countsOf : List ℕ → Reply
-countsOf space = cellStep sizes edition1 space counts .reply
+countsOf space = spaceStep space counts .reply
+
+-- `tables_counts` is lent an out of its own, beside what the call answers
+abbrev pub ReturnsCounts : List ℕ → ℕ → List ℕ → List ℕ → Type 0
+ReturnsCounts before w out out′ =
+    (r : Reply) × Answers before counts r [] before × (w ≡ word (countsReply r out)) × (out′ ≡ countsOut r out)

@@ -1,110 +1,28 @@
--- `tables_expand` meets its contract: each outcome by its law.
-use native.Mathlib.Omega.{arith}
-use Rattle.engine.proofs.ExportLaws.{expand-odd, expand-long}
+-- `tables_expand` meets its contract: the edition is judged first.
 use borrow.Author.Needs.{needs}
+use native.Mathlib.Omega.{arith}
+use mathlib.Core.Path.{_∙_, sym}
+use Rattle.engine.proofs.ExportLaws.{edition-known, edition-refused}
 use Rattle.engine.proofs.tables_expand.Statement.{statement}
 use Rattle.engine.proofs.tables_expand.Tie as tie
-use Rattle.engine.proofs.tables_expand.Reads as reads
-use Rattle.engine.proofs.tables_expand.Lts as lts
-use Rattle.engine.proofs.expand_with.Reads as expand-with-reads
 
-add-result : tie.Need-add-result
-add-result c = omega arith
+is-converter-edition-requires : tie.Need-is-converter-edition-requires
+is-converter-edition-requires c κs = search needs
 
-returns : tie.Need-returns
-returns c = expand-odd _ _ (c .if1 .taken)
-
-slice-aggregate-expand-with : tie.Need-slice-aggregate-expand-with
-slice-aggregate-expand-with c = search needs
-
-slice-aggregate-expand-with-2 : tie.Need-slice-aggregate-expand-with-2
-slice-aggregate-expand-with-2 c = search needs
-
-expand-with-requires : tie.Need-expand-with-requires
-expand-with-requires c κs = search needs
+expand-input-requires : tie.Need-expand-input-requires
+expand-input-requires c κs = search needs
 
 same-length : tie.Need-same-length
 same-length c = search needs
 
+returns : tie.Need-returns
+returns c = edition-known _ _ _ _ (sym (c .before .before .before .before .before .is-converter-edition .ensures) ∙ c .before .before .before .before .if1 .taken) (c .before .before .expand-input .ensures)
+
+add-result : tie.Need-add-result
+add-result c = omega arith
+
 returns-2 : tie.Need-returns-2
-returns-2 c = search needs
-
-slice-aggregate-expand-with-3 : tie.Need-slice-aggregate-expand-with-3
-slice-aggregate-expand-with-3 c = search needs
-
-slice-aggregate-expand-with-4 : tie.Need-slice-aggregate-expand-with-4
-slice-aggregate-expand-with-4 c = search needs
-
-expand-with-requires-2 : tie.Need-expand-with-requires-2
-expand-with-requires-2 c κs = search needs
-
-same-length-2 : tie.Need-same-length-2
-same-length-2 c = search needs
-
-returns-3 : tie.Need-returns-3
-returns-3 c = search needs
-
-slice-aggregate-expand-with-5 : tie.Need-slice-aggregate-expand-with-5
-slice-aggregate-expand-with-5 c = search needs
-
-slice-aggregate-expand-with-6 : tie.Need-slice-aggregate-expand-with-6
-slice-aggregate-expand-with-6 c = search needs
-
-expand-with-requires-3 : tie.Need-expand-with-requires-3
-expand-with-requires-3 c κs = search needs
-
-same-length-3 : tie.Need-same-length-3
-same-length-3 c = search needs
-
-returns-4 : tie.Need-returns-4
-returns-4 c = search needs
-
-slice-aggregate-expand-with-7 : tie.Need-slice-aggregate-expand-with-7
-slice-aggregate-expand-with-7 c = search needs
-
-slice-aggregate-expand-with-8 : tie.Need-slice-aggregate-expand-with-8
-slice-aggregate-expand-with-8 c = search needs
-
-expand-with-requires-4 : tie.Need-expand-with-requires-4
-expand-with-requires-4 c κs = search needs
-
-same-length-4 : tie.Need-same-length-4
-same-length-4 c = search needs
-
-returns-5 : tie.Need-returns-5
-returns-5 c = search needs
-
-add-result-2 : tie.Need-add-result-2
-add-result-2 c = omega arith
-
-returns-6 : tie.Need-returns-6
-returns-6 c = expand-long _ _ (c .before .before .before .before .if1 .left) (omega arith)
+returns-2 c = edition-refused _ _ _ (sym (c .before .is-converter-edition .ensures) ∙ c .if1 .left)
 
 pub tables-expand-spec : {M : Type 1} → statement M
-tables-expand-spec =
-    tie.close
-    (tie.spec
-    add-result
-    returns
-    slice-aggregate-expand-with
-    slice-aggregate-expand-with-2
-    expand-with-requires
-    same-length
-    returns-2
-    slice-aggregate-expand-with-3
-    slice-aggregate-expand-with-4
-    expand-with-requires-2
-    same-length-2
-    returns-3
-    slice-aggregate-expand-with-5
-    slice-aggregate-expand-with-6
-    expand-with-requires-3
-    same-length-3
-    returns-4
-    slice-aggregate-expand-with-7
-    slice-aggregate-expand-with-8
-    expand-with-requires-4
-    same-length-4
-    returns-5
-    add-result-2
-    returns-6)
+tables-expand-spec = tie.close (tie.spec is-converter-edition-requires expand-input-requires same-length returns add-result returns-2)

@@ -8,9 +8,7 @@ use Rattle.basis.proofs.Tests.{told}
 use Rattle.text.specs.Fields.{fields, hexCells}
 use Rattle.text.specs.Places.{fieldAt, restAt}
 use Rattle.plain.specs.Requests as request
-use Rattle.plain.specs.Coding.{edition1}
-use Rattle.space.specs.Layout.{sizes}
-use Rattle.store.specs.Calls.{cellStep}
+use Rattle.store.specs.Calls.{spaceStep}
 use Rattle.session.specs.Lines.{Meaning, withCells, oneNumber, twoNumbers, numberAndCells, noField, wordMeans}
 use Rattle.session.specs.Session.{says}
 use Rattle.session.proofs.AskingLaws.{bad-leaves, bad-out, leaves-alike, keeps-alike, call-keeps, answer-keeps, finish-keeps, next-keeps, counts-keeps, word-call, word-answer, word-finish, word-next, word-load, word-instance, word-counts, word-none}
@@ -138,7 +136,7 @@ same-length-11 : tie.Need-same-length-11
 same-length-11 c = search needs
 
 returns-5 : tie.Need-returns-5
-returns-5 c = let l = c .before .before .before .before .before .before .before .before .before .before .before .before .before .before .before .before .before .before .before .before .before .before .before .before .before .before .before .before .before .before .before .before .before .args .line .now in let s = c .before .before .before .before .before .before .before .before .before .before .before .before .before .before .before .before .before .before .before .before .before .before .before .before .before .before .before .before .before .before .before .before .before .args .space .now in let out = c .before .before .before .before .before .before .before .before .before .before .before .before .before .before .before .before .before .before .before .before .before .before .before .before .before .before .before .before .before .before .before .before .before .args .out .now in let at = c .before .before .before .before .before .before .before .before .before .before .before .before .before .before .before .before .before .before .before .before .before .before .before .before .before .before .before .before .first-end .result in let fs = restAt l at in let e = c .before .before .before .before .before .before .before .before .before .before .before .before .before .before .before .before .before .before .before .before .before .before .before .before .before .before .before .before .first-end .ensures in let q = (word-load (fields l) (take at l) fs out (e .1) (e .2) (told (c .before .before .before .before .before .before .before .before .before .before .before .before .before .before .before .before .before .before .before .before .before .before .before .before .before .is-word .ensures) (c .before .before .before .before .before .before .before .before .before .before .before .before .before .before .before .before .before .before .before .before .before .before .before .before .if1 .left)) (told (c .before .before .before .before .before .before .before .before .before .before .before .before .before .before .before .before .before .before .before .before .before .is-word2 .ensures) (c .before .before .before .before .before .before .before .before .before .before .before .before .before .before .before .before .before .before .before .before .if2 .left)) (told (c .before .before .before .before .before .before .before .before .before .before .before .before .before .before .before .before .before .is-word3 .ensures) (c .before .before .before .before .before .before .before .before .before .before .before .before .before .before .before .before .if3 .left)) (told (c .before .before .before .before .before .before .before .before .before .before .before .before .before .is-word4 .ensures) (c .before .before .before .before .before .before .before .before .before .before .before .before .if4 .left)) (told (c .before .before .before .before .before .before .before .before .before .is-word5 .ensures) (c .before .before .before .before .before .before .before .before .if5 .taken))) in (leaves-alike s out _ _ _ _ (wordMeans (fields l) out) (oneNumber fs (λ a. request.load a out)) q (c .before .before .before .before .ask-load .ensures .0), c .before .before .before .before .ask-load .ensures .1 ∙ sym (ap (λ (x : Meaning). says (cellStep sizes edition1) x s out .out) q))
+returns-5 c = let l = c .before .before .before .before .before .before .before .before .before .before .before .before .before .before .before .before .before .before .before .before .before .before .before .before .before .before .before .before .before .before .before .before .before .args .line .now in let s = c .before .before .before .before .before .before .before .before .before .before .before .before .before .before .before .before .before .before .before .before .before .before .before .before .before .before .before .before .before .before .before .before .before .args .space .now in let out = c .before .before .before .before .before .before .before .before .before .before .before .before .before .before .before .before .before .before .before .before .before .before .before .before .before .before .before .before .before .before .before .before .before .args .out .now in let at = c .before .before .before .before .before .before .before .before .before .before .before .before .before .before .before .before .before .before .before .before .before .before .before .before .before .before .before .before .first-end .result in let fs = restAt l at in let e = c .before .before .before .before .before .before .before .before .before .before .before .before .before .before .before .before .before .before .before .before .before .before .before .before .before .before .before .before .first-end .ensures in let q = (word-load (fields l) (take at l) fs out (e .1) (e .2) (told (c .before .before .before .before .before .before .before .before .before .before .before .before .before .before .before .before .before .before .before .before .before .before .before .before .before .is-word .ensures) (c .before .before .before .before .before .before .before .before .before .before .before .before .before .before .before .before .before .before .before .before .before .before .before .before .if1 .left)) (told (c .before .before .before .before .before .before .before .before .before .before .before .before .before .before .before .before .before .before .before .before .before .is-word2 .ensures) (c .before .before .before .before .before .before .before .before .before .before .before .before .before .before .before .before .before .before .before .before .if2 .left)) (told (c .before .before .before .before .before .before .before .before .before .before .before .before .before .before .before .before .before .is-word3 .ensures) (c .before .before .before .before .before .before .before .before .before .before .before .before .before .before .before .before .if3 .left)) (told (c .before .before .before .before .before .before .before .before .before .before .before .before .before .is-word4 .ensures) (c .before .before .before .before .before .before .before .before .before .before .before .before .if4 .left)) (told (c .before .before .before .before .before .before .before .before .before .is-word5 .ensures) (c .before .before .before .before .before .before .before .before .if5 .taken))) in (leaves-alike s out _ _ _ _ (wordMeans (fields l) out) (oneNumber fs (λ a. request.load a out)) q (c .before .before .before .before .ask-load .ensures .0), c .before .before .before .before .ask-load .ensures .1 ∙ sym (ap (λ (x : Meaning). says spaceStep x s out .out) q))
 
 slice-aggregate-is-word-11 : tie.Need-slice-aggregate-is-word-11
 slice-aggregate-is-word-11 c = sym (length-take-le _ _ (c .before .before .before .before .before .before .before .before .before .before .before .before .before .before .before .before .before .before .before .before .before .first-end .ensures .0 .0))
@@ -162,7 +160,7 @@ same-length-14 : tie.Need-same-length-14
 same-length-14 c = search needs
 
 returns-6 : tie.Need-returns-6
-returns-6 c = let l = c .before .before .before .before .before .before .before .before .before .before .before .before .before .before .before .before .before .before .before .before .before .before .before .before .before .before .before .before .before .before .before .before .before .before .before .before .before .args .line .now in let s = c .before .before .before .before .before .before .before .before .before .before .before .before .before .before .before .before .before .before .before .before .before .before .before .before .before .before .before .before .before .before .before .before .before .before .before .before .before .args .space .now in let out = c .before .before .before .before .before .before .before .before .before .before .before .before .before .before .before .before .before .before .before .before .before .before .before .before .before .before .before .before .before .before .before .before .before .before .before .before .before .args .out .now in let at = c .before .before .before .before .before .before .before .before .before .before .before .before .before .before .before .before .before .before .before .before .before .before .before .before .before .before .before .before .before .before .before .before .first-end .result in let fs = restAt l at in let e = c .before .before .before .before .before .before .before .before .before .before .before .before .before .before .before .before .before .before .before .before .before .before .before .before .before .before .before .before .before .before .before .before .first-end .ensures in let q = (word-instance (fields l) (take at l) fs out (e .1) (e .2) (told (c .before .before .before .before .before .before .before .before .before .before .before .before .before .before .before .before .before .before .before .before .before .before .before .before .before .before .before .before .before .is-word .ensures) (c .before .before .before .before .before .before .before .before .before .before .before .before .before .before .before .before .before .before .before .before .before .before .before .before .before .before .before .before .if1 .left)) (told (c .before .before .before .before .before .before .before .before .before .before .before .before .before .before .before .before .before .before .before .before .before .before .before .before .before .is-word2 .ensures) (c .before .before .before .before .before .before .before .before .before .before .before .before .before .before .before .before .before .before .before .before .before .before .before .before .if2 .left)) (told (c .before .before .before .before .before .before .before .before .before .before .before .before .before .before .before .before .before .before .before .before .before .is-word3 .ensures) (c .before .before .before .before .before .before .before .before .before .before .before .before .before .before .before .before .before .before .before .before .if3 .left)) (told (c .before .before .before .before .before .before .before .before .before .before .before .before .before .before .before .before .before .is-word4 .ensures) (c .before .before .before .before .before .before .before .before .before .before .before .before .before .before .before .before .if4 .left)) (told (c .before .before .before .before .before .before .before .before .before .before .before .before .before .is-word5 .ensures) (c .before .before .before .before .before .before .before .before .before .before .before .before .if5 .left)) (told (c .before .before .before .before .before .before .before .before .before .is-word6 .ensures) (c .before .before .before .before .before .before .before .before .if6 .taken))) in (leaves-alike s out _ _ _ _ (wordMeans (fields l) out) (oneNumber fs (λ a. request.instance a out)) q (c .before .before .before .before .ask-instance .ensures .0), c .before .before .before .before .ask-instance .ensures .1 ∙ sym (ap (λ (x : Meaning). says (cellStep sizes edition1) x s out .out) q))
+returns-6 c = let l = c .before .before .before .before .before .before .before .before .before .before .before .before .before .before .before .before .before .before .before .before .before .before .before .before .before .before .before .before .before .before .before .before .before .before .before .before .before .args .line .now in let s = c .before .before .before .before .before .before .before .before .before .before .before .before .before .before .before .before .before .before .before .before .before .before .before .before .before .before .before .before .before .before .before .before .before .before .before .before .before .args .space .now in let out = c .before .before .before .before .before .before .before .before .before .before .before .before .before .before .before .before .before .before .before .before .before .before .before .before .before .before .before .before .before .before .before .before .before .before .before .before .before .args .out .now in let at = c .before .before .before .before .before .before .before .before .before .before .before .before .before .before .before .before .before .before .before .before .before .before .before .before .before .before .before .before .before .before .before .before .first-end .result in let fs = restAt l at in let e = c .before .before .before .before .before .before .before .before .before .before .before .before .before .before .before .before .before .before .before .before .before .before .before .before .before .before .before .before .before .before .before .before .first-end .ensures in let q = (word-instance (fields l) (take at l) fs out (e .1) (e .2) (told (c .before .before .before .before .before .before .before .before .before .before .before .before .before .before .before .before .before .before .before .before .before .before .before .before .before .before .before .before .before .is-word .ensures) (c .before .before .before .before .before .before .before .before .before .before .before .before .before .before .before .before .before .before .before .before .before .before .before .before .before .before .before .before .if1 .left)) (told (c .before .before .before .before .before .before .before .before .before .before .before .before .before .before .before .before .before .before .before .before .before .before .before .before .before .is-word2 .ensures) (c .before .before .before .before .before .before .before .before .before .before .before .before .before .before .before .before .before .before .before .before .before .before .before .before .if2 .left)) (told (c .before .before .before .before .before .before .before .before .before .before .before .before .before .before .before .before .before .before .before .before .before .is-word3 .ensures) (c .before .before .before .before .before .before .before .before .before .before .before .before .before .before .before .before .before .before .before .before .if3 .left)) (told (c .before .before .before .before .before .before .before .before .before .before .before .before .before .before .before .before .before .is-word4 .ensures) (c .before .before .before .before .before .before .before .before .before .before .before .before .before .before .before .before .if4 .left)) (told (c .before .before .before .before .before .before .before .before .before .before .before .before .before .is-word5 .ensures) (c .before .before .before .before .before .before .before .before .before .before .before .before .if5 .left)) (told (c .before .before .before .before .before .before .before .before .before .is-word6 .ensures) (c .before .before .before .before .before .before .before .before .if6 .taken))) in (leaves-alike s out _ _ _ _ (wordMeans (fields l) out) (oneNumber fs (λ a. request.instance a out)) q (c .before .before .before .before .ask-instance .ensures .0), c .before .before .before .before .ask-instance .ensures .1 ∙ sym (ap (λ (x : Meaning). says spaceStep x s out .out) q))
 
 slice-aggregate-is-word-13 : tie.Need-slice-aggregate-is-word-13
 slice-aggregate-is-word-13 c = sym (length-take-le _ _ (c .before .before .before .before .before .before .before .before .before .before .before .before .before .before .before .before .before .before .before .before .before .before .before .before .before .first-end .ensures .0 .0))

@@ -3,9 +3,7 @@ use mathlib.Core.Path.{_≡_, refl, sym, ap, _∙_}
 use native.Mathlib.Omega.{arith}
 use borrow.Author.Needs.{needs}
 use Rattle.text.specs.Fields.{fields}
-use Rattle.plain.specs.Coding.{edition1}
-use Rattle.space.specs.Layout.{sizes}
-use Rattle.store.specs.Calls.{cellStep}
+use Rattle.store.specs.Calls.{spaceStep}
 use Rattle.session.specs.Lines.{Meaning, wordMeans, means}
 use Rattle.session.specs.Session.{says}
 use Rattle.session.proofs.AskingLaws.{means-short, means-long, bad-leaves, bad-out, leaves-alike}
@@ -29,7 +27,7 @@ same-length-3 : tie.Need-same-length-3
 same-length-3 c = search needs
 
 returns : tie.Need-returns
-returns c = let l = c .before .before .before .before .before .before .before .before .before .before .before .before .before .before .before .args .line .now in let s = c .before .before .before .before .before .before .before .before .before .before .before .before .before .before .before .args .space .now in let out = c .before .before .before .before .before .before .before .before .before .before .before .before .before .before .before .args .out .now in let q = means-short l out (omega (arith, c .before .before .before .before .before .before .before .before .before .before .if1 .taken)) in (leaves-alike s out _ _ _ _ (means l out) (wordMeans (fields l) out) q (c .before .before .before .before .before .before .reply .ensures .0), c .before .before .before .before .before .before .reply .ensures .1 ∙ sym (ap (λ (x : Meaning). says (cellStep sizes edition1) x s out .out) q))
+returns c = let l = c .before .before .before .before .before .before .before .before .before .before .before .before .before .before .before .args .line .now in let s = c .before .before .before .before .before .before .before .before .before .before .before .before .before .before .before .args .space .now in let out = c .before .before .before .before .before .before .before .before .before .before .before .before .before .before .before .args .out .now in let q = means-short l out (omega (arith, c .before .before .before .before .before .before .before .before .before .before .if1 .taken)) in (leaves-alike s out _ _ _ _ (means l out) (wordMeans (fields l) out) q (c .before .before .before .before .before .before .reply .ensures .0), c .before .before .before .before .before .before .reply .ensures .1 ∙ sym (ap (λ (x : Meaning). says spaceStep x s out .out) q))
 
 print-bad-requires : tie.Need-print-bad-requires
 print-bad-requires c κs = search needs

@@ -1,5 +1,5 @@
 -- `engine::calls::tables_answer` meets its contract: the word of what `answer` gives.
-use Rattle.words.proofs.WordLaws.{given-word, given-bounded}
+use Rattle.words.proofs.WordLaws.{given-bounded}
 use Rattle.words.proofs.ReplyBounds.{step-bounded}
 use borrow.Author.Needs.{needs}
 use Rattle.engine.proofs.calls.tables_answer.Statement.{statement}
@@ -15,7 +15,7 @@ same-length : tie.Need-same-length
 same-length c = search needs
 
 returns : tie.Need-returns
-returns c = (given-word (c .before .before .before .answer .ensures .0) _ (c .answer-word .ensures), c .before .before .before .answer .ensures .1)
+returns c = (_, c .before .before .before .answer .ensures, c .answer-word .ensures)
 
 pub tables-answer-spec : {M : Type 1} → statement M
 tables-answer-spec = tie.close (tie.spec answer-requires answer-word-requires same-length returns)

@@ -1,5 +1,5 @@
 -- `engine::calls::tables_call` meets its contract: the word of what `call` gives.
-use Rattle.words.proofs.WordLaws.{given-word, given-bounded}
+use Rattle.words.proofs.WordLaws.{given-bounded}
 use Rattle.words.proofs.ReplyBounds.{step-bounded}
 use borrow.Author.Needs.{needs}
 use Rattle.engine.proofs.calls.tables_call.Statement.{statement}
@@ -15,7 +15,7 @@ same-length : tie.Need-same-length
 same-length c = search needs
 
 returns : tie.Need-returns
-returns c = (given-word (c .before .before .before .call .ensures .0) _ (c .call-word .ensures), c .before .before .before .call .ensures .1)
+returns c = (_, c .before .before .before .call .ensures, c .call-word .ensures)
 
 pub tables-call-spec : {M : Type 1} → statement M
 tables-call-spec = tie.close (tie.spec call-requires call-word-requires same-length returns)

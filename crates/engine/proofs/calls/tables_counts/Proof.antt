@@ -8,16 +8,17 @@ use Rattle.store.specs.declared.CountsAnswer.the-variants.{Used, Refused}
 use Rattle.words.specs.Words.{word, countsOf}
 use Rattle.words.proofs.ReplyBounds.{step-bounded}
 use Rattle.words.proofs.WordLaws.{given-bounded, counts-refused, counts-short, counts-given}
+use Rattle.engine.proofs.CountsLaw.{counts-returns}
 use borrow.Author.Needs.{needs}
 use Rattle.engine.proofs.calls.tables_counts.Statement.{statement}
 use Rattle.engine.proofs.calls.tables_counts.Tie as tie
 
 -- the counts that were given, or the refusal
 given : (x : tie.After-known-told) → saidCounts (Used (x .before .answer .given .0 .0)) ≡ countsOf (x .before .before .before .before .before .before .args .space .now)
-given x = told (ap saidCounts (x .before .answer .given .1)) (x .before .before .before .counts .ensures)
+given x = told (ap saidCounts (x .before .answer .given .1)) (x .before .before .before .counts .ensures .0)
 
 refusal : (x : tie.After-known-told2) → saidCounts (Refused (x .before .answer2 .given .0 .0)) ≡ countsOf (x .before .before .before .before .before .before .args .space .now)
-refusal x = told (ap saidCounts (x .before .answer2 .given .1)) (x .before .before .before .counts .ensures)
+refusal x = told (ap saidCounts (x .before .answer2 .given .1)) (x .before .before .before .counts .ensures .0)
 
 counts-requires : tie.Need-counts-requires
 counts-requires c κs = search needs
@@ -33,7 +34,7 @@ result-word-requires c κs = search needs
 
 returns : tie.Need-returns
 unfolding word
-returns c = counts-short _ _ _ _ (given (c .before .before)) (omega arith) (c .result-word .ensures)
+returns c = counts-returns _ _ _ _ (counts-short _ _ _ _ (given (c .before .before)) (omega arith) (c .result-word .ensures))
 
 slice-write-out : tie.Need-slice-write-out
 slice-write-out c = search needs
@@ -52,7 +53,7 @@ same-length c = search needs
 
 returns-2 : tie.Need-returns-2
 unfolding word
-returns-2 c = counts-given _ _ _ _ (given (c .before .before)) (omega arith) (c .result-word2 .ensures)
+returns-2 c = counts-returns _ _ _ _ (counts-given _ _ _ _ (given (c .before .before)) (omega arith) (c .result-word2 .ensures))
 
 enum-known-answer-2 : tie.Need-enum-known-answer-2
 enum-known-answer-2 c = search needs
@@ -61,7 +62,7 @@ refusal-word-requires : tie.Need-refusal-word-requires
 refusal-word-requires c κs = let h = given-bounded (refusal c) (step-bounded _ _) in omega arith
 
 returns-3 : tie.Need-returns-3
-returns-3 c = counts-refused _ _ _ _ (refusal (c .before)) (c .refusal-word .ensures)
+returns-3 c = counts-returns _ _ _ _ (counts-refused _ _ _ _ (refusal (c .before)) (c .refusal-word .ensures))
 
 pub tables-counts-spec : {M : Type 1} → statement M
 tables-counts-spec =

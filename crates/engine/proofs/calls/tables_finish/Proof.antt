@@ -1,5 +1,5 @@
 -- `engine::calls::tables_finish` meets its contract: the word of what `finish` gives.
-use Rattle.words.proofs.WordLaws.{given-word, given-bounded}
+use Rattle.words.proofs.WordLaws.{given-bounded}
 use Rattle.words.proofs.ReplyBounds.{step-bounded}
 use borrow.Author.Needs.{needs}
 use Rattle.engine.proofs.calls.tables_finish.Statement.{statement}
@@ -15,7 +15,7 @@ same-length : tie.Need-same-length
 same-length c = search needs
 
 returns : tie.Need-returns
-returns c = (given-word (c .before .before .before .finish .ensures .0) _ (c .finish-word .ensures), c .before .before .before .finish .ensures .1)
+returns c = (_, c .before .before .before .finish .ensures, c .finish-word .ensures)
 
 pub tables-finish-spec : {M : Type 1} → statement M
 tables-finish-spec = tie.close (tie.spec finish-requires finish-word-requires same-length returns)

@@ -11,7 +11,7 @@ fresh-requires : tie.Need-fresh-requires
 fresh-requires c κs = search needs
 
 fresh-word-requires : tie.Need-fresh-word-requires
-fresh-word-requires c κs = given-bounded (ap saidFresh (c .before .before .fresh .ensures .0)) (fresh-bounded _ _ _ _)
+fresh-word-requires c κs = given-bounded (ap saidFresh (c .before .before .fresh .ensures .0)) (fresh-bounded _ _ _ _ _)
 
 same-length : tie.Need-same-length
 same-length c = search needs

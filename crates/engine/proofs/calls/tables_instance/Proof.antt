@@ -1,5 +1,5 @@
 -- `engine::calls::tables_instance` meets its contract: the word of what `instance` gives.
-use Rattle.words.proofs.WordLaws.{given-word, given-bounded}
+use Rattle.words.proofs.WordLaws.{given-bounded}
 use Rattle.words.proofs.ReplyBounds.{step-bounded}
 use borrow.Author.Needs.{needs}
 use Rattle.engine.proofs.calls.tables_instance.Statement.{statement}
@@ -15,7 +15,7 @@ same-length : tie.Need-same-length
 same-length c = search needs
 
 returns : tie.Need-returns
-returns c = (given-word (c .before .before .before .instance .ensures .0) _ (c .cells-word .ensures), c .before .before .before .instance .ensures .1)
+returns c = (_, c .before .before .before .instance .ensures, c .cells-word .ensures)
 
 pub tables-instance-spec : {M : Type 1} → statement M
 tables-instance-spec =

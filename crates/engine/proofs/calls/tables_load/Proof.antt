@@ -1,5 +1,5 @@
 -- `engine::calls::tables_load` meets its contract: the word of what `load` gives.
-use Rattle.words.proofs.WordLaws.{given-word, given-bounded}
+use Rattle.words.proofs.WordLaws.{given-bounded}
 use Rattle.words.proofs.ReplyBounds.{step-bounded}
 use borrow.Author.Needs.{needs}
 use Rattle.engine.proofs.calls.tables_load.Statement.{statement}
@@ -15,7 +15,7 @@ same-length : tie.Need-same-length
 same-length c = search needs
 
 returns : tie.Need-returns
-returns c = (given-word (c .before .before .before .load .ensures .0) _ (c .cells-word .ensures), c .before .before .before .load .ensures .1)
+returns c = (_, c .before .before .before .load .ensures, c .cells-word .ensures)
 
 pub tables-load-spec : {M : Type 1} → statement M
 tables-load-spec = tie.close (tie.spec load-requires cells-word-requires same-length returns)

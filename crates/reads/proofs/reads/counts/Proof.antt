@@ -2,18 +2,19 @@
 use Rattle.reads.proofs.ReadsCases.{step-refused, counts-used, counts-fit}
 use Rattle.plain.specs.Requests.{counts}
 use Rattle.space.specs.declared.Header.the-variants as header
-use Rattle.space.specs.Heading.{headerOf}
-use Rattle.space.specs.Layout.{sizes}
-use Rattle.plain.specs.Coding.{edition1}
+use Rattle.space.specs.Heading.{spaceHeader}
+use Rattle.space.specs.Layout.{sizesOf}
+use Rattle.plain.specs.Coding.{codingOf}
 use native.Mathlib.Omega.{arith}
 use mathlib.Core.Path.{_≡_}
 use Rattle.basis.proofs.Tests.{told}
+use Rattle.reads.proofs.ReadsLaws.{counts-answers}
 use borrow.Author.Needs.{needs}
 use Rattle.reads.proofs.reads.counts.Statement.{statement}
 use Rattle.reads.proofs.reads.counts.Tie as tie
 
 -- the header that was read
-sound-header : (c : tie.After-known-told) → header.Sound (c .before .header .given .0 .0) ≡ headerOf sizes (c .before .before .before .before .before .args .space .now)
+sound-header : (c : tie.After-known-told) → header.Sound (c .before .header .given .0 .0) ≡ spaceHeader (c .before .before .before .before .before .args .space .now)
 sound-header c = told (c .before .header .given .1) (c .before .before .before .read-header .ensures)
 
 read-header-requires : tie.Need-read-header-requires
@@ -29,7 +30,7 @@ enum-known-header-3 : tie.Need-enum-known-header-3
 enum-known-header-3 c = search needs
 
 returns : tie.Need-returns
-returns c = let e : header.Refused (c .before .header3 .given .0 .0) ≡ headerOf sizes (c .before .before .before .before .before .before .before .before .args .space .now) = told (c .before .header3 .given .1) (told (c .before .before .before .before .header2 .given .1) (c .before .before .before .before .before .before .read-header .ensures)) in step-refused edition1 (c .before .before .before .before .before .before .before .before .args .space .now) counts (c .before .header3 .given .0 .0) e
+returns c = let e : header.Refused (c .before .header3 .given .0 .0) ≡ spaceHeader (c .before .before .before .before .before .before .before .before .args .space .now) = told (c .before .header3 .given .1) (told (c .before .before .before .before .header2 .given .1) (c .before .before .before .before .before .before .read-header .ensures)) in counts-answers _ _ (step-refused (c .before .before .before .before .before .before .before .before .args .space .now) counts (c .before .header3 .given .0 .0) e)
 
 enum-told : tie.Need-enum-told
 enum-told c = search needs
@@ -47,7 +48,7 @@ cast-t7 : tie.Need-cast-t7
 cast-t7 c = let f = counts-fit _ _ (sound-header (c .before .before .before)) in omega arith
 
 returns-3 : tie.Need-returns-3
-returns-3 c = counts-used edition1 _ _ (sound-header (c .before .before .before))
+returns-3 c = counts-answers _ _ (counts-used _ _ (sound-header (c .before .before .before)))
 
 pub counts-spec : {M : Type 1} → statement M
 counts-spec =

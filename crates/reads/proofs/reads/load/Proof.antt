@@ -2,17 +2,18 @@
 use Rattle.reads.proofs.ReadsCases.{load-refused, load-step}
 use Rattle.space.proofs.HeaderLaws.{header-bounds}
 use Rattle.space.specs.declared.Header.the-variants as header
-use Rattle.space.specs.Heading.{headerOf}
-use Rattle.space.specs.Layout.{sizes}
-use Rattle.plain.specs.Coding.{edition1}
+use Rattle.space.specs.Heading.{spaceHeader}
+use Rattle.space.specs.Layout.{sizesOf}
+use Rattle.plain.specs.Coding.{codingOf}
 use mathlib.Core.Path.{_≡_}
 use Rattle.basis.proofs.Tests.{told}
+use Rattle.reads.proofs.ReadsLaws.{load-answers}
 use borrow.Author.Needs.{needs}
 use Rattle.reads.proofs.reads.load.Statement.{statement}
 use Rattle.reads.proofs.reads.load.Tie as tie
 
 -- the header that was read
-sound-header : (c : tie.After-known-told) → header.Sound (c .before .header .given .0 .0) ≡ headerOf sizes (c .before .before .before .before .before .before .args .space .now)
+sound-header : (c : tie.After-known-told) → header.Sound (c .before .header .given .0 .0) ≡ spaceHeader (c .before .before .before .before .before .before .args .space .now)
 sound-header c = told (c .before .header .given .1) (c .before .before .before .read-header .ensures)
 
 read-header-requires : tie.Need-read-header-requires
@@ -28,7 +29,7 @@ enum-known-header-3 : tie.Need-enum-known-header-3
 enum-known-header-3 c = search needs
 
 returns : tie.Need-returns
-returns c = let e : header.Refused (c .before .header3 .given .0 .0) ≡ headerOf sizes (c .before .before .before .before .before .before .before .before .before .args .space .now) = told (c .before .header3 .given .1) (told (c .before .before .before .before .header2 .given .1) (c .before .before .before .before .before .before .read-header .ensures)) in load-refused edition1 (c .before .before .before .before .before .before .before .before .before .args .space .now) (c .before .before .before .before .before .before .before .before .before .args .answer) (c .before .before .before .before .before .before .before .before .before .args .out .now) (c .before .header3 .given .0 .0) e
+returns c = let e : header.Refused (c .before .header3 .given .0 .0) ≡ spaceHeader (c .before .before .before .before .before .before .before .before .before .args .space .now) = told (c .before .header3 .given .1) (told (c .before .before .before .before .header2 .given .1) (c .before .before .before .before .before .before .read-header .ensures)) in load-answers _ _ _ _ _ (load-refused (c .before .before .before .before .before .before .before .before .before .args .space .now) (c .before .before .before .before .before .before .before .before .before .args .answer) (c .before .before .before .before .before .before .before .before .before .args .out .now) (c .before .header3 .given .0 .0) e)
 
 enum-told : tie.Need-enum-told
 enum-told c = search needs
@@ -46,7 +47,7 @@ same-length : tie.Need-same-length
 same-length c = search needs
 
 returns-3 : tie.Need-returns-3
-returns-3 c = load-step edition1 (c .before .before .before .before .before .before .before .before .before .before .before .args .space .now) (c .before .before .before .before .before .before .header .given .0 .0) (sound-header (c .before .before .before .before .before)) _ _ (c .before .before .before .before .wide .ensures .0) (c .before .before .before .before .before .before .before .before .before .before .before .args .out .now) _ _ (c .before .before .load-in .ensures)
+returns-3 c = load-answers _ _ _ _ _ (load-step (c .before .before .before .before .before .before .before .before .before .before .before .args .space .now) (c .before .before .before .before .before .before .header .given .0 .0) (sound-header (c .before .before .before .before .before)) _ _ (c .before .before .before .before .wide .ensures .0) (c .before .before .before .before .before .before .before .before .before .before .before .args .out .now) _ _ (c .before .before .load-in .ensures))
 
 pub load-spec : {M : Type 1} → statement M
 load-spec =

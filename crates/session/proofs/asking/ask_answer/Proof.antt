@@ -9,9 +9,6 @@ use borrow.Author.Needs.{needs}
 use Rattle.text.specs.Fields.{hexCells, behind}
 use Rattle.text.specs.Places.{fieldAt, restAt}
 use Rattle.plain.specs.Requests as request
-use Rattle.plain.specs.Coding.{edition1}
-use Rattle.space.specs.Layout.{sizes}
-use Rattle.store.specs.Calls.{cellStep}
 use Rattle.session.specs.Lines.{withCells, numberAndCells}
 use Rattle.session.proofs.AskingLaws.{first-means, first-bad, cells-ask, cells-bad, bad-leaves, asks-leaves}
 use Rattle.session.proofs.asking.ask_answer.Statement.{statement}
@@ -82,7 +79,7 @@ same-length-4 : tie.Need-same-length-4
 same-length-4 c = search needs
 
 returns-3 : tie.Need-returns-3
-returns-3 c = let l = c .before .before .before .before .before .before .before .before .before .before .before .before .before .before .before .before .before .before .before .before .before .before .args .line .now in let fs = restAt l (c .before .before .before .before .before .before .before .before .before .before .before .before .before .before .before .before .before .before .before .before .before .before .args .at) in let f = rw (c .before .before .before .before .before .before .before .before .before .before .before .before .before .before .before .before .subgoal .given .1) at (c .before .before .before .before .before .before .before .before .before .before .before .before .before .before .before .before .before .before .first-number .ensures) in λ out. asks-leaves (c .before .before .before .before .before .before .before .before .before .before .before .before .before .before .before .before .before .before .before .before .before .before .args .space .now) out _ _ _ (numberAndCells fs request.answer) _ _ _ (first-means fs (λ (gs : List (List ℕ)) (n : ℕ). withCells (hexCells gs) (request.answer n)) _ _ (f .0) (f .2) ∙ cells-ask _ (request.answer _) _ ((rw (c .before .before .before .before .before .before .before .before .before .before .n .given .1) at (c .before .before .before .before .before .before .before .before .before .before .before .before .before .read-cells .ensures)) .0)) (c .before .before .before .before .before .before .answer .ensures .0) (c .before .before .before .before .before .before .answer .ensures .1) (c .before .before .print-answer .ensures _)
+returns-3 c = let l = c .before .before .before .before .before .before .before .before .before .before .before .before .before .before .before .before .before .before .before .before .before .before .args .line .now in let fs = restAt l (c .before .before .before .before .before .before .before .before .before .before .before .before .before .before .before .before .before .before .before .before .before .before .args .at) in let f = rw (c .before .before .before .before .before .before .before .before .before .before .before .before .before .before .before .before .subgoal .given .1) at (c .before .before .before .before .before .before .before .before .before .before .before .before .before .before .before .before .before .before .first-number .ensures) in λ out. asks-leaves (c .before .before .before .before .before .before .before .before .before .before .before .before .before .before .before .before .before .before .before .before .before .before .args .space .now) out _ _ _ (numberAndCells fs request.answer) _ _ _ (first-means fs (λ (gs : List (List ℕ)) (n : ℕ). withCells (hexCells gs) (request.answer n)) _ _ (f .0) (f .2) ∙ cells-ask _ (request.answer _) _ ((rw (c .before .before .before .before .before .before .before .before .before .before .n .given .1) at (c .before .before .before .before .before .before .before .before .before .before .before .before .before .read-cells .ensures)) .0)) (c .before .before .before .before .before .before .answer .ensures .0) (c .before .before .before .before .before .before .answer .ensures .2) (c .before .before .print-answer .ensures _)
 
 pub ask-answer-spec : {M : Type 1} → statement M
 ask-answer-spec =

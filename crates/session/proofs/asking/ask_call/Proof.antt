@@ -7,9 +7,6 @@ use borrow.Author.Needs.{needs}
 use Rattle.text.specs.Fields.{hexCells}
 use Rattle.text.specs.Places.{fieldAt, restAt}
 use Rattle.plain.specs.Requests as request
-use Rattle.plain.specs.Coding.{edition1}
-use Rattle.space.specs.Layout.{sizes}
-use Rattle.store.specs.Calls.{cellStep}
 use Rattle.session.specs.Lines.{withCells}
 use Rattle.session.proofs.AskingLaws.{cells-ask, cells-bad, bad-leaves, asks-leaves}
 use Rattle.session.proofs.asking.ask_call.Statement.{statement}
@@ -61,7 +58,7 @@ same-length-3 : tie.Need-same-length-3
 same-length-3 c = search needs
 
 returns-2 : tie.Need-returns-2
-returns-2 c = let l = c .before .before .before .before .before .before .before .before .before .before .before .before .before .before .before .before .before .before .args .line .now in let fs = restAt l (c .before .before .before .before .before .before .before .before .before .before .before .before .before .before .before .before .before .before .args .at) in λ out. asks-leaves (c .before .before .before .before .before .before .before .before .before .before .before .before .before .before .before .before .before .before .args .space .now) out _ _ _ (withCells (hexCells fs) request.call) _ _ _ (cells-ask fs request.call _ ((rw (c .before .before .before .before .before .before .before .before .before .before .n .given .1) at (c .before .before .before .before .before .before .before .before .before .before .before .before .before .read-cells .ensures)) .0)) (c .before .before .before .before .before .before .call .ensures .0) (c .before .before .before .before .before .before .call .ensures .1) (c .before .before .print-call .ensures _)
+returns-2 c = let l = c .before .before .before .before .before .before .before .before .before .before .before .before .before .before .before .before .before .before .args .line .now in let fs = restAt l (c .before .before .before .before .before .before .before .before .before .before .before .before .before .before .before .before .before .before .args .at) in λ out. asks-leaves (c .before .before .before .before .before .before .before .before .before .before .before .before .before .before .before .before .before .before .args .space .now) out _ _ _ (withCells (hexCells fs) request.call) _ _ _ (cells-ask fs request.call _ ((rw (c .before .before .before .before .before .before .before .before .before .before .n .given .1) at (c .before .before .before .before .before .before .before .before .before .before .before .before .before .read-cells .ensures)) .0)) (c .before .before .before .before .before .before .call .ensures .0) (c .before .before .before .before .before .before .call .ensures .2) (c .before .before .print-call .ensures _)
 
 pub ask-call-spec : {M : Type 1} → statement M
 ask-call-spec =

@@ -5,10 +5,6 @@ use borrow.Author.Needs.{needs}
 use Rattle.text.specs.Places.{fieldAt, restAt}
 use Rattle.plain.specs.Requests as request
 use Rattle.text.proofs.FieldsLaws.{rest-next, place-end}
-use Rattle.plain.specs.Coding.{edition1}
-use Rattle.space.specs.Layout.{sizes}
-use Rattle.store.specs.Calls.{cellStep}
-use Rattle.reads.proofs.ReadsLaws.{counts-stays}
 use Rattle.session.specs.Lines.{noField}
 use Rattle.session.proofs.AskingLaws.{none-asks, some-bad, bad-leaves, asks-leaves}
 use Rattle.session.proofs.asking.ask_counts.Statement.{statement}
@@ -38,7 +34,7 @@ same-length-2 : tie.Need-same-length-2
 same-length-2 c = search needs
 
 returns-2 : tie.Need-returns-2
-returns-2 c = let l = c .before .before .before .before .before .before .before .before .before .args .line .now in let fs = restAt l (c .before .before .before .before .before .before .before .before .before .args .at) in λ out. asks-leaves (c .before .before .before .before .before .before .before .before .before .args .space .now) out _ _ _ (noField fs request.counts) request.counts _ _ (none-asks fs request.counts (place-end l (c .before .before .before .before .before .before .before .before .before .args .at) (omega (arith, c .before .before .before .before .before .before .before .before .before .pre .0 .0, c .before .before .before .before .before .if1 .left)) .1)) (c .before .before .before .before .counts .ensures) (sym (counts-stays sizes edition1 (c .before .before .before .before .before .before .before .before .before .args .space .now))) (c .before .before .print-counts .ensures _)
+returns-2 c = let l = c .before .before .before .before .before .before .before .before .before .args .line .now in let fs = restAt l (c .before .before .before .before .before .before .before .before .before .args .at) in λ out. asks-leaves (c .before .before .before .before .before .before .before .before .before .args .space .now) out _ _ _ (noField fs request.counts) request.counts _ _ (none-asks fs request.counts (place-end l (c .before .before .before .before .before .before .before .before .before .args .at) (omega (arith, c .before .before .before .before .before .before .before .before .before .pre .0 .0, c .before .before .before .before .before .if1 .left)) .1)) (c .before .before .before .before .counts .ensures .0) (c .before .before .before .before .counts .ensures .2) (c .before .before .print-counts .ensures _)
 
 pub ask-counts-spec : {M : Type 1} → statement M
 ask-counts-spec =

@@ -3,9 +3,6 @@ use mathlib.Core.Path.{_≡_, refl, sym, ap, _∙_}
 use borrow.Author.Needs.{needs}
 use Rattle.text.specs.Places.{fieldAt, restAt}
 use Rattle.plain.specs.Requests as request
-use Rattle.plain.specs.Coding.{edition1}
-use Rattle.space.specs.Layout.{sizes}
-use Rattle.store.specs.Calls.{cellStep}
 use Rattle.session.specs.Lines.{oneNumber}
 use Rattle.session.proofs.AskingLaws.{one-asks, one-bad, bad-leaves, asks-leaves}
 use Rattle.session.proofs.asking.ask_finish.Statement.{statement}
@@ -48,7 +45,7 @@ same-length-3 : tie.Need-same-length-3
 same-length-3 c = search needs
 
 returns-2 : tie.Need-returns-2
-returns-2 c = let l = c .before .before .before .before .before .before .before .before .before .before .before .before .before .before .before .args .line .now in let fs = restAt l (c .before .before .before .before .before .before .before .before .before .before .before .before .before .before .before .args .at) in λ out. asks-leaves (c .before .before .before .before .before .before .before .before .before .before .before .before .before .before .before .args .space .now) out _ _ _ (oneNumber fs request.finish) _ _ _ (one-asks fs request.finish _ ((rw (c .before .before .before .before .before .before .before .before .before .subgoal .given .1) at (c .before .before .before .before .before .before .before .before .before .before .before .only-number .ensures)) .0)) (c .before .before .before .before .before .before .finish .ensures .0) (c .before .before .before .before .before .before .finish .ensures .1) (c .before .before .print-finish .ensures _)
+returns-2 c = let l = c .before .before .before .before .before .before .before .before .before .before .before .before .before .before .before .args .line .now in let fs = restAt l (c .before .before .before .before .before .before .before .before .before .before .before .before .before .before .before .args .at) in λ out. asks-leaves (c .before .before .before .before .before .before .before .before .before .before .before .before .before .before .before .args .space .now) out _ _ _ (oneNumber fs request.finish) _ _ _ (one-asks fs request.finish _ ((rw (c .before .before .before .before .before .before .before .before .before .subgoal .given .1) at (c .before .before .before .before .before .before .before .before .before .before .before .only-number .ensures)) .0)) (c .before .before .before .before .before .before .finish .ensures .0) (c .before .before .before .before .before .before .finish .ensures .2) (c .before .before .print-finish .ensures _)
 
 pub ask-finish-spec : {M : Type 1} → statement M
 ask-finish-spec =

@@ -6,11 +6,8 @@ use native.Mathlib.Omega.{arith}
 use borrow.Author.Needs.{needs}
 use Rattle.text.specs.Places.{fieldAt, restAt}
 use Rattle.plain.specs.Requests as request
-use Rattle.plain.specs.Coding.{edition1}
-use Rattle.space.specs.Layout.{sizes}
-use Rattle.store.specs.Calls.{cellStep}
 use Rattle.store.specs.Replies.{saidCells}
-use Rattle.reads.proofs.ReadsLaws.{instance-stays, instance-fits}
+use Rattle.reads.proofs.ReadsLaws.{instance-fits}
 use Rattle.session.specs.Lines.{oneNumber}
 use Rattle.session.specs.Texts.{replyText}
 use Rattle.text.specs.Digits.{Puts}
@@ -46,7 +43,7 @@ instance-requires : tie.Need-instance-requires
 instance-requires c κs = search needs
 
 print-cells-requires : tie.Need-print-cells-requires
-print-cells-requires c κs = (omega arith, λ n e. omega (arith, instance-fits sizes edition1 (c .before .before .before .before .before .before .before .before .before .before .before .before .before .before .args .space .now) _ (c .before .before .before .before .before .before .before .before .before .before .before .before .before .before .args .out .now) n (sym (c .before .before .before .before .instance .ensures .0) ∙ e)))
+print-cells-requires c κs = (omega arith, λ n e. omega (arith, instance-fits (c .before .before .before .before .before .before .before .before .before .before .before .before .before .before .args .space .now) _ (c .before .before .before .before .before .before .before .before .before .before .before .before .before .before .args .out .now) n (sym (c .before .before .before .before .instance .ensures .0) ∙ e)))
 
 same-length-2 : tie.Need-same-length-2
 same-length-2 c = search needs
@@ -55,7 +52,7 @@ same-length-3 : tie.Need-same-length-3
 same-length-3 c = search needs
 
 returns-2 : tie.Need-returns-2
-returns-2 c = let l = c .before .before .before .before .before .before .before .before .before .before .before .before .before .before .before .before .before .args .line .now in let fs = restAt l (c .before .before .before .before .before .before .before .before .before .before .before .before .before .before .before .before .before .args .at) in let b = one-asks fs (λ a. request.instance a (c .before .before .before .before .before .before .before .before .before .before .before .before .before .before .before .before .before .args .out .now)) _ ((rw (c .before .before .before .before .before .before .before .before .before .before .number .given .1) at (c .before .before .before .before .before .before .before .before .before .before .before .before .only-number .ensures)) .0) in (asks-leaves (c .before .before .before .before .before .before .before .before .before .before .before .before .before .before .before .before .before .args .space .now) (c .before .before .before .before .before .before .before .before .before .before .before .before .before .before .before .before .before .args .out .now) _ _ _ (oneNumber fs (λ a. request.instance a (c .before .before .before .before .before .before .before .before .before .before .before .before .before .before .before .before .before .args .out .now))) _ _ _ b (c .before .before .before .before .before .before .before .instance .ensures .0) (sym (instance-stays sizes edition1 (c .before .before .before .before .before .before .before .before .before .before .before .before .before .before .before .before .before .args .space .now) _ (c .before .before .before .before .before .before .before .before .before .before .before .before .before .before .before .before .before .args .out .now))) (rw (← (c .before .before .before .before .before .before .before .instance .ensures .1)) (c .before .before .print-cells .ensures)), c .before .before .before .before .before .before .before .instance .ensures .1 ∙ asks-out (c .before .before .before .before .before .before .before .before .before .before .before .before .before .before .before .before .before .args .space .now) (c .before .before .before .before .before .before .before .before .before .before .before .before .before .before .before .before .before .args .out .now) (oneNumber fs (λ a. request.instance a (c .before .before .before .before .before .before .before .before .before .before .before .before .before .before .before .before .before .args .out .now))) _ b)
+returns-2 c = let l = c .before .before .before .before .before .before .before .before .before .before .before .before .before .before .before .before .before .args .line .now in let fs = restAt l (c .before .before .before .before .before .before .before .before .before .before .before .before .before .before .before .before .before .args .at) in let b = one-asks fs (λ a. request.instance a (c .before .before .before .before .before .before .before .before .before .before .before .before .before .before .before .before .before .args .out .now)) _ ((rw (c .before .before .before .before .before .before .before .before .before .before .number .given .1) at (c .before .before .before .before .before .before .before .before .before .before .before .before .only-number .ensures)) .0) in (asks-leaves (c .before .before .before .before .before .before .before .before .before .before .before .before .before .before .before .before .before .args .space .now) (c .before .before .before .before .before .before .before .before .before .before .before .before .before .before .before .before .before .args .out .now) _ _ _ (oneNumber fs (λ a. request.instance a (c .before .before .before .before .before .before .before .before .before .before .before .before .before .before .before .before .before .args .out .now))) _ _ _ b (c .before .before .before .before .before .before .before .instance .ensures .0) (c .before .before .before .before .before .before .before .instance .ensures .2) (rw (← (c .before .before .before .before .before .before .before .instance .ensures .1)) (c .before .before .print-cells .ensures)), c .before .before .before .before .before .before .before .instance .ensures .1 ∙ asks-out (c .before .before .before .before .before .before .before .before .before .before .before .before .before .before .before .before .before .args .space .now) (c .before .before .before .before .before .before .before .before .before .before .before .before .before .before .before .before .before .args .out .now) (oneNumber fs (λ a. request.instance a (c .before .before .before .before .before .before .before .before .before .before .before .before .before .before .before .before .before .args .out .now))) _ b)
 
 pub ask-instance-spec : {M : Type 1} → statement M
 ask-instance-spec =

@@ -6,10 +6,6 @@ use borrow.Author.Needs.{needs}
 use Rattle.text.specs.Fields.{onlyNumber, behind}
 use Rattle.text.specs.Places.{fieldAt, restAt}
 use Rattle.plain.specs.Requests as request
-use Rattle.plain.specs.Coding.{edition1}
-use Rattle.space.specs.Layout.{sizes}
-use Rattle.store.specs.Calls.{cellStep}
-use Rattle.reads.proofs.ReadsLaws.{next-stays}
 use Rattle.session.specs.Lines.{asks, withNumber, twoNumbers}
 use Rattle.session.proofs.AskingLaws.{first-means, first-bad, one-asks, one-bad, bad-leaves, asks-leaves}
 use Rattle.session.proofs.asking.ask_next.Statement.{statement}
@@ -68,7 +64,7 @@ same-length-3 : tie.Need-same-length-3
 same-length-3 c = search needs
 
 returns-3 : tie.Need-returns-3
-returns-3 c = let l = c .before .before .before .before .before .before .before .before .before .before .before .before .before .before .before .before .args .line .now in let fs = restAt l (c .before .before .before .before .before .before .before .before .before .before .before .before .before .before .before .before .args .at) in let f = rw (c .before .before .before .before .before .before .before .before .before .before .subgoal .given .1) at (c .before .before .before .before .before .before .before .before .before .before .before .before .first-number .ensures) in λ out. asks-leaves (c .before .before .before .before .before .before .before .before .before .before .before .before .before .before .before .before .args .space .now) out _ _ _ (twoNumbers fs request.next) _ _ _ (first-means fs (λ (gs : List (List ℕ)) (n : ℕ). withNumber (onlyNumber gs) (λ k. asks (request.next n k))) _ _ (f .0) (f .2) ∙ one-asks (restAt l (c .before .before .before .before .before .before .before .before .before .before .subgoal .given .0 .1 .0)) (request.next (c .before .before .before .before .before .before .before .before .before .before .subgoal .given .0 .0)) _ ((rw (c .before .before .before .before .before .before .after .given .1) at (c .before .before .before .before .before .before .before .before .only-number .ensures)) .0)) (c .before .before .before .before .next .ensures) (sym (next-stays sizes edition1 (c .before .before .before .before .before .before .before .before .before .before .before .before .before .before .before .before .args .space .now) _ _)) (c .before .before .print-next .ensures _)
+returns-3 c = let l = c .before .before .before .before .before .before .before .before .before .before .before .before .before .before .before .before .args .line .now in let fs = restAt l (c .before .before .before .before .before .before .before .before .before .before .before .before .before .before .before .before .args .at) in let f = rw (c .before .before .before .before .before .before .before .before .before .before .subgoal .given .1) at (c .before .before .before .before .before .before .before .before .before .before .before .before .first-number .ensures) in λ out. asks-leaves (c .before .before .before .before .before .before .before .before .before .before .before .before .before .before .before .before .args .space .now) out _ _ _ (twoNumbers fs request.next) _ _ _ (first-means fs (λ (gs : List (List ℕ)) (n : ℕ). withNumber (onlyNumber gs) (λ k. asks (request.next n k))) _ _ (f .0) (f .2) ∙ one-asks (restAt l (c .before .before .before .before .before .before .before .before .before .before .subgoal .given .0 .1 .0)) (request.next (c .before .before .before .before .before .before .before .before .before .before .subgoal .given .0 .0)) _ ((rw (c .before .before .before .before .before .before .after .given .1) at (c .before .before .before .before .before .before .before .before .only-number .ensures)) .0)) (c .before .before .before .before .next .ensures .0) (c .before .before .before .before .next .ensures .2) (c .before .before .print-next .ensures _)
 
 pub ask-next-spec : {M : Type 1} → statement M
 ask-next-spec =

@@ -2,6 +2,7 @@
 use Rattle.basis.proofs.Tests.{told}
 use Rattle.space.proofs.HeaderLaws.{header-bounds}
 use Rattle.store.proofs.CallsCases.{steps-refused, steps-sound}
+use Rattle.store.proofs.AnswersLaws.{call-answers}
 use borrow.Author.Needs.{needs}
 use Rattle.store.proofs.calls.call.Statement.{statement}
 use Rattle.store.proofs.calls.call.Tie as tie
@@ -22,7 +23,7 @@ same-length : tie.Need-same-length
 same-length c = search needs
 
 returns : tie.Need-returns
-returns c = steps-refused _ _ _ (told (c .before .read3 .given .1) (told (c .before .before .before .before .read2 .given .1) (c .before .before .before .before .before .before .read-header .ensures)))
+returns c = call-answers _ _ _ _ (steps-refused _ _ _ (told (c .before .read3 .given .1) (told (c .before .before .before .before .read2 .given .1) (c .before .before .before .before .before .before .read-header .ensures))))
 
 enum-told : tie.Need-enum-told
 enum-told c = search needs
@@ -46,7 +47,7 @@ same-length-3 : tie.Need-same-length-3
 same-length-3 c = search needs
 
 returns-3 : tie.Need-returns-3
-returns-3 c = steps-sound _ _ _ _ _ (told (c .before .before .before .before .before .before .before .before .before .before .read .given .1) (c .before .before .before .before .before .before .before .before .before .before .before .before .read-header .ensures)) (c .before .before .before .before .call-with .ensures)
+returns-3 c = call-answers _ _ _ _ (steps-sound _ _ _ _ _ (told (c .before .before .before .before .before .before .before .before .before .before .read .given .1) (c .before .before .before .before .before .before .before .before .before .before .before .before .read-header .ensures)) (c .before .before .before .before .call-with .ensures))
 
 slice-aggregate-call-with-3 : tie.Need-slice-aggregate-call-with-3
 slice-aggregate-call-with-3 c = search needs
@@ -61,7 +62,7 @@ same-length-4 : tie.Need-same-length-4
 same-length-4 c = search needs
 
 returns-4 : tie.Need-returns-4
-returns-4 c = steps-sound _ _ _ _ _ (told (c .before .before .before .before .before .before .before .before .before .before .read .given .1) (c .before .before .before .before .before .before .before .before .before .before .before .before .read-header .ensures)) (c .before .before .before .before .call-with2 .ensures)
+returns-4 c = call-answers _ _ _ _ (steps-sound _ _ _ _ _ (told (c .before .before .before .before .before .before .before .before .before .before .read .given .1) (c .before .before .before .before .before .before .before .before .before .before .before .before .read-header .ensures)) (c .before .before .before .before .call-with2 .ensures))
 
 pub call-spec : {M : Type 1} → statement M
 call-spec =

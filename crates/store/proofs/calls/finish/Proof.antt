@@ -3,6 +3,7 @@ use Rattle.store.proofs.CallsCases.{steps-refused, steps-sound-at}
 use Rattle.basis.proofs.Tests.{told}
 use Rattle.space.proofs.HeaderLaws.{header-bounds}
 use Rattle.plain.specs.Requests as request
+use Rattle.store.proofs.AnswersLaws.{finish-answers}
 use borrow.Author.Needs.{needs}
 use Rattle.store.proofs.calls.finish.Statement.{statement}
 use Rattle.store.proofs.calls.finish.Tie as tie
@@ -23,7 +24,7 @@ same-length : tie.Need-same-length
 same-length c = search needs
 
 returns : tie.Need-returns
-returns c = steps-refused _ _ _ (told (c .before .read3 .given .1) (told (c .before .before .before .before .read2 .given .1) (c .before .before .before .before .before .before .read-header .ensures)))
+returns c = finish-answers _ _ _ _ (steps-refused _ _ _ (told (c .before .read3 .given .1) (told (c .before .before .before .before .read2 .given .1) (c .before .before .before .before .before .before .read-header .ensures))))
 
 enum-told : tie.Need-enum-told
 enum-told c = search needs
@@ -44,7 +45,7 @@ same-length-3 : tie.Need-same-length-3
 same-length-3 c = search needs
 
 returns-3 : tie.Need-returns-3
-returns-3 c = steps-sound-at _ _ request.finish _ _ _ _ (c .before .before .before .wide .ensures .0) (told (c .before .before .before .before .before .before .read .given .1) (c .before .before .before .before .before .before .before .before .read-header .ensures)) (c .before .before .finish-in .ensures)
+returns-3 c = finish-answers _ _ _ _ (steps-sound-at _ _ request.finish _ _ _ _ (c .before .before .before .wide .ensures .0) (told (c .before .before .before .before .before .before .read .given .1) (c .before .before .before .before .before .before .before .before .read-header .ensures)) (c .before .before .finish-in .ensures))
 
 pub finish-spec : {M : Type 1} → statement M
 finish-spec =

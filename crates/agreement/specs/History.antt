@@ -1,0 +1,39 @@
+-- What the contracts of the calls come to together: calls made one after another, each meeting its contract, show what the
+-- plain table shows. A reader of the code needs nothing else of `spaceStep`.
+use Prim.Native.Nat.{ℕ}
+use mathlib.Core.List.{List, [], _∷_, map}
+use mathlib.Core.Path.{_≡_}
+use Rattle.plain.specs.Requests.{Request, Reply, Seen}
+use Rattle.plain.specs.Table.{editionTrace}
+use Rattle.space.specs.Fresh.{freshAnswerIn, freshSpaceIn}
+use Rattle.space.specs.declared.FreshAnswer.the-variants.{Done}
+use Rattle.store.specs.Calls.{Answers, countedCells}
+
+-- a call that was made: what it answered, what it left in out, and the cells after it
+pub record Made : Type 0 where
+  pub request : Request
+  pub reply : Reply
+  pub out : List ℕ
+  pub after : List ℕ
+
+-- each call meets its contract, on the cells that the one before it left
+unfoldable pub History : List ℕ → List Made → Type 0
+History before [] = Unit {0}
+History before (m ∷ ms) = Answers before (m .request) (m .reply) (m .out) (m .after) × History (m .after) ms
+
+-- what was asked, and what is seen of it
+abbrev pub asked : List Made → List Request
+asked ms = map (λ m. m .request) ms
+
+abbrev pub seenOf : Made → Seen
+seenOf m = record { reply = m .reply; counted = countedCells (m .after); out = m .out }
+
+-- every history of a space for which fresh answered done, in every edition that fresh takes
+abbrev pub Histories : Type 0
+Histories =
+    (e n f a : ℕ) (s : List ℕ) (ms : List Made) → freshAnswerIn e n f a s ≡ Done → History (freshSpaceIn e n f a s) ms
+    → map seenOf ms ≡ editionTrace e n f a (asked ms)
+
+-- and every list of calls has one
+abbrev pub Lived : Type 0
+Lived = (before : List ℕ) (qs : List Request) → (ms : List Made) × History before ms × (asked ms ≡ qs)

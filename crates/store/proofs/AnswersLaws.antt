@@ -1,0 +1,46 @@
+-- The contract of a call to which no out is lent: none is left.
+use Prim.Native.Nat.{ℕ}
+use mathlib.Core.List.{List, [], _∷_}
+use mathlib.Core.Path.{_≡_, refl, sym}
+use native.Mathlib.Omega.{arith}
+use lib.ListN.{length}
+use borrow.Author.Tests.{lt-leb}
+use Rattle.plain.specs.Requests.{Request, call, answer, finish, Reply, lent}
+use Rattle.space.specs.Heading.{spaceHeader}
+use Rattle.space.specs.declared.Header.{Header}
+use Rattle.space.specs.declared.Header.the-variants as header
+use Rattle.store.specs.Decisions.{Decision, says, gives, entersSubgoal, entersAnswer, entersEmpty, finishes}
+use Rattle.store.specs.Calls.{outAfter, under, underAny, spaceStep, Answers}
+use Rattle.store.proofs.CallsCases.{Steps}
+
+out-none : (d : Decision) → outAfter d [] ≡ []
+unfolding outAfter
+out-none (says r) = refl
+out-none (gives []) = refl
+out-none (gives (k ∷ ks)) = simp (lt-leb (length (k ∷ ks)) 0 (omega arith))
+out-none (entersSubgoal parent last left m) = refl
+out-none (entersAnswer s parent last left) = refl
+out-none (entersEmpty s) = refl
+out-none (finishes s) = refl
+
+under-none : (cs : List ℕ) (q : Request) (x : Header) → lent q ≡ [] → underAny cs q x .out ≡ []
+unfolding underAny under
+under-none cs q (header.Sound h) e = rw e (out-none _)
+under-none cs q (header.Refused r) e = e
+
+pub step-none : (cs : List ℕ) (q : Request) → lent q ≡ [] → [] ≡ spaceStep cs q .out
+unfolding spaceStep
+step-none cs q e = sym (under-none cs q (spaceHeader cs) e)
+
+module _ (cs : List ℕ) (r : Reply) (cs′ : List ℕ) where
+  pub call-answers : (t : List ℕ) → Steps cs (call t) r cs′ → Answers cs (call t) r [] cs′
+  unfolding lent
+  call-answers t k = (k .0, step-none cs (call t) refl, k .1)
+
+  pub answer-answers : (s : ℕ) (t : List ℕ) → Steps cs (answer s t) r cs′ → Answers cs (answer s t) r [] cs′
+  unfolding lent
+  answer-answers s t k = (k .0, step-none cs (answer s t) refl, k .1)
+
+  pub finish-answers : (s : ℕ) → Steps cs (finish s) r cs′ → Answers cs (finish s) r [] cs′
+  unfolding lent
+  finish-answers s k = (k .0, step-none cs (finish s) refl, k .1)
