@@ -1,0 +1,10 @@
+// The limits of terms and tables, each once.
+
+// The cells of pair form, of a term or of an answer's terms together.
+pub const MOST_CELLS: usize = 256;
+// The distinct variables in them.
+pub const MOST_VARIABLES: usize = 32;
+// The tokens of a compact form: (3 * MOST_CELLS - 1) / 2.
+pub const MOST_TOKENS: usize = 383;
+// The records of a kind.
+pub const MOST_RECORDS: usize = 1048576;

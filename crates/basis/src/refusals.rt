@@ -1,0 +1,28 @@
+// The refusals: a name for each number. No crate writes one of these numbers itself.
+
+// The header is not sound.
+pub const HEADER: u32 = 1;
+// Fresh: a capacity out of range, or the end above the length.
+pub const FRESH: u32 = 2;
+// Cells that are not exactly so many terms.
+pub const TERM: u32 = 3;
+// More cells than a term may have.
+pub const LENGTH: u32 = 4;
+// More distinct variables than a term may have.
+pub const VARIABLES: u32 = 5;
+// A called term that begins with neither atom nor functor.
+pub const PREDICATE: u32 = 6;
+// No record of this number.
+pub const NUMBER: u32 = 7;
+// An answer to a finished subgoal.
+pub const STATE: u32 = 8;
+// A damaged record, or a path that is no legal form.
+pub const RECORDS: u32 = 9;
+// Too few free nodes.
+pub const NODES: u32 = 10;
+// No free record.
+pub const RECORDS_LEFT: u32 = 11;
+// Out is too short.
+pub const OUT: u32 = 12;
+// No legal compact form.
+pub const FORM: u32 = 13;
