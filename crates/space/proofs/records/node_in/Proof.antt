@@ -1,95 +1,42 @@
 -- `space::records::node_in` meets its contract.
-use native.Mathlib.Omega.{arith}
-use Rattle.space.proofs.LayoutLaws.{node-equal}
 use borrow.Author.Needs.{needs}
+use Rattle.space.proofs.FieldLaws.{node-fields}
 use Rattle.space.proofs.records.node_in.Statement.{statement}
 use Rattle.space.proofs.records.node_in.Tie as tie
 
-mul-at : tie.Need-mul-at
-mul-at c = omega arith
-
-add-at : tie.Need-add-at
-add-at c = omega arith
+node-place-requires : tie.Need-node-place-requires
+node-place-requires c κs = search needs
 
 mul-token : tie.Need-mul-token
-mul-token c = omega arith
+mul-token c = search needs
 
 shared-slice-read-token : tie.Need-shared-slice-read-token
-shared-slice-read-token c = omega arith
+shared-slice-read-token c = search needs
 
-add-wide : tie.Need-add-wide
-add-wide c = omega arith
+field-requires : tie.Need-field-requires
+field-requires c κs = search needs
 
-mul-wide : tie.Need-mul-wide
-mul-wide c = omega arith
+field-requires-2 : tie.Need-field-requires-2
+field-requires-2 c κs = search needs
 
-shared-slice-read-wide : tie.Need-shared-slice-read-wide
-shared-slice-read-wide c = omega arith
+field-requires-3 : tie.Need-field-requires-3
+field-requires-3 c κs = search needs
 
-wide-requires : tie.Need-wide-requires
-wide-requires c κs = search needs
-
-add-wide-2 : tie.Need-add-wide-2
-add-wide-2 c = omega arith
-
-mul-wide-2 : tie.Need-mul-wide-2
-mul-wide-2 c = omega arith
-
-shared-slice-read-wide-2 : tie.Need-shared-slice-read-wide-2
-shared-slice-read-wide-2 c = omega arith
-
-wide-requires-2 : tie.Need-wide-requires-2
-wide-requires-2 c κs = search needs
-
-add-wide-3 : tie.Need-add-wide-3
-add-wide-3 c = omega arith
-
-mul-wide-3 : tie.Need-mul-wide-3
-mul-wide-3 c = omega arith
-
-shared-slice-read-wide-3 : tie.Need-shared-slice-read-wide-3
-shared-slice-read-wide-3 c = omega arith
-
-wide-requires-3 : tie.Need-wide-requires-3
-wide-requires-3 c κs = search needs
-
-add-wide-4 : tie.Need-add-wide-4
-add-wide-4 c = omega arith
-
-mul-wide-4 : tie.Need-mul-wide-4
-mul-wide-4 c = omega arith
-
-shared-slice-read-wide-4 : tie.Need-shared-slice-read-wide-4
-shared-slice-read-wide-4 c = omega arith
-
-wide-requires-4 : tie.Need-wide-requires-4
-wide-requires-4 c κs = search needs
+field-requires-4 : tie.Need-field-requires-4
+field-requires-4 c κs = search needs
 
 returns : tie.Need-returns
-returns c = node-equal _ _ (search needs) (search needs) (search needs) (search needs) (search needs)
+returns c = node-fields (c .before .before .before .before .before .before .before .args .space .now) _ _ (c .before .before .before .before .before .node-place .ensures) _ (search needs) (search needs) (search needs) (search needs) (search needs)
 
 pub node-in-spec : {M : Type 1} → statement M
 node-in-spec =
     tie.close
     (tie.spec
-    mul-at
-    add-at
+    node-place-requires
     mul-token
     shared-slice-read-token
-    add-wide
-    mul-wide
-    shared-slice-read-wide
-    wide-requires
-    add-wide-2
-    mul-wide-2
-    shared-slice-read-wide-2
-    wide-requires-2
-    add-wide-3
-    mul-wide-3
-    shared-slice-read-wide-3
-    wide-requires-3
-    add-wide-4
-    mul-wide-4
-    shared-slice-read-wide-4
-    wide-requires-4
+    field-requires
+    field-requires-2
+    field-requires-3
+    field-requires-4
     returns)

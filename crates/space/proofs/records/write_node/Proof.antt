@@ -1,15 +1,15 @@
 -- `space::records::write_node` meets its contract.
 use lib.ListN.{length-set}
+use Prim.Native.Nat.{ℕ}
+use Rattle.space.specs.Layout.{nodeTo}
+use Rattle.space.proofs.FieldLaws.{record-written}
 use native.Mathlib.Omega.{arith}
 use borrow.Author.Needs.{needs}
 use Rattle.space.proofs.records.write_node.Statement.{statement}
 use Rattle.space.proofs.records.write_node.Tie as tie
 
-mul-at : tie.Need-mul-at
-mul-at c = omega arith
-
-add-at : tie.Need-add-at
-add-at c = omega arith
+node-place-requires : tie.Need-node-place-requires
+node-place-requires c κs = search needs
 
 mul-space : tie.Need-mul-space
 mul-space c = omega arith
@@ -69,14 +69,13 @@ same-length : tie.Need-same-length
 same-length c = search needs
 
 returns : tie.Need-returns
-returns c = search needs
+returns c = record-written (c .before .before .before .before .before .before .args .space .now) (λ (k : ℕ). nodeTo k (c .before .before .before .before .before .before .args .y)) _ _ (c .before .before .before .before .node-place .ensures)
 
 pub write-node-spec : {M : Type 1} → statement M
 write-node-spec =
     tie.close
     (tie.spec
-    mul-at
-    add-at
+    node-place-requires
     mul-space
     slice-write-space
     cast-space
