@@ -12,7 +12,7 @@ use borrow.Author.Tests.{eq-eqb, ne-eqb, eqb-true, eqb-false}
 use Rattle.basis.specs.Writes.{Write, put, writes}
 use Rattle.basis.proofs.Cases.{by-cases}
 use Rattle.basis.proofs.WritesLaws.{length-writes}
-use Rattle.space.specs.Layout.{sizes, nodeAt, nodeTo}
+use Rattle.space.specs.Layout.{sizes, nodeAt, childCell, siblingCell, nodeTo}
 use Rattle.trie.specs.Append.{newNode, leadCell, appendNode, appendPath}
 
 pub lead-child : (parent last : ℕ) → last ≡ 0 → 8 + 5 * parent + 1 ≡ leadCell sizes parent last
@@ -30,10 +30,19 @@ lead-below parent last n h i =
     (λ e. rw (← lead-child parent last (eqb-true _ _ e)) (omega arith))
     (λ e. rw (← lead-sibling parent last (eqb-false _ _ e)) (omega arith))
 
-pub node-appended : (s s′ : List ℕ) (n parent last token lead : ℕ) → lead ≡ leadCell sizes parent last →
-    s′ ≡ writes (nodeTo (nodeAt sizes n) (newNode token parent)) (set s lead n) → s′ ≡ appendNode sizes s n parent last token
+-- the leading cell is written
+module _ (s s′ : List ℕ) (n parent last : ℕ) where
+  pub led-child : last ≡ 0 → s′ ≡ set s (childCell sizes parent) n → s′ ≡ set s (leadCell sizes parent last) n
+  led-child e f = f ∙ ap (λ (k : ℕ). set s k n) (lead-child parent last e)
+
+  pub led-sibling : (last ≡ 0 → ⊥) → s′ ≡ set s (siblingCell sizes last) n → s′ ≡ set s (leadCell sizes parent last) n
+  led-sibling e f = f ∙ ap (λ (k : ℕ). set s k n) (lead-sibling parent last e)
+
+-- and then the node
+pub node-appended : (s t s′ : List ℕ) (n parent last token : ℕ) → t ≡ set s (leadCell sizes parent last) n →
+    s′ ≡ writes (nodeTo (nodeAt sizes n) (newNode token parent)) t → s′ ≡ appendNode sizes s n parent last token
 unfolding appendNode
-node-appended s s′ n parent last token lead e f = f ∙ rw e
+node-appended s t s′ n parent last token e f = f ∙ rw e
 
 path-cons : (s : List ℕ) (n parent last x : ℕ) (xs : List ℕ) →
     appendPath sizes s n parent last (x ∷ xs) ≡ appendPath sizes (appendNode sizes s n parent last x) (n + 1) n 0 xs

@@ -1,10 +1,12 @@
 -- A path of new nodes, appended below a node after its last child.
-use Prim.Native.Nat.{ℕ, _+_}
+use Prim.Native.Nat.{ℕ, _+_, _<_, _≤_}
 use mathlib.Core.List.{List, [], _∷_}
 use lib.Dec.{eqb}
+use lib.ListN.{length}
 use Rattle.basis.specs.Choice.{pick}
 use Rattle.basis.specs.Writes.{Write, put, writes}
 use Rattle.space.specs.Layout.{Sizes, nodeAt, childCell, siblingCell, nodeTo}
+use Rattle.space.specs.Sound.{NodesIn}
 use Rattle.space.specs.declared.Node.{Node}
 
 -- a new node, and a new root
@@ -28,7 +30,16 @@ unfoldable pub appendPath : Sizes → List ℕ → ℕ → ℕ → ℕ → List 
 appendPath z cs n parent last [] = cs
 appendPath z cs n parent last (x ∷ xs) = appendPath z (appendNode z cs n parent last x) (n + 1) n 0 xs
 
--- the same on records by number, whatever holds them
+-- there is room for node n, which is the next one, below a node and after one that stand
+abbrev pub NewNode : List ℕ → ℕ → ℕ → ℕ → ℕ → Type 0
+NewNode cs capacity n parent last = NodesIn cs capacity × (n < capacity) × (parent < n) × (last < n)
+
+-- and for a node to each token
+abbrev pub PathRoom : List ℕ → ℕ → ℕ → ℕ → ℕ → List ℕ → Type 0
+PathRoom cs capacity n parent last xs =
+    NodesIn cs capacity × (parent < n) × (last < n) × (n + length xs ≤ capacity)
+
+-- a path appended, on records by number, whatever holds them
 abbrev pub withChild : Node → ℕ → Node
 withChild y n = record { token = y .token; child = n; sibling = y .sibling; parent = y .parent; link = y .link }
 

@@ -1,31 +1,31 @@
 // A path of new nodes, appended.
 use space::Node;
+use space::records::write_child;
 use space::records::write_node;
+use space::records::write_sibling;
 ghost use mathlib.Core.Path.{_≡_};
-ghost use Prim.Native.Nat.{_<_, _≤_, _+_};
-ghost use lib.ListN.{length};
-ghost use Rattle.space.specs.Layout.{sizes, most};
-ghost use Rattle.space.specs.Sound.{NodesIn};
-ghost use Rattle.trie.specs.Append.{leadCell, appendNode, appendPath};
+ghost use lib.ListN.{set};
+ghost use Rattle.space.specs.Layout.{sizes};
+ghost use Rattle.trie.specs.Append.{leadCell, appendNode, appendPath, NewNode, PathRoom};
 
-// The cell that is to lead to a new child of `parent`, whose last child is `last`.
-fn lead_cell(parent: usize, last: usize) -> usize
-    requires { ⌜ (parent < most) × (last < most) ⌝ }
-    ensures { λ r. ⌜ r ≡ leadCell sizes parent last ⌝ }
+// The cell that is to lead to node n, a new child of `parent` whose last child is `last`, written.
+fn lead_to(space: &mut [u32], capacity: usize, n: usize, parent: usize, last: usize)
+    requires { ⌜ NewNode (now space) capacity n parent last ⌝ }
+    ensures { λ r. ⌜ now (space .exit) ≡ set (now (space .entry)) (leadCell sizes parent last) n ⌝ }
 {
     if last == 0 {
-        return 8 + 5 * parent + 1;
+        write_child(space, capacity, parent, n as u32);
+        return;
     }
-    8 + 5 * last + 2
+    write_sibling(space, capacity, last, n as u32);
 }
 
 // Node n, the next one, below `parent`.
 fn append_node(space: &mut [u32], capacity: usize, n: usize, parent: usize, last: usize, token: u32)
-    requires { ⌜ NodesIn (now space) capacity × (n < capacity) × (parent < n) × (last < n) ⌝ }
+    requires { ⌜ NewNode (now space) capacity n parent last ⌝ }
     ensures { λ r. ⌜ now (space .exit) ≡ appendNode sizes (now (space .entry)) n parent last token ⌝ }
 {
-    let lead = lead_cell(parent, last);
-    space[lead] = n as u32;
+    lead_to(space, capacity, n, parent, last);
     let y = Node {
         token: token,
         child: 0,
@@ -45,8 +45,10 @@ pub fn append_path(
     last: usize,
     tokens: &[u32],
 )
-    requires { ⌜ NodesIn (now space) capacity × (parent < nodes) × (last < nodes) × (nodes + length (now tokens) ≤ capacity) ⌝ }
-    ensures { λ r. ⌜ now (space .exit) ≡ appendPath sizes (now (space .entry)) nodes parent last (now (tokens .entry)) ⌝ }
+    requires { ⌜ PathRoom (now space) capacity nodes parent last (now tokens) ⌝ }
+    ensures { λ r. ⌜
+        now (space .exit) ≡ appendPath sizes (now (space .entry)) nodes parent last (now (tokens .entry))
+        ⌝ }
 {
     let mut above = parent;
     let mut after = last;
