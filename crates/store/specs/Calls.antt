@@ -13,7 +13,8 @@ use Rattle.space.specs.declared.Head.{Head}
 use Rattle.space.specs.declared.Header.{Header}
 use Rattle.space.specs.declared.Header.the-variants as header
 use Rattle.store.specs.Views.{View, viewOf}
-use Rattle.store.specs.Decisions.{Decision, says, gives, entersSubgoal, entersAnswer, entersEmpty, finishes, decide}
+use Rattle.store.specs.Decisions.{Decision, says, gives, entersSubgoal, entersAnswer, entersEmpty, finishes}
+use Rattle.store.specs.Decisions.{decide}
 use Rattle.store.specs.Changes.{change}
 
 -- what the call answers, out being so long; cells that do not fit are 12 with the need
@@ -52,15 +53,16 @@ underAny cs q (header.Refused r) = record { reply = refused r; out = lent q; sta
 unfoldable pub spaceStep : List ℕ → Request → Result (List ℕ)
 spaceStep cs q = underAny cs q (spaceHeader cs)
 
--- On the cells `before` the call q answers r, and leaves `out` of the out that was lent to it and `after` of the cells:
--- the contract of every call. A space that is lent to read alone is afterwards what it was, so there `after` is `before`.
+-- On the cells `before` the call q answers r, and leaves `out` of the out that was lent to it and `after` of the
+-- cells: the contract of every call. A space that is lent to read alone is afterwards what it was, so there `after` is `before`.
 abbrev pub Answers : List ℕ → Request → Reply → List ℕ → List ℕ → Type 0
 Answers before q r out after =
     (r ≡ spaceStep before q .reply) × (out ≡ spaceStep before q .out) × (after ≡ spaceStep before q .state)
 
 -- the counts as they stand in the header
 abbrev pub countedCells : List ℕ → Counts
-countedCells cs = record { nodes = getD cs nodesCell 0; subgoals = getD cs subgoalsCell 0; answers = getD cs answersCell 0 }
+countedCells cs =
+    record { nodes = getD cs nodesCell 0; subgoals = getD cs subgoalsCell 0; answers = getD cs answersCell 0 }
 
 -- what is seen of a list of calls
 abbrev pub cellTrace : Sizes → Coding → List ℕ → List Request → List Seen

@@ -6,7 +6,8 @@ use lib.ListN.{length}
 use Rattle.basis.specs.Choice.{pick}
 use Rattle.basis.specs.Writes.{Write, put, writes}
 use Rattle.plain.specs.Words.{Word}
-use Rattle.space.specs.Layout.{Sizes, nodesCell, subgoalsCell, answersCell, nodeAt, linkCell, subgoalAt, answerAt, stateCell, firstCell, lastCell, nextCell, nodeTo, subgoalTo, answerTo, subgoalIn}
+use Rattle.space.specs.Layout.{Sizes, nodesCell, subgoalsCell, answersCell, nodeAt, linkCell, subgoalAt, answerAt}
+use Rattle.space.specs.Layout.{stateCell, firstCell, lastCell, nextCell, nodeTo, subgoalTo, answerTo, subgoalIn}
 use Rattle.space.specs.declared.Head.{Head}
 use Rattle.space.specs.declared.Subgoal.{Subgoal}
 use Rattle.space.specs.declared.Answer.{Answer}
@@ -52,7 +53,8 @@ change z cs h (says r) = cs
 change z cs h (gives ks) = cs
 change z cs h (entersSubgoal parent last left m) = subgoalEntered z cs h parent last left m
 change z cs h (entersAnswer s parent last left) =
-    answerEntered z (appendPath z cs (h .nodes) parent last left) h s (subgoalIn z cs (h .«subgoal_offset») s) (h .nodes + length left - 1) (h .nodes + length left)
+    answerEntered z (appendPath z cs (h .nodes) parent last left) h s (subgoalIn z cs (h .«subgoal_offset») s)
+    (h .nodes + length left - 1) (h .nodes + length left)
 change z cs h (entersEmpty s) =
     let g = subgoalIn z cs (h .«subgoal_offset») s in
     answerEntered z cs h s g (g .root) (h .nodes)

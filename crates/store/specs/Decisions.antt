@@ -1,4 +1,5 @@
--- What a call comes to, before anything is written: refusals 3 to 11 in their order, each record judged where it is read.
+-- What a call comes to, before anything is written: refusals 3 to 11 in their order, each record judged where it is
+-- read.
 use Prim.Native.Nat.{ℕ, suc, _+_}
 use mathlib.Core.Bool.{Bool, true, false, _&&_}
 use mathlib.Core.List.{List, []}
@@ -8,7 +9,9 @@ use Rattle.basis.specs.Choice.{pick}
 use Rattle.forms.specs.Numbering.{met}
 use Rattle.plain.specs.Words.{Word}
 use Rattle.plain.specs.Coding.{Coding, Reading, refused, accepted}
-use Rattle.plain.specs.Requests.{State, Open, Finished, Request, call, answer, finish, next, load, instance, counts, Counts, Reply, new, oldSubgoal, oldAnswer, done, at, none, cells, used, refused, short}
+use Rattle.plain.specs.Requests.{State, Open, Finished, Request, call, answer, finish, next, load, instance, counts}
+use Rattle.plain.specs.Requests.{Counts, Reply, new, oldSubgoal, oldAnswer, done, at, none, cells, used, refused}
+use Rattle.plain.specs.Requests.{short}
 use Rattle.space.specs.Judging.{subgoalSound, answerSound}
 use Rattle.space.specs.declared.Subgoal.{Subgoal}
 use Rattle.space.specs.declared.Answer.{Answer}
@@ -61,7 +64,8 @@ stateOf x = pick (eqb x 0) Open Finished
 -- the path was found whole at a node with this link
 unfoldable pub calledOld : View → ℕ → ℕ → Decision
 calledOld v leaf s =
-    sound (ltb 0 s && soundSubgoal v s && eqb (v .subgoal s .leaf) leaf) (says (oldSubgoal s (stateOf (v .subgoal s .state))))
+    sound (ltb 0 s && soundSubgoal v s && eqb (v .subgoal s .leaf) leaf)
+    (says (oldSubgoal s (stateOf (v .subgoal s .state))))
 
 -- 10 where the nodes left are fewer than the new ones, the answer root among them; then 11
 unfoldable pub calledNew : View → ℕ → ℕ → Word → ℕ → Decision

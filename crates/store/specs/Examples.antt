@@ -7,12 +7,16 @@ use Rattle.basis.specs.Editions.{knownEdition}
 use Rattle.forms.specs.Cells.{arityOf, callable, tag, nil, PAIR, shapeOf, symbolic, tokenOf}
 use Rattle.forms.specs.Terms.{pairs, every, applied, paired, begun, reads, areTerms}
 use Rattle.forms.specs.Numbering.{rank, seen, met, renamed, numbered}
-use Rattle.forms.specs.Compact.{compact, elements, compactForm, filled, lastOf, tailOf, inside, into, collected, entered, items, front, formTerms, pairForm, same}
+use Rattle.forms.specs.Compact.{compact, elements, compactForm, filled, lastOf, tailOf, inside, into, collected}
+use Rattle.forms.specs.Compact.{entered, items, front, formTerms, pairForm, same}
 use Rattle.forms.specs.Converting.{reading}
 use Rattle.forms.specs.Compact.{areForms, legalForm}
 use Rattle.plain.specs.Coding.{judged, handedOn, predicate, compacted, substituted, codingOf}
-use Rattle.plain.specs.Requests.{Open, Finished, Request, call, answer, finish, next, load, instance, counts, Counts, Reply, new, oldSubgoal, oldAnswer, done, at, none, cells, used, refused, short, Seen, lent, trace}
-use Rattle.plain.specs.Examples.{var, atom, int, fun, count, saw, three, sessionCalls, sessionSeen, numberCalls, numberReplies}
+use Rattle.plain.specs.Requests.{Open, Finished, Request, call, answer, finish, next, load, instance, counts, Counts}
+use Rattle.plain.specs.Requests.{Reply, new, oldSubgoal, oldAnswer, done, at, none, cells, used, refused, short, Seen}
+use Rattle.plain.specs.Requests.{lent, trace}
+use Rattle.plain.specs.Examples.{var, atom, int, fun, count, saw, three, sessionCalls, sessionSeen, numberCalls}
+use Rattle.plain.specs.Examples.{numberReplies}
 use Rattle.space.specs.Layout.{sizes, sizesOf, subgoalWidth, answerWidth}
 use Rattle.space.specs.Heading.{inRange, capacity, whole, counted, headerOf, spaceHeader}
 use Rattle.space.specs.Fresh.{freshCells}
@@ -21,7 +25,8 @@ use Rattle.trie.specs.Siblings.{searchSiblings, searchChildren}
 use Rattle.trie.specs.Walks.{walkFrom, walk}
 use Rattle.trie.specs.Paths.{gather}
 use Rattle.trie.specs.Append.{leadCell, appendNode, appendPath}
-use Rattle.store.specs.Decisions.{calledOld, calledNew, calledAt, called, answeredNew, answeredOld, answeredAt, answered, starting, handed, onward, onPath, loaded, instanced, decide}
+use Rattle.store.specs.Decisions.{calledOld, calledNew, calledAt, called, answeredNew, answeredOld, answeredAt}
+use Rattle.store.specs.Decisions.{answered, starting, handed, onward, onPath, loaded, instanced, decide}
 use Rattle.store.specs.Changes.{subgoalEntered, answerEntered, change}
 use Rattle.store.specs.Calls.{reply, outAfter, under, underAny, spaceStep, cellStep, cellTrace, countedCells}
 

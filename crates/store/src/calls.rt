@@ -3,6 +3,13 @@ use super::AnswerAnswer;
 use super::CallAnswer;
 use super::FinishAnswer;
 use super::State;
+use basis::limits::MOST_CELLS;
+use basis::refusals::NODES;
+use basis::refusals::NUMBER;
+use basis::refusals::PREDICATE;
+use basis::refusals::RECORDS;
+use basis::refusals::RECORDS_LEFT;
+use basis::refusals::STATE;
 use basis::wide;
 use convert::read_terms;
 use forms::Reading;
@@ -35,40 +42,44 @@ use trie::appends::append_path;
 use trie::walks::walk_tokens;
 ghost use mathlib.Core.Path.{_≡_};
 ghost use mathlib.Core.List.{[]};
-ghost use Prim.Native.Nat.{_+_, _*_, _<_, _≤_};
-ghost use lib.Dec.{eqb};
+ghost use Prim.Native.Nat.{_+_, _<_, _≤_};
 ghost use lib.ListN.{length};
-ghost use Rattle.basis.specs.Choice.{pick};
 ghost use Rattle.basis.specs.Writes.{writes};
-ghost use Rattle.forms.specs.Cells.{arityOf};
-ghost use Rattle.plain.specs.Coding.{judged, compacted, codingOf};
 ghost use Rattle.plain.specs.Requests as request;
-ghost use Rattle.space.specs.Layout.{sizes, sizesOf, subgoalIn};
-ghost use Rattle.space.specs.Sound.{Bounds};
-ghost use Rattle.space.specs.declared.Header.the-variants as header;
-ghost use Rattle.trie.specs.Siblings.{trieIn};
-ghost use Rattle.trie.specs.Walks.{walk};
-ghost use Rattle.store.specs.Views.{viewOf};
-ghost use Rattle.store.specs.Decisions.{Decision, refuses, stateOf, calledOld, calledNew, calledAt, called, soundLast, answeredNew, answeredOld, answeredAt, answered, entersAnswer, entersEmpty};
-ghost use Rattle.store.specs.Changes.{chained, subgoalEntered, answerEntered, change};
-ghost use Rattle.store.specs.Calls.{reply, under, Answers};
+ghost use Rattle.space.specs.Layout.{sizesOf};
+ghost use Rattle.space.specs.Sound.{Bounds, subgoalUnder};
+ghost use Rattle.store.specs.Decisions.{stateOf, calledOld, calledNew};
+ghost use Rattle.store.specs.Decisions.{soundLast, answeredNew, answeredOld, entersEmpty};
+ghost use Rattle.store.specs.Changes.{chained, subgoalEntered, answerEntered};
+ghost use Rattle.store.specs.Calls.{reply, Answers};
+ghost use Rattle.store.specs.Contracts.{viewIn, Does, AnswersUnder, RoomForForm, StoppedAt};
+ghost use Rattle.store.specs.Contracts.{Held, HeldLast, RefusedBy, calledFrom, enteredBelow, answeredFrom, answeredBy};
 ghost use Rattle.store.specs.Replies.{saidState, saidCall, saidAnswer, saidFinish};
+
+// Buffers to read terms in: a variable to a cell, and a form of half as many tokens again. Short terms get short ones.
+const SHORT_CELLS: usize = 16;
+
+const SHORT_FORM: usize = 24;
+
+const LONG_FORM: usize = 384;
 
 // ---- finish
 
 // In a space whose header is sound.
 fn finish_in(space: &mut [u32], h: Head, s: usize) -> FinishAnswer
     requires { ⌜ Bounds (now space) h ⌝ }
-    ensures { λ r. ⌜ (saidFinish r ≡ under (sizesOf (h .edition)) (codingOf (h .edition)) (now (space .entry)) (request.finish s) (header.Sound h) .reply) × (now (space .exit) ≡ under (sizesOf (h .edition)) (codingOf (h .edition)) (now (space .entry)) (request.finish s) (header.Sound h) .state) ⌝ }
+    ensures { λ r. ⌜
+        AnswersUnder (now (space .entry)) h (request.finish s) (saidFinish r) (now (space .exit))
+        ⌝ }
 {
     if s == 0 {
-        return FinishAnswer::Refused(7);
+        return FinishAnswer::Refused(NUMBER);
     }
     if h.subgoals < s {
-        return FinishAnswer::Refused(7);
+        return FinishAnswer::Refused(NUMBER);
     }
     let SubgoalRead::Sound(_) = read_subgoal(space, h, s) else {
-        return FinishAnswer::Refused(9);
+        return FinishAnswer::Refused(RECORDS);
     };
     write_state(space, h, s, 1);
     FinishAnswer::Done
@@ -76,7 +87,9 @@ fn finish_in(space: &mut [u32], h: Head, s: usize) -> FinishAnswer
 
 // Finishes a subgoal; to finish it again changes nothing.
 pub fn finish(space: &mut [u32], subgoal: u32) -> FinishAnswer
-    ensures { λ r. ⌜ Answers (now (space .entry)) (request.finish subgoal) (saidFinish r) [] (now (space .exit)) ⌝ }
+    ensures { λ r. ⌜
+        Answers (now (space .entry)) (request.finish subgoal) (saidFinish r) [] (now (space .exit))
+        ⌝ }
 {
     let read = read_header(space);
     let Header::Sound(h) = read else {
@@ -103,25 +116,32 @@ fn state_of(x: usize) -> State
 // The path was found whole at a leaf whose link is s.
 fn call_old(space: &[u32], h: Head, leaf: usize, s: usize) -> CallAnswer
     requires { ⌜ Bounds (now space) h × (s ≤ h .subgoals) ⌝ }
-    ensures { λ r. ⌜ saidCall r ≡ reply (viewOf (sizesOf (h .edition)) (now (space .entry)) h) (calledOld (viewOf (sizesOf (h .edition)) (now (space .entry)) h) leaf s) 0 ⌝ }
+    ensures { λ r. ⌜
+        saidCall r ≡ reply (viewIn (now (space .entry)) h) (calledOld (viewIn (now (space .entry)) h) leaf s) 0
+        ⌝ }
 {
     if s == 0 {
-        return CallAnswer::Refused(9);
+        return CallAnswer::Refused(RECORDS);
     }
     let SubgoalRead::Sound(y) = read_subgoal(space, h, s) else {
-        return CallAnswer::Refused(9);
+        return CallAnswer::Refused(RECORDS);
     };
     if y.leaf == leaf {
         return CallAnswer::Old(s as u32, state_of(y.state));
     }
-    CallAnswer::Refused(9)
+    CallAnswer::Refused(RECORDS)
 }
 
 // The path, its leaf linked to the subgoal, the answer root behind it, the record, the counts.
 fn enter_subgoal(space: &mut [u32], h: Head, parent: usize, last: usize, tokens: &[u32], m: usize)
-    requires { ⌜ Bounds (now space) h × (parent < h .nodes) × (last < h .nodes) × (m ≤ 32) ⌝ }
-    requires { ⌜ (h .nodes + length (now tokens) < h .«node_capacity») × (h .subgoals < h .«subgoal_capacity») ⌝ }
-    ensures { λ r. ⌜ now (space .exit) ≡ subgoalEntered (sizesOf (h .edition)) (now (space .entry)) h parent last (now (tokens .entry)) m ⌝ }
+    requires { ⌜ StoppedAt (now space) h parent last m ⌝ }
+    requires { ⌜
+        (h .nodes + length (now tokens) < h .«node_capacity») × (h .subgoals < h .«subgoal_capacity»)
+        ⌝ }
+    ensures { λ r. ⌜
+        now (space .exit)
+        ≡ subgoalEntered (sizesOf (h .edition)) (now (space .entry)) h parent last (now (tokens .entry)) m
+        ⌝ }
 {
     let root = h.nodes + tokens.len();
     let leaf = root - 1;
@@ -157,15 +177,18 @@ fn call_new(
     tokens: &[u32],
     m: usize,
 ) -> CallAnswer
-    requires { ⌜ Bounds (now space) h × (parent < h .nodes) × (last < h .nodes) × (m ≤ 32) ⌝ }
-    ensures { λ r. ⌜ (saidCall r ≡ reply (viewOf (sizesOf (h .edition)) (now (space .entry)) h) (calledNew (viewOf (sizesOf (h .edition)) (now (space .entry)) h) parent last (now (tokens .entry)) m) 0) × (now (space .exit) ≡ change (sizesOf (h .edition)) (now (space .entry)) h (calledNew (viewOf (sizesOf (h .edition)) (now (space .entry)) h) parent last (now (tokens .entry)) m)) ⌝ }
+    requires { ⌜ StoppedAt (now space) h parent last m ⌝ }
+    ensures { λ r. ⌜
+        Does (now (space .entry)) h (λ v. calledNew v parent last (now (tokens .entry)) m)
+        (saidCall r) (now (space .exit))
+        ⌝ }
 {
     let free = h.node_capacity - h.nodes;
     if free <= tokens.len() {
-        return CallAnswer::Refused(10);
+        return CallAnswer::Refused(NODES);
     }
     if h.subgoal_capacity <= h.subgoals {
-        return CallAnswer::Refused(11);
+        return CallAnswer::Refused(RECORDS_LEFT);
     }
     enter_subgoal(space, h, parent, last, tokens, m);
     let s = h.subgoals + 1;
@@ -175,7 +198,9 @@ fn call_new(
 // A term with this form and m variables is called.
 fn call_at(space: &mut [u32], h: Head, tokens: &[u32], m: usize) -> CallAnswer
     requires { ⌜ Bounds (now space) h × (m ≤ 32) ⌝ }
-    ensures { λ r. ⌜ (saidCall r ≡ reply (viewOf (sizesOf (h .edition)) (now (space .entry)) h) (calledAt (viewOf (sizesOf (h .edition)) (now (space .entry)) h) (walk (trieIn sizes (now (space .entry)) (h .nodes) (h .subgoals)) 0 (now (tokens .entry))) m) 0) × (now (space .exit) ≡ change (sizesOf (h .edition)) (now (space .entry)) h (calledAt (viewOf (sizesOf (h .edition)) (now (space .entry)) h) (walk (trieIn sizes (now (space .entry)) (h .nodes) (h .subgoals)) 0 (now (tokens .entry))) m)) ⌝ }
+    ensures { λ r. ⌜
+        Does (now (space .entry)) h (calledFrom (now (tokens .entry)) m) (saidCall r) (now (space .exit))
+        ⌝ }
 {
     let walked = walk_tokens(space, h.nodes, h.subgoals, 0, tokens);
     match walked {
@@ -187,7 +212,7 @@ fn call_at(space: &mut [u32], h: Head, tokens: &[u32], m: usize) -> CallAnswer
             let from = tokens.len() - left;
             return call_new(space, h, parent, last, &tokens[from..], m);
         }
-        Walked::Damaged => return CallAnswer::Refused(9),
+        Walked::Damaged => return CallAnswer::Refused(RECORDS),
     }
 }
 
@@ -200,8 +225,10 @@ fn call_with(
     form: &mut [u32],
 ) -> CallAnswer
     requires { ⌜ Bounds (now space) h ⌝ }
-    requires { ⌜ (length (now term) ≤ 256 → (length (now term) ≤ length (now vars)) × (3 * length (now term) ≤ 2 * length (now form))) ⌝ }
-    ensures { λ r. ⌜ (saidCall r ≡ under (sizesOf (h .edition)) (codingOf (h .edition)) (now (space .entry)) (request.call (now (term .entry))) (header.Sound h) .reply) × (now (space .exit) ≡ under (sizesOf (h .edition)) (codingOf (h .edition)) (now (space .entry)) (request.call (now (term .entry))) (header.Sound h) .state) ⌝ }
+    requires { ⌜ RoomForForm (now term) (now vars) (now form) ⌝ }
+    ensures { λ r. ⌜
+        AnswersUnder (now (space .entry)) h (request.call (now (term .entry))) (saidCall r) (now (space .exit))
+        ⌝ }
 {
     let read = read_terms(term, 1, vars, form, h.edition);
     let Reading::Form(n, m) = read else {
@@ -213,12 +240,14 @@ fn call_with(
     if is_callable(term[0]) {
         return call_at(space, h, &form[..n], m);
     }
-    CallAnswer::Refused(6)
+    CallAnswer::Refused(PREDICATE)
 }
 
-// Enters the subgoal that a callable term calls, or finds it. Short terms get short buffers.
+// Enters the subgoal that a callable term calls, or finds it.
 pub fn call(space: &mut [u32], term: &[u32]) -> CallAnswer
-    ensures { λ r. ⌜ Answers (now (space .entry)) (request.call (now (term .entry))) (saidCall r) [] (now (space .exit)) ⌝ }
+    ensures { λ r. ⌜
+        Answers (now (space .entry)) (request.call (now (term .entry))) (saidCall r) [] (now (space .exit))
+        ⌝ }
 {
     let read = read_header(space);
     let Header::Sound(h) = read else {
@@ -227,13 +256,13 @@ pub fn call(space: &mut [u32], term: &[u32]) -> CallAnswer
             Header::Sound(_) => return CallAnswer::Refused(0),
         }
     };
-    if term.len() <= 16 {
-        let mut vars = [0u32; 16];
-        let mut form = [0u32; 24];
+    if term.len() <= SHORT_CELLS {
+        let mut vars = [0u32; SHORT_CELLS];
+        let mut form = [0u32; SHORT_FORM];
         return call_with(space, h, term, &mut vars, &mut form);
     }
-    let mut vars = [0u32; 256];
-    let mut form = [0u32; 384];
+    let mut vars = [0u32; MOST_CELLS];
+    let mut form = [0u32; LONG_FORM];
     call_with(space, h, term, &mut vars, &mut form)
 }
 
@@ -241,8 +270,10 @@ pub fn call(space: &mut [u32], term: &[u32]) -> CallAnswer
 
 // The last answer of subgoal s, where there is one, is the subgoal's and has none after it.
 fn last_sound(space: &[u32], h: Head, s: usize, last: usize) -> bool
-    requires { ⌜ Bounds (now space) h × (last ≤ h .answers) × (last ≡ subgoalIn (sizesOf (h .edition)) (now space) (h .«subgoal_offset») s .last) ⌝ }
-    ensures { λ r. ⌜ r ≡ soundLast (viewOf (sizesOf (h .edition)) (now (space .entry)) h) s ⌝ }
+    requires { ⌜
+        Bounds (now space) h × (last ≤ h .answers) × (last ≡ subgoalUnder (now space) h s .last)
+        ⌝ }
+    ensures { λ r. ⌜ r ≡ soundLast (viewIn (now (space .entry)) h) s ⌝ }
 {
     if last == 0 {
         return true;
@@ -258,26 +289,29 @@ fn last_sound(space: &[u32], h: Head, s: usize, last: usize) -> bool
 
 // The refusal of a new answer that takes so many nodes more; 0 for none.
 fn refusal(space: &[u32], h: Head, s: usize, g: Subgoal, more: usize) -> u32
-    requires { ⌜ Bounds (now space) h × (g ≡ subgoalIn (sizesOf (h .edition)) (now space) (h .«subgoal_offset») s) × (g .last ≤ h .answers) ⌝ }
-    ensures { λ r. ⌜ ((d : Decision) → answeredNew (viewOf (sizesOf (h .edition)) (now (space .entry)) h) s more d ≡ pick (eqb r 0) d (refuses r)) ⌝ }
+    requires { ⌜ Held (now space) h s g ⌝ }
+    ensures { λ r. ⌜ RefusedBy (now (space .entry)) h s more r ⌝ }
 {
     if last_sound(space, h, s, g.last) {
         let free = h.node_capacity - h.nodes;
         if free < more {
-            return 10;
+            return NODES;
         }
         if h.answer_capacity <= h.answers {
-            return 11;
+            return RECORDS_LEFT;
         }
         return 0;
     }
-    9
+    RECORDS
 }
 
 // The new answer a becomes the subgoal's first, or the next of its last.
 fn chain(space: &mut [u32], h: Head, s: usize, g: Subgoal, a: usize)
-    requires { ⌜ Bounds (now space) h × (1 ≤ s) × (s ≤ h .subgoals) × (g .last ≤ h .answers) × (a ≤ h .«answer_capacity») ⌝ }
-    ensures { λ r. ⌜ now (space .exit) ≡ writes (chained (sizesOf (h .edition)) h s g a) (now (space .entry)) ⌝ }
+    requires { ⌜ HeldLast (now space) h s g ⌝ }
+    requires { ⌜ a ≤ h .«answer_capacity» ⌝ }
+    ensures { λ r. ⌜
+        now (space .exit) ≡ writes (chained (sizesOf (h .edition)) h s g a) (now (space .entry))
+        ⌝ }
 {
     let last = g.last;
     if last == 0 {
@@ -289,9 +323,13 @@ fn chain(space: &mut [u32], h: Head, s: usize, g: Subgoal, a: usize)
 
 // The leaf linked to the answer, the chain, the record, the subgoal's last answer, the counts.
 fn enter_answer(space: &mut [u32], h: Head, s: usize, g: Subgoal, leaf: usize, nodes: usize)
-    requires { ⌜ Bounds (now space) h × (1 ≤ s) × (s ≤ h .subgoals) × (g .last ≤ h .answers) ⌝ }
-    requires { ⌜ (leaf < h .«node_capacity») × (nodes ≤ h .«node_capacity») × (h .answers < h .«answer_capacity») ⌝ }
-    ensures { λ r. ⌜ now (space .exit) ≡ answerEntered (sizesOf (h .edition)) (now (space .entry)) h s g leaf nodes ⌝ }
+    requires { ⌜ HeldLast (now space) h s g ⌝ }
+    requires { ⌜
+        (leaf < h .«node_capacity») × (nodes ≤ h .«node_capacity») × (h .answers < h .«answer_capacity»)
+        ⌝ }
+    ensures { λ r. ⌜
+        now (space .exit) ≡ answerEntered (sizesOf (h .edition)) (now (space .entry)) h s g leaf nodes
+        ⌝ }
 {
     let a = h.answers + 1;
     write_link(space, h.node_capacity, leaf, a as u32);
@@ -308,8 +346,10 @@ fn enter_answer(space: &mut [u32], h: Head, s: usize, g: Subgoal, leaf: usize, n
 
 // A new answer whose leaf is the answer root: that of no terms.
 fn answer_empty(space: &mut [u32], h: Head, s: usize, g: Subgoal) -> AnswerAnswer
-    requires { ⌜ Bounds (now space) h × (1 ≤ s) × (s ≤ h .subgoals) × (g ≡ subgoalIn (sizesOf (h .edition)) (now space) (h .«subgoal_offset») s) × (g .last ≤ h .answers) × (g .root < h .nodes) ⌝ }
-    ensures { λ r. ⌜ (saidAnswer r ≡ reply (viewOf (sizesOf (h .edition)) (now (space .entry)) h) (answeredNew (viewOf (sizesOf (h .edition)) (now (space .entry)) h) s 0 (entersEmpty s)) 0) × (now (space .exit) ≡ change (sizesOf (h .edition)) (now (space .entry)) h (answeredNew (viewOf (sizesOf (h .edition)) (now (space .entry)) h) s 0 (entersEmpty s))) ⌝ }
+    requires { ⌜ Held (now space) h s g ⌝ }
+    ensures { λ r. ⌜
+        Does (now (space .entry)) h (λ v. answeredNew v s 0 (entersEmpty s)) (saidAnswer r) (now (space .exit))
+        ⌝ }
 {
     let k = refusal(space, h, s, g, 0);
     if k == 0 {
@@ -330,9 +370,12 @@ fn answer_new(
     last: usize,
     tokens: &[u32],
 ) -> AnswerAnswer
-    requires { ⌜ Bounds (now space) h × (1 ≤ s) × (s ≤ h .subgoals) × (g ≡ subgoalIn (sizesOf (h .edition)) (now space) (h .«subgoal_offset») s) × (g .last ≤ h .answers) ⌝ }
+    requires { ⌜ Held (now space) h s g ⌝ }
     requires { ⌜ (parent < h .nodes) × (last < h .nodes) ⌝ }
-    ensures { λ r. ⌜ (saidAnswer r ≡ reply (viewOf (sizesOf (h .edition)) (now (space .entry)) h) (answeredNew (viewOf (sizesOf (h .edition)) (now (space .entry)) h) s (length (now (tokens .entry))) (entersAnswer s parent last (now (tokens .entry)))) 0) × (now (space .exit) ≡ change (sizesOf (h .edition)) (now (space .entry)) h (answeredNew (viewOf (sizesOf (h .edition)) (now (space .entry)) h) s (length (now (tokens .entry))) (entersAnswer s parent last (now (tokens .entry))))) ⌝ }
+    ensures { λ r. ⌜
+        Does (now (space .entry)) h (enteredBelow s parent last (now (tokens .entry)))
+        (saidAnswer r) (now (space .exit))
+        ⌝ }
 {
     let k = refusal(space, h, s, g, tokens.len());
     if k == 0 {
@@ -355,28 +398,35 @@ fn answer_old(
     leaf: usize,
     a: usize,
 ) -> AnswerAnswer
-    requires { ⌜ Bounds (now space) h × (1 ≤ s) × (s ≤ h .subgoals) × (g ≡ subgoalIn (sizesOf (h .edition)) (now space) (h .«subgoal_offset») s) × (g .last ≤ h .answers) × (g .root < h .nodes) × (a ≤ h .answers) ⌝ }
-    ensures { λ r. ⌜ (saidAnswer r ≡ reply (viewOf (sizesOf (h .edition)) (now (space .entry)) h) (answeredOld (viewOf (sizesOf (h .edition)) (now (space .entry)) h) s (now (tokens .entry)) leaf a) 0) × (now (space .exit) ≡ change (sizesOf (h .edition)) (now (space .entry)) h (answeredOld (viewOf (sizesOf (h .edition)) (now (space .entry)) h) s (now (tokens .entry)) leaf a)) ⌝ }
+    requires { ⌜ Held (now space) h s g ⌝ }
+    requires { ⌜ a ≤ h .answers ⌝ }
+    ensures { λ r. ⌜
+        Does (now (space .entry)) h (λ v. answeredOld v s (now (tokens .entry)) leaf a)
+        (saidAnswer r) (now (space .exit))
+        ⌝ }
 {
     if a == 0 {
         if tokens.len() == 0 {
             return answer_empty(space, h, s, g);
         }
-        return AnswerAnswer::Refused(9);
+        return AnswerAnswer::Refused(RECORDS);
     }
     let AnswerRead::Sound(y) = read_answer(space, h, a) else {
-        return AnswerAnswer::Refused(9);
+        return AnswerAnswer::Refused(RECORDS);
     };
     if y.leaf == leaf {
         return AnswerAnswer::Old(a as u32);
     }
-    AnswerAnswer::Refused(9)
+    AnswerAnswer::Refused(RECORDS)
 }
 
 // Terms with this form answer subgoal s.
 fn answer_at(space: &mut [u32], h: Head, s: usize, g: Subgoal, tokens: &[u32]) -> AnswerAnswer
-    requires { ⌜ Bounds (now space) h × (1 ≤ s) × (s ≤ h .subgoals) × (g ≡ subgoalIn (sizesOf (h .edition)) (now space) (h .«subgoal_offset») s) × (g .last ≤ h .answers) × (g .root < h .nodes) ⌝ }
-    ensures { λ r. ⌜ (saidAnswer r ≡ reply (viewOf (sizesOf (h .edition)) (now (space .entry)) h) (answeredAt (viewOf (sizesOf (h .edition)) (now (space .entry)) h) s (now (tokens .entry)) (walk (trieIn sizes (now (space .entry)) (h .nodes) (h .answers)) (g .root) (now (tokens .entry)))) 0) × (now (space .exit) ≡ change (sizesOf (h .edition)) (now (space .entry)) h (answeredAt (viewOf (sizesOf (h .edition)) (now (space .entry)) h) s (now (tokens .entry)) (walk (trieIn sizes (now (space .entry)) (h .nodes) (h .answers)) (g .root) (now (tokens .entry))))) ⌝ }
+    requires { ⌜ Held (now space) h s g ⌝ }
+    ensures { λ r. ⌜
+        Does (now (space .entry)) h (answeredFrom s (g .root) (now (tokens .entry)))
+        (saidAnswer r) (now (space .exit))
+        ⌝ }
 {
     let walked = walk_tokens(space, h.nodes, h.answers, g.root, tokens);
     match walked {
@@ -388,7 +438,7 @@ fn answer_at(space: &mut [u32], h: Head, s: usize, g: Subgoal, tokens: &[u32]) -
             let from = tokens.len() - left;
             return answer_new(space, h, s, g, parent, last, &tokens[from..]);
         }
-        Walked::Damaged => return AnswerAnswer::Refused(9),
+        Walked::Damaged => return AnswerAnswer::Refused(RECORDS),
     }
 }
 
@@ -402,9 +452,12 @@ fn answer_with(
     vars: &mut [u32],
     form: &mut [u32],
 ) -> AnswerAnswer
-    requires { ⌜ Bounds (now space) h × (1 ≤ s) × (s ≤ h .subgoals) × (g ≡ subgoalIn (sizesOf (h .edition)) (now space) (h .«subgoal_offset») s) × (g .last ≤ h .answers) × (g .root < h .nodes) ⌝ }
-    requires { ⌜ (length (now terms) ≤ 256 → (length (now terms) ≤ length (now vars)) × (3 * length (now terms) ≤ 2 * length (now form))) ⌝ }
-    ensures { λ r. ⌜ (saidAnswer r ≡ reply (viewOf (sizesOf (h .edition)) (now (space .entry)) h) (answered (viewOf (sizesOf (h .edition)) (now (space .entry)) h) s (judged (arityOf (h .edition)) (g .variables) (now (terms .entry)) (compacted (arityOf (h .edition)) (now (terms .entry))))) 0) × (now (space .exit) ≡ change (sizesOf (h .edition)) (now (space .entry)) h (answered (viewOf (sizesOf (h .edition)) (now (space .entry)) h) s (judged (arityOf (h .edition)) (g .variables) (now (terms .entry)) (compacted (arityOf (h .edition)) (now (terms .entry)))))) ⌝ }
+    requires { ⌜ Held (now space) h s g ⌝ }
+    requires { ⌜ RoomForForm (now terms) (now vars) (now form) ⌝ }
+    ensures { λ r. ⌜
+        Does (now (space .entry)) h (answeredBy h s (g .variables) (now (terms .entry)))
+        (saidAnswer r) (now (space .exit))
+        ⌝ }
 {
     let read = read_terms(terms, g.variables, vars, form, h.edition);
     let Reading::Form(n, _) = read else {
@@ -416,50 +469,57 @@ fn answer_with(
     answer_at(space, h, s, g, &form[..n])
 }
 
-// An open subgoal is answered. Short terms get short buffers.
+// An open subgoal is answered.
 fn answer_open(space: &mut [u32], h: Head, s: usize, g: Subgoal, terms: &[u32]) -> AnswerAnswer
-    requires { ⌜ Bounds (now space) h × (1 ≤ s) × (s ≤ h .subgoals) × (g ≡ subgoalIn (sizesOf (h .edition)) (now space) (h .«subgoal_offset») s) × (g .last ≤ h .answers) × (g .root < h .nodes) ⌝ }
-    ensures { λ r. ⌜ (saidAnswer r ≡ reply (viewOf (sizesOf (h .edition)) (now (space .entry)) h) (answered (viewOf (sizesOf (h .edition)) (now (space .entry)) h) s (judged (arityOf (h .edition)) (g .variables) (now (terms .entry)) (compacted (arityOf (h .edition)) (now (terms .entry))))) 0) × (now (space .exit) ≡ change (sizesOf (h .edition)) (now (space .entry)) h (answered (viewOf (sizesOf (h .edition)) (now (space .entry)) h) s (judged (arityOf (h .edition)) (g .variables) (now (terms .entry)) (compacted (arityOf (h .edition)) (now (terms .entry)))))) ⌝ }
+    requires { ⌜ Held (now space) h s g ⌝ }
+    ensures { λ r. ⌜
+        Does (now (space .entry)) h (answeredBy h s (g .variables) (now (terms .entry)))
+        (saidAnswer r) (now (space .exit))
+        ⌝ }
 {
-    if terms.len() <= 16 {
-        let mut vars = [0u32; 16];
-        let mut form = [0u32; 24];
+    if terms.len() <= SHORT_CELLS {
+        let mut vars = [0u32; SHORT_CELLS];
+        let mut form = [0u32; SHORT_FORM];
         return answer_with(space, h, s, g, terms, &mut vars, &mut form);
     }
-    let mut vars = [0u32; 256];
-    let mut form = [0u32; 384];
+    let mut vars = [0u32; MOST_CELLS];
+    let mut form = [0u32; LONG_FORM];
     answer_with(space, h, s, g, terms, &mut vars, &mut form)
 }
 
 // In a space whose header is sound: the number, the subgoal and its answer root, the state.
 fn answer_in(space: &mut [u32], h: Head, s: usize, terms: &[u32]) -> AnswerAnswer
     requires { ⌜ Bounds (now space) h ⌝ }
-    ensures { λ r. ⌜ (saidAnswer r ≡ under (sizesOf (h .edition)) (codingOf (h .edition)) (now (space .entry)) (request.answer s (now (terms .entry))) (header.Sound h) .reply) × (now (space .exit) ≡ under (sizesOf (h .edition)) (codingOf (h .edition)) (now (space .entry)) (request.answer s (now (terms .entry))) (header.Sound h) .state) ⌝ }
+    ensures { λ r. ⌜
+        AnswersUnder (now (space .entry)) h (request.answer s (now (terms .entry))) (saidAnswer r) (now (space .exit))
+        ⌝ }
 {
     if s == 0 {
-        return AnswerAnswer::Refused(7);
+        return AnswerAnswer::Refused(NUMBER);
     }
     if h.subgoals < s {
-        return AnswerAnswer::Refused(7);
+        return AnswerAnswer::Refused(NUMBER);
     }
     let SubgoalRead::Sound(g) = read_subgoal(space, h, s) else {
-        return AnswerAnswer::Refused(9);
+        return AnswerAnswer::Refused(RECORDS);
     };
     let NodeRead::Sound(y) = read_node(space, h.nodes, h.answers, g.root) else {
-        return AnswerAnswer::Refused(9);
+        return AnswerAnswer::Refused(RECORDS);
     };
     if y.parent != g.root {
-        return AnswerAnswer::Refused(9);
+        return AnswerAnswer::Refused(RECORDS);
     }
     if g.state == 0 {
         return answer_open(space, h, s, g, terms);
     }
-    AnswerAnswer::Refused(8)
+    AnswerAnswer::Refused(STATE)
 }
 
 // Enters the answer terms of an open subgoal, or finds them: one term for each of its variables.
 pub fn answer(space: &mut [u32], subgoal: u32, terms: &[u32]) -> AnswerAnswer
-    ensures { λ r. ⌜ Answers (now (space .entry)) (request.answer subgoal (now (terms .entry))) (saidAnswer r) [] (now (space .exit)) ⌝ }
+    ensures { λ r. ⌜
+        Answers (now (space .entry)) (request.answer subgoal (now (terms .entry))) (saidAnswer r) [] (now (space .exit))
+        ⌝ }
 {
     let read = read_header(space);
     let Header::Sound(h) = read else {

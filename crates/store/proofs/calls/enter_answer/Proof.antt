@@ -28,7 +28,7 @@ write-link-requires : tie.Need-write-link-requires
 write-link-requires c κs = search needs
 
 chain-requires : tie.Need-chain-requires
-chain-requires c κs = (linked (c .before .before .before), search needs, search needs, search needs, omega (arith, c .before .before .before .before .before .before .before .pre .1 .2))
+chain-requires c κs = ((linked (c .before .before .before), search needs, search needs, search needs), omega (arith, c .before .before .before .before .before .before .before .pre .1 .2))
 
 write-answer-requires : tie.Need-write-answer-requires
 write-answer-requires c κs = (in-chain (c .before .before .before), omega arith, omega (arith, c .before .before .before .before .before .before .before .before .before .before .before .pre .1 .2), record { leaf-fits = omega arith; subgoal-fits = omega arith; next-fits = omega arith })

@@ -7,7 +7,7 @@ use Rattle.store.proofs.calls.refusal.Statement.{statement}
 use Rattle.store.proofs.calls.refusal.Tie as tie
 
 last-sound-requires : tie.Need-last-sound-requires
-last-sound-requires c κs = (search needs, search needs, ap (λ (g : Subgoal). g .last) (c .before .pre .1))
+last-sound-requires c κs = (search needs, search needs, ap (λ (g : Subgoal). g .last) (c .before .pre .3))
 
 sub-free : tie.Need-sub-free
 sub-free c = search needs
