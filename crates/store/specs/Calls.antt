@@ -54,7 +54,8 @@ unfoldable pub spaceStep : List ℕ → Request → Result (List ℕ)
 spaceStep cs q = underAny cs q (spaceHeader cs)
 
 -- On the cells `before` the call q answers r, and leaves `out` of the out that was lent to it and `after` of the
--- cells: the contract of every call. A space that is lent to read alone is afterwards what it was, so there `after` is `before`.
+-- cells: the contract of every call. A space that is lent to read alone is afterwards what it was, so there `after` is
+-- `before`.
 abbrev pub Answers : List ℕ → Request → Reply → List ℕ → List ℕ → Type 0
 Answers before q r out after =
     (r ≡ spaceStep before q .reply) × (out ≡ spaceStep before q .out) × (after ≡ spaceStep before q .state)

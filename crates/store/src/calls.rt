@@ -53,7 +53,8 @@ ghost use Rattle.store.specs.Decisions.{soundLast, answeredNew, answered
 ghost use Rattle.store.specs.Changes.{chained, subgoalEntered, answerEntered};
 ghost use Rattle.store.specs.Calls.{reply, Answers};
 ghost use Rattle.store.specs.Contracts.{viewIn, Does, AnswersUnder, RoomForForm, StoppedAt};
-ghost use Rattle.store.specs.Contracts.{Held, HeldLast, RefusedBy, calledFrom, enteredBelow, answeredFrom, answeredBy};
+ghost use Rattle.store.specs.Contracts.{Held, HeldLast, RefusedBy, calledFrom};
+ghost use Rattle.store.specs.Contracts.{enteredBelow, answeredFrom, answeredBy};
 ghost use Rattle.store.specs.Replies.{saidState, saidCall, saidAnswer, saidFinish};
 
 // Buffers to read terms in: a variable to a cell, and a form of half as many tokens again. Short terms get short ones.
@@ -92,13 +93,10 @@ pub fn finish(space: &mut [u32], subgoal: u32) -> FinishAnswer
         ⌝ }
 {
     let read = read_header(space);
-    let Header::Sound(h) = read else {
-        match read {
-            Header::Refused(r) => return FinishAnswer::Refused(r),
-            Header::Sound(_) => return FinishAnswer::Refused(0),
-        }
-    };
-    finish_in(space, h, wide(subgoal))
+    match read {
+        Header::Refused(r) => return FinishAnswer::Refused(r),
+        Header::Sound(h) => return finish_in(space, h, wide(subgoal)),
+    }
 }
 
 // ---- call
@@ -250,20 +248,19 @@ pub fn call(space: &mut [u32], term: &[u32]) -> CallAnswer
         ⌝ }
 {
     let read = read_header(space);
-    let Header::Sound(h) = read else {
-        match read {
-            Header::Refused(r) => return CallAnswer::Refused(r),
-            Header::Sound(_) => return CallAnswer::Refused(0),
+    match read {
+        Header::Refused(r) => return CallAnswer::Refused(r),
+        Header::Sound(h) => {
+            if term.len() <= SHORT_CELLS {
+                let mut vars = [0u32; SHORT_CELLS];
+                let mut form = [0u32; SHORT_FORM];
+                return call_with(space, h, term, &mut vars, &mut form);
+            }
+            let mut vars = [0u32; MOST_CELLS];
+            let mut form = [0u32; LONG_FORM];
+            return call_with(space, h, term, &mut vars, &mut form);
         }
-    };
-    if term.len() <= SHORT_CELLS {
-        let mut vars = [0u32; SHORT_CELLS];
-        let mut form = [0u32; SHORT_FORM];
-        return call_with(space, h, term, &mut vars, &mut form);
     }
-    let mut vars = [0u32; MOST_CELLS];
-    let mut form = [0u32; LONG_FORM];
-    call_with(space, h, term, &mut vars, &mut form)
 }
 
 // ---- answer
@@ -522,11 +519,8 @@ pub fn answer(space: &mut [u32], subgoal: u32, terms: &[u32]) -> AnswerAnswer
         ⌝ }
 {
     let read = read_header(space);
-    let Header::Sound(h) = read else {
-        match read {
-            Header::Refused(r) => return AnswerAnswer::Refused(r),
-            Header::Sound(_) => return AnswerAnswer::Refused(0),
-        }
-    };
-    answer_in(space, h, wide(subgoal), terms)
+    match read {
+        Header::Refused(r) => return AnswerAnswer::Refused(r),
+        Header::Sound(h) => return answer_in(space, h, wide(subgoal), terms),
+    }
 }

@@ -14,38 +14,26 @@ read-header-requires c κs = search needs
 enum-known-read : tie.Need-enum-known-read
 enum-known-read c = search needs
 
-enum-known-read-2 : tie.Need-enum-known-read-2
-enum-known-read-2 c = search needs
-
-enum-known-read-3 : tie.Need-enum-known-read-3
-enum-known-read-3 c = search needs
-
 same-length : tie.Need-same-length
 same-length c = search needs
 
 returns : tie.Need-returns
-returns c = finish-answers _ _ _ _ (steps-refused _ _ _ (told (c .before .read3 .given .1) (told (c .before .before .before .before .read2 .given .1) (c .before .before .before .before .before .before .read-header .ensures))))
+returns c = finish-answers _ _ _ _ (steps-refused _ _ _ (told (c .before .read .given .1) (c .before .before .before .read-header .ensures)))
 
-enum-told : tie.Need-enum-told
-enum-told c = search needs
-
-same-length-2 : tie.Need-same-length-2
-same-length-2 c = search needs
-
-returns-2 : tie.Need-returns-2
-returns-2 c = search needs
+enum-known-read-2 : tie.Need-enum-known-read-2
+enum-known-read-2 c = search needs
 
 wide-requires : tie.Need-wide-requires
 wide-requires c κs = search needs
 
 finish-in-requires : tie.Need-finish-in-requires
-finish-in-requires c κs = header-bounds _ _ (told (c .before .before .before .read .given .1) (c .before .before .before .before .before .read-header .ensures))
+finish-in-requires c κs = header-bounds _ _ (told (c .before .before .before .read2 .given .1) (c .before .before .before .before .before .read-header .ensures))
 
-same-length-3 : tie.Need-same-length-3
-same-length-3 c = search needs
+same-length-2 : tie.Need-same-length-2
+same-length-2 c = search needs
 
-returns-3 : tie.Need-returns-3
-returns-3 c = finish-answers _ _ _ _ (steps-sound-at _ _ request.finish _ _ _ _ (c .before .before .before .wide .ensures .0) (told (c .before .before .before .before .before .before .read .given .1) (c .before .before .before .before .before .before .before .before .read-header .ensures)) (c .before .before .finish-in .ensures))
+returns-2 : tie.Need-returns-2
+returns-2 c = finish-answers _ _ _ _ (steps-sound-at _ _ request.finish _ _ _ _ (c .before .before .before .wide .ensures .0) (told (c .before .before .before .before .before .before .read2 .given .1) (c .before .before .before .before .before .before .before .before .read-header .ensures)) (c .before .before .finish-in .ensures))
 
 pub finish-spec : {M : Type 1} → statement M
 finish-spec =
@@ -53,14 +41,10 @@ finish-spec =
     (tie.spec
     read-header-requires
     enum-known-read
-    enum-known-read-2
-    enum-known-read-3
     same-length
     returns
-    enum-told
-    same-length-2
-    returns-2
+    enum-known-read-2
     wide-requires
     finish-in-requires
-    same-length-3
-    returns-3)
+    same-length-2
+    returns-2)
