@@ -1,15 +1,15 @@
--- The marked terms M1 to M8 of the request, and beside them one of edition 2.
+-- The marked terms M1 to M8 of the request; beside them one of edition 2, and what M6 leaves of out.
 use Prim.Native.Nat.{ℕ, _+_, _*_}
 use mathlib.Core.List.{List, [], _∷_, _++_}
 use mathlib.Core.Path.{_≡_, refl}
-use lib.ListN.{replicate}
+use lib.ListN.{length, replicate}
 use Rattle.forms.specs.declared.Answer.{Answer}
 use Rattle.forms.specs.declared.Answer.the-variants.{Cells, Refused, Short}
 use Rattle.forms.specs.Cells.{tag, nil, PAIR, BLIST, ELIST, EPAIR, shapeOf, symbolic, tokenOf, arityOf}
 use Rattle.forms.specs.Terms.{Term, pairs, every, applied, paired, begun, reads, areTerms}
 use Rattle.forms.specs.Numbering.{rank, seen, met, renamed, numbered}
 use Rattle.forms.specs.Compact.{compact, elements, compactForm, filled, lastOf, tailOf, inside, into, collected, whole, entered, items, front, formTerms, pairForm, same, areForms, legalForm}
-use Rattle.forms.specs.Converting.{reading, loading, fitting, fittingForm, fittingTerms, compacting, expanding}
+use Rattle.forms.specs.Converting.{reading, loading, fitting, fittingForm, fittingTerms, compacting, expanding, written}
 
 abbrev var : ℕ → ℕ
 var = tag 1
@@ -64,3 +64,30 @@ MarkedWide =
 pub marked-wide : MarkedWide
 unfolding compactForm reading loading fittingForm fittingTerms compacting expanding legalForm areTerms areForms fitting pairForm formTerms front symbolic tokenOf items entered filled lastOf tailOf into inside collected whole reads begun applied paired shapeOf arityOf every compact elements pairs numbered renamed met seen rank same
 marked-wide = (refl, refl, refl, refl, refl)
+
+-- ---- what is in out afterwards
+
+-- [1|2] in pair form and in compact form (M6)
+abbrev pair12 : List ℕ
+pair12 = PAIR ∷ int 1 ∷ int 2 ∷ []
+
+abbrev form12 : List ℕ
+form12 = BLIST ∷ int 1 ∷ EPAIR ∷ int 2 ∷ []
+
+abbrev compactedInto : List ℕ → List ℕ
+compactedInto out = written (compacting (arityOf 1) 1 pair12 (length out)) form12 out
+
+abbrev expandedInto : List ℕ → List ℕ → List ℕ
+expandedInto form out = written (expanding (arityOf 1) 1 form (length out)) pair12 out
+
+-- the cell behind those written stays; where the form does not fit, or there is none to expand, all of out does
+abbrev pub MarkedOut : Type 0
+MarkedOut =
+    (compactedInto (9 ∷ 9 ∷ 9 ∷ 9 ∷ 7 ∷ []) ≡ form12 ++ (7 ∷ []))
+    × (compactedInto (9 ∷ 9 ∷ 7 ∷ []) ≡ 9 ∷ 9 ∷ 7 ∷ [])
+    × (expandedInto form12 (9 ∷ 9 ∷ 9 ∷ 7 ∷ []) ≡ pair12 ++ (7 ∷ []))
+    × (expandedInto pair12 (9 ∷ 9 ∷ 9 ∷ 7 ∷ []) ≡ 9 ∷ 9 ∷ 9 ∷ 7 ∷ [])
+
+pub marked-out : MarkedOut
+unfolding written reading loading fittingForm fittingTerms compacting expanding compactForm legalForm areTerms areForms fitting pairForm formTerms front symbolic tokenOf items entered filled lastOf tailOf into inside collected whole reads begun applied paired shapeOf arityOf every compact elements pairs numbered renamed met seen rank same
+marked-out = (refl, refl, refl, refl)

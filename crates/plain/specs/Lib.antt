@@ -5,3 +5,5 @@ pub mod Requests
 pub mod Table
 pub mod Consequences
 pub mod Examples
+pub mod InstanceMeaning
+pub mod InstanceExamples
