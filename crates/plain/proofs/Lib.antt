@@ -16,3 +16,4 @@ pub mod Soundness
 pub mod StoredForms
 pub mod NextLaws
 pub mod Theorems
+pub mod InstanceMeaning
