@@ -1,13 +1,16 @@
--- What a buffer holds after reading or loading.
-use Prim.Native.Nat.{ℕ}
+-- What buffers must have room for and hold after reading or loading, and what the converters leave: the contracts' parts.
+use Prim.Native.Nat.{ℕ, _*_, _≤_}
 use mathlib.Core.List.{List}
 use mathlib.Core.Path.{_≡_}
-use lib.ListN.{take}
+use lib.ListN.{length, take}
 use Rattle.forms.specs.declared.Reading.{Reading}
 use Rattle.forms.specs.declared.Reading.the-variants.{Form, Refusal}
 use Rattle.forms.specs.declared.Loading.{Loading}
 use Rattle.forms.specs.declared.Loading.the-variants.{Terms, NoForm}
+use Rattle.forms.specs.declared.Answer.{Answer}
+use Rattle.forms.specs.Cells.{arityOf}
 use Rattle.forms.specs.Compact.{compactForm, pairForm}
+use Rattle.forms.specs.Converting.{reading, loading, compacting, expanding, inEdition, written}
 
 -- the form of the cells stands at the start of the buffer, if they were read
 abbrev pub HoldsForm : (ℕ → ℕ) → List ℕ → List ℕ → Reading → Type 0
@@ -18,3 +21,43 @@ HoldsForm arity cs buffer (Refusal r) = Unit {0}
 abbrev pub HoldsTerms : (ℕ → ℕ) → List ℕ → List ℕ → Loading → Type 0
 HoldsTerms arity cs buffer (Terms n) = take n buffer ≡ pairForm arity cs
 HoldsTerms arity cs buffer NoForm = Unit {0}
+
+-- ---- reading and loading
+
+-- room for the variables and the form of the cells, where there are not too many cells to be read
+abbrev pub RoomForForm : (cs vars form : List ℕ) → Type 0
+RoomForForm cs vars form = length cs ≤ 256 → (length cs ≤ length vars) × (3 * length cs ≤ 2 * length form)
+
+-- room for the terms of a form, where it has not too many tokens to be loaded
+abbrev pub RoomForTerms : (form cells : List ℕ) → Type 0
+RoomForTerms form cells = length form ≤ 383 → 2 * length form ≤ length cells
+
+-- m terms were read as they are defined to be, and the buffer holds their form
+abbrev pub Reads : (e m : ℕ) (cs buffer : List ℕ) → Reading → Type 0
+Reads e m cs buffer r = (r ≡ reading (arityOf e) m cs) × HoldsForm (arityOf e) cs buffer r
+
+-- a form was loaded as it is defined to be, and the buffer holds its terms
+abbrev pub Loads : (e m : ℕ) (form buffer : List ℕ) → Loading → Type 0
+Loads e m form buffer r = (r ≡ loading (arityOf e) m form) × HoldsTerms (arityOf e) form buffer r
+
+-- ---- converting
+
+-- the answer of compacting, and out after it
+abbrev pub Compacts : (e m : ℕ) (cs out : List ℕ) → Answer → List ℕ → Type 0
+Compacts e m cs out r out′ =
+    (r ≡ compacting (arityOf e) m cs (length out)) × (out′ ≡ written r (compactForm (arityOf e) cs) out)
+
+-- the same in the edition of this number, if there is one
+abbrev pub CompactsIn : (e m : ℕ) (cs out : List ℕ) → Answer → List ℕ → Type 0
+CompactsIn e m cs out r out′ =
+    (r ≡ inEdition e (compacting (arityOf e) m cs (length out))) × (out′ ≡ written r (compactForm (arityOf e) cs) out)
+
+-- the answer of expanding, and out after it
+abbrev pub Expands : (e m : ℕ) (form out : List ℕ) → Answer → List ℕ → Type 0
+Expands e m form out r out′ =
+    (r ≡ expanding (arityOf e) m form (length out)) × (out′ ≡ written r (pairForm (arityOf e) form) out)
+
+-- the same in the edition of this number, if there is one
+abbrev pub ExpandsIn : (e m : ℕ) (form out : List ℕ) → Answer → List ℕ → Type 0
+ExpandsIn e m form out r out′ =
+    (r ≡ inEdition e (expanding (arityOf e) m form (length out))) × (out′ ≡ written r (pairForm (arityOf e) form) out)

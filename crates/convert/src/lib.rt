@@ -2,17 +2,23 @@
 mod form_reader;
 mod pair_reader;
 
+use basis::limits::MOST_CELLS;
+use basis::limits::MOST_TOKENS;
+use basis::limits::MOST_VARIABLES;
+use basis::refusals::FORM;
+use basis::refusals::HEADER;
+use basis::refusals::LENGTH;
+use basis::refusals::TERM;
+use basis::refusals::VARIABLES;
 use forms::Answer;
 use forms::Loading;
 use forms::Reading;
 ghost use mathlib.Core.Path.{_≡_};
 ghost use mathlib.Core.List.{_++_};
-ghost use Prim.Native.Nat.{ℕ, _*_, _≤_};
+ghost use Prim.Native.Nat.{_≤_};
 ghost use lib.ListN.{length, take, drop};
-ghost use Rattle.forms.specs.Cells.{arityOf};
-ghost use Rattle.forms.specs.Compact.{compactForm, pairForm};
-ghost use Rattle.forms.specs.Converting.{reading, loading, compacting, expanding, inEdition, written};
-ghost use Rattle.convert.specs.Holds.{HoldsForm, HoldsTerms};
+ghost use Rattle.convert.specs.Holds.{RoomForForm, RoomForTerms, Reads, Loads};
+ghost use Rattle.convert.specs.Holds.{Compacts, CompactsIn, Expands, ExpandsIn};
 
 // What a reader answers: the places behind what it read and behind what it wrote, and how many
 // variables were met; or that the cells are malformed.
@@ -24,36 +30,36 @@ pub enum Step {
 // Reads the m terms in s, and leaves their compact form at the start of form. vars is for the
 // variables that are met.
 pub fn read_terms(s: &[u32], m: usize, vars: &mut [u32], form: &mut [u32], edition: u32) -> Reading
-    requires { ⌜ (length (now s) ≤ 256 → (length (now s) ≤ length (now vars)) × (3 * length (now s) ≤ 2 * length (now form))) ⌝ }
-    ensures { λ r. ⌜ (r ≡ reading (arityOf edition) m (now (s .entry))) × HoldsForm (arityOf edition) (now (s .entry)) (now (form .exit)) r ⌝ }
+    requires { ⌜ RoomForForm (now s) (now vars) (now form) ⌝ }
+    ensures { λ r. ⌜ Reads edition m (now (s .entry)) (now (form .exit)) r ⌝ }
 {
     let n = s.len();
-    if 256 < n {
-        return Reading::Refusal(4);
+    if MOST_CELLS < n {
+        return Reading::Refusal(LENGTH);
     }
     if n < m {
-        return Reading::Refusal(3);
+        return Reading::Refusal(TERM);
     }
     let Step::Done(next, end, variables) = pair_reader::terms(s, 0, m, vars, 0, form, 0, edition)
     else {
-        return Reading::Refusal(3);
+        return Reading::Refusal(TERM);
     };
     if next < n {
-        return Reading::Refusal(3);
+        return Reading::Refusal(TERM);
     }
-    if 32 < variables {
-        return Reading::Refusal(5);
+    if MOST_VARIABLES < variables {
+        return Reading::Refusal(VARIABLES);
     }
     Reading::Form(end, variables)
 }
 
 // Loads the m terms whose compact form is s, and leaves their pair form at the start of cells.
 pub fn load_terms(s: &[u32], m: usize, cells: &mut [u32], edition: u32) -> Loading
-    requires { ⌜ (length (now s) ≤ 383 → 2 * length (now s) ≤ length (now cells)) ⌝ }
-    ensures { λ r. ⌜ (r ≡ loading (arityOf edition) m (now (s .entry))) × HoldsTerms (arityOf edition) (now (s .entry)) (now (cells .exit)) r ⌝ }
+    requires { ⌜ RoomForTerms (now s) (now cells) ⌝ }
+    ensures { λ r. ⌜ Loads edition m (now (s .entry)) (now (cells .exit)) r ⌝ }
 {
     let n = s.len();
-    if 383 < n {
+    if MOST_TOKENS < n {
         return Loading::NoForm;
     }
     if n < m {
@@ -65,10 +71,10 @@ pub fn load_terms(s: &[u32], m: usize, cells: &mut [u32], edition: u32) -> Loadi
     if next < n {
         return Loading::NoForm;
     }
-    if 32 < met {
+    if MOST_VARIABLES < met {
         return Loading::NoForm;
     }
-    if 256 < end {
+    if MOST_CELLS < end {
         return Loading::NoForm;
     }
     Loading::Terms(end)
@@ -95,8 +101,8 @@ fn compact_with(
     out: &mut [u32],
     edition: u32,
 ) -> Answer
-    requires { ⌜ (length (now s) ≤ 256 → (length (now s) ≤ length (now vars)) × (3 * length (now s) ≤ 2 * length (now form))) ⌝ }
-    ensures { λ r. ⌜ (r ≡ compacting (arityOf edition) m (now (s .entry)) (length (now (out .entry)))) × (now (out .exit) ≡ written r (compactForm (arityOf edition) (now (s .entry))) (now (out .entry))) ⌝ }
+    requires { ⌜ RoomForForm (now s) (now vars) (now form) ⌝ }
+    ensures { λ r. ⌜ Compacts edition m (now (s .entry)) (now (out .entry)) r (now (out .exit)) ⌝ }
 {
     let read = read_terms(s, m, vars, form, edition);
     let Reading::Form(n, _) = read else {
@@ -114,7 +120,7 @@ fn compact_with(
 
 // Compacts in an edition that there is. Short terms get short buffers.
 fn compact_terms(s: &[u32], m: usize, out: &mut [u32], edition: u32) -> Answer
-    ensures { λ r. ⌜ (r ≡ compacting (arityOf edition) m (now (s .entry)) (length (now (out .entry)))) × (now (out .exit) ≡ written r (compactForm (arityOf edition) (now (s .entry))) (now (out .entry))) ⌝ }
+    ensures { λ r. ⌜ Compacts edition m (now (s .entry)) (now (out .entry)) r (now (out .exit)) ⌝ }
 {
     if s.len() <= 16 {
         let mut vars = [0u32; 16];
@@ -128,21 +134,21 @@ fn compact_terms(s: &[u32], m: usize, out: &mut [u32], edition: u32) -> Answer
 
 // Compacts the m terms in s into out, in the edition of this number.
 pub fn compact(s: &[u32], m: usize, out: &mut [u32], edition: u32) -> Answer
-    ensures { λ r. ⌜ (r ≡ inEdition edition (compacting (arityOf edition) m (now (s .entry)) (length (now (out .entry))))) × (now (out .exit) ≡ written r (compactForm (arityOf edition) (now (s .entry))) (now (out .entry))) ⌝ }
+    ensures { λ r. ⌜ CompactsIn edition m (now (s .entry)) (now (out .entry)) r (now (out .exit)) ⌝ }
 {
     if forms::is_converter_edition(edition) {
         return compact_terms(s, m, out, edition);
     }
-    Answer::Refused(1)
+    Answer::Refused(HEADER)
 }
 
 // Expands with a buffer that is long enough for s.
 fn expand_with(s: &[u32], m: usize, cells: &mut [u32], out: &mut [u32], edition: u32) -> Answer
-    requires { ⌜ (length (now s) ≤ 383 → 2 * length (now s) ≤ length (now cells)) ⌝ }
-    ensures { λ r. ⌜ (r ≡ expanding (arityOf edition) m (now (s .entry)) (length (now (out .entry)))) × (now (out .exit) ≡ written r (pairForm (arityOf edition) (now (s .entry))) (now (out .entry))) ⌝ }
+    requires { ⌜ RoomForTerms (now s) (now cells) ⌝ }
+    ensures { λ r. ⌜ Expands edition m (now (s .entry)) (now (out .entry)) r (now (out .exit)) ⌝ }
 {
     let Loading::Terms(k) = load_terms(s, m, cells, edition) else {
-        return Answer::Refused(13);
+        return Answer::Refused(FORM);
     };
     if out.len() < k {
         return Answer::Short(k);
@@ -153,7 +159,7 @@ fn expand_with(s: &[u32], m: usize, cells: &mut [u32], out: &mut [u32], edition:
 
 // Expands in an edition that there is, as a sound header names one. Short forms get short buffers, since each is cleared first.
 pub fn expand_terms(s: &[u32], m: usize, out: &mut [u32], edition: u32) -> Answer
-    ensures { λ r. ⌜ (r ≡ expanding (arityOf edition) m (now (s .entry)) (length (now (out .entry)))) × (now (out .exit) ≡ written r (pairForm (arityOf edition) (now (s .entry))) (now (out .entry))) ⌝ }
+    ensures { λ r. ⌜ Expands edition m (now (s .entry)) (now (out .entry)) r (now (out .exit)) ⌝ }
 {
     if s.len() <= 16 {
         let mut cells = [0u32; 32];
@@ -169,10 +175,10 @@ pub fn expand_terms(s: &[u32], m: usize, out: &mut [u32], edition: u32) -> Answe
 
 // Expands the form of m terms in s into out, in the edition of this number.
 pub fn expand(s: &[u32], m: usize, out: &mut [u32], edition: u32) -> Answer
-    ensures { λ r. ⌜ (r ≡ inEdition edition (expanding (arityOf edition) m (now (s .entry)) (length (now (out .entry))))) × (now (out .exit) ≡ written r (pairForm (arityOf edition) (now (s .entry))) (now (out .entry))) ⌝ }
+    ensures { λ r. ⌜ ExpandsIn edition m (now (s .entry)) (now (out .entry)) r (now (out .exit)) ⌝ }
 {
     if forms::is_converter_edition(edition) {
         return expand_terms(s, m, out, edition);
     }
-    Answer::Refused(1)
+    Answer::Refused(HEADER)
 }
