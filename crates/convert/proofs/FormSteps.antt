@@ -26,7 +26,7 @@ use Rattle.forms.proofs.ReadLaws.{WellFormed, AllWellFormed, applied-short, app
 use Rattle.forms.proofs.CompactLaws.{items-compact, Good, collected-good, forms}
 use Rattle.forms.proofs.FormLaws.{pairs-size}
 use Rattle.convert.specs.Loading.{inOrder, after, ordered, counted, itemsAt, Span, FormsRan, Rest, NoRest, RestRan}
-use Rattle.convert.proofs.Storing.{sets-append}
+use Rattle.basis.proofs.SetsLaws.{sets-append}
 
 -- ---- variables in order
 

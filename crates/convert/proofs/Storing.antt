@@ -4,22 +4,19 @@ use mathlib.Core.List.{List, [], _∷_, _++_, append-assoc, append-nil}
 use mathlib.Core.Bool.{Bool, true, false}
 use mathlib.Core.Path.{_≡_, refl, sym, ap, _∙_, subst}
 use native.Mathlib.Omega.{arith}
-use native.Mathlib.Nat.{add-suc, suc-add, add-zero, suc-sub-suc, sub-suc}
+use native.Mathlib.Nat.{suc-sub-suc, sub-suc}
 use native.Mathlib.Numerals.{add-one}
 use lib.ListN.{length, take, drop, getD, set, length-append, length-set}
 use lib.Seq.{sets, sets-eq, drop-set-lt, take-set-le, length-sets, drop-cons, take-append-seam, drop-at, take-at, length-take-le, take-suc-set, slice-cons, slice-empty}
 use lib.Dec.{eqb, leb, ltb}
 use borrow.Author.Tests.{eq-eqb, ne-eqb, le-leb, lt-leb, lt-ltb, le-ltb, eqb-true, ltb-true, ltb-false}
 use Rattle.basis.specs.Choice.{pick}
+-- passed on to those who name it here
+pub use Rattle.basis.proofs.SetsLaws.{sets-append}
 use Rattle.forms.specs.Cells.{kind, tag, variable, ELIST}
 use Rattle.forms.specs.Numbering.{rank, seen, met, renamed}
 use Rattle.forms.proofs.NumberingLaws.{rank-le, met-append, met-length}
 use Rattle.convert.specs.Readers.{numberedFrom, Stored}
-
--- two runs of stores, one behind the other
-pub sets-append : (xs ys l : List ℕ) (i : ℕ) → sets l i (xs ++ ys) ≡ sets (sets l i xs) (i + length xs) ys
-sets-append [] ys l i = rw add-zero
-sets-append (x ∷ xs) ys l i = rw (sets-append xs ys (set l i x) (suc i), suc-add, ← add-suc)
 
 minus-one : (m n : ℕ) → n < m → m - n ≡ suc (m - suc n)
 minus-one m n h = omega arith

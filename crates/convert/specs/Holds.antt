@@ -42,22 +42,20 @@ Loads e m form buffer r = (r ≡ loading (arityOf e) m form) × HoldsTerms (arit
 
 -- ---- converting
 
--- the answer of compacting, and out after it
+-- the converter answered so, and wrote the cells if the answer says so
+abbrev pub Converts : (answer : Answer) (cells out : List ℕ) → Answer → List ℕ → Type 0
+Converts answer cells out r out′ = (r ≡ answer) × (out′ ≡ written r cells out)
+
+-- m terms were compacted; in the edition of any number: if there is one
 abbrev pub Compacts : (e m : ℕ) (cs out : List ℕ) → Answer → List ℕ → Type 0
-Compacts e m cs out r out′ =
-    (r ≡ compacting (arityOf e) m cs (length out)) × (out′ ≡ written r (compactForm (arityOf e) cs) out)
+Compacts e m cs out = Converts (compacting (arityOf e) m cs (length out)) (compactForm (arityOf e) cs) out
 
--- the same in the edition of this number, if there is one
 abbrev pub CompactsIn : (e m : ℕ) (cs out : List ℕ) → Answer → List ℕ → Type 0
-CompactsIn e m cs out r out′ =
-    (r ≡ inEdition e (compacting (arityOf e) m cs (length out))) × (out′ ≡ written r (compactForm (arityOf e) cs) out)
+CompactsIn e m cs out = Converts (inEdition e (compacting (arityOf e) m cs (length out))) (compactForm (arityOf e) cs) out
 
--- the answer of expanding, and out after it
+-- the form of m terms was expanded; in the edition of any number: if there is one
 abbrev pub Expands : (e m : ℕ) (form out : List ℕ) → Answer → List ℕ → Type 0
-Expands e m form out r out′ =
-    (r ≡ expanding (arityOf e) m form (length out)) × (out′ ≡ written r (pairForm (arityOf e) form) out)
+Expands e m form out = Converts (expanding (arityOf e) m form (length out)) (pairForm (arityOf e) form) out
 
--- the same in the edition of this number, if there is one
 abbrev pub ExpandsIn : (e m : ℕ) (form out : List ℕ) → Answer → List ℕ → Type 0
-ExpandsIn e m form out r out′ =
-    (r ≡ inEdition e (expanding (arityOf e) m form (length out))) × (out′ ≡ written r (pairForm (arityOf e) form) out)
+ExpandsIn e m form out = Converts (inEdition e (expanding (arityOf e) m form (length out))) (pairForm (arityOf e) form) out
