@@ -1,16 +1,17 @@
 -- What the readers of compact form answer and write: the families that their contracts cite.
-use Prim.Native.Nat.{ℕ, _+_, _<_}
+use Prim.Native.Nat.{ℕ, _+_, _*_, _≤_, _<_}
 use mathlib.Core.List.{List, [], _∷_, _++_}
 use mathlib.Core.Bool.{Bool, true, false}
 use mathlib.Core.Logic.{_⊎_}
 use mathlib.Core.Path.{_≡_}
-use lib.ListN.{length, drop}
+use lib.ListN.{length, drop, getD}
 use lib.Seq.{sets}
 use lib.Dec.{eqb, leb}
 use Rattle.basis.specs.Choice.{pick}
+use Rattle.convert.specs.declared.Place.{Place}
 use Rattle.convert.specs.declared.Step.{Step}
 use Rattle.convert.specs.declared.Step.the-variants.{Done, Malformed}
-use Rattle.forms.specs.Cells.{payload, variable, BLIST, shapeOf, tokenOf}
+use Rattle.forms.specs.Cells.{payload, variable, BLIST, EPAIR, shapeOf, tokenOf, arityOf}
 use Rattle.forms.specs.Terms.{Term, pairs, every}
 use Rattle.forms.specs.Compact.{compact, elements, Item, into, collected, whole, items, front}
 use Rattle.forms.proofs.ReadLaws.{WellFormed, AllWellFormed}
@@ -68,3 +69,26 @@ abbrev pub RestRan : (ℕ → ℕ) → List ℕ → ℕ → Bool → ℕ → Lis
 RestRan arity s at some count out to out′ (Done next end count′) =
     (u : Term) × WellFormed (shapeOf arity) u 0 × (form : List ℕ) × Rest some u form × Span s at form count out to (pairs u) out′ next end count′
 RestRan arity s at some count out to out′ Malformed = NoRest some (itemsAt arity s at) ⊎ (ordered count (drop at s) ≡ false)
+
+-- ---- contracts
+
+-- room for what is left to be read: two cells for each token
+abbrev pub FormRoom : (s : List ℕ) (from : Place) (out : List ℕ) → Type 0
+FormRoom s from out =
+    (length s ≤ 383)
+    × (2 * length s ≤ length out)
+    × (from .at ≤ length s)
+    × (from .count ≤ from .at)
+    × (from .to ≤ 2 * from .at)
+
+-- EPAIR is read next
+abbrev pub AtTail : List ℕ → Place → Type 0
+AtTail s from = (from .at < length s) × (getD s (from .at) 0 ≡ EPAIR)
+
+-- the forms of n terms were read from a place on
+abbrev pub ReadsForms : (e : ℕ) (s : List ℕ) (from : Place) (n : ℕ) (out out′ : List ℕ) → Step → Type 0
+ReadsForms e s from n out out′ r = FormsRan (arityOf e) s (from .at) n (from .count) out (from .to) out′ r
+
+-- the rest of a list was read from a place on
+abbrev pub ReadsRest : (e : ℕ) (s : List ℕ) (from : Place) (some : Bool) (out out′ : List ℕ) → Step → Type 0
+ReadsRest e s from some out out′ r = RestRan (arityOf e) s (from .at) some (from .count) out (from .to) out′ r

@@ -1,12 +1,13 @@
 -- What the readers of pair form answer and write: the families that their contracts cite.
-use Prim.Native.Nat.{ℕ, _+_, _≤_, _<_}
+use Prim.Native.Nat.{ℕ, _+_, _*_, _≤_, _<_}
 use mathlib.Core.List.{List, [], _∷_}
 use mathlib.Core.Path.{_≡_}
 use lib.ListN.{length, take, drop}
 use lib.Seq.{sets}
+use Rattle.convert.specs.declared.Place.{Place}
 use Rattle.convert.specs.declared.Step.{Step}
 use Rattle.convert.specs.declared.Step.the-variants.{Done, Malformed}
-use Rattle.forms.specs.Cells.{shapeOf}
+use Rattle.forms.specs.Cells.{shapeOf, arityOf}
 use Rattle.forms.specs.Terms.{Term, pairs, every, reads}
 use Rattle.forms.specs.Numbering.{seen, met, renamed}
 use Rattle.forms.specs.Compact.{compact, elements}
@@ -49,3 +50,25 @@ ListRan arity s at vars count out to vars′ out′ (Done next end count′) =
     × (next ≡ at + length (every pairs (take 2 (termsAt arity s at))))
     × Stored (elementsOf (termsAt arity s at)) vars count out to vars′ count′ out′ end
 ListRan arity s at vars count out to vars′ out′ Malformed = length (termsAt arity s at) < 2
+
+-- ---- contracts
+
+-- room for what is left to be read: a variable for each cell, and three tokens for two cells
+abbrev pub PairRoom : (s : List ℕ) (from : Place) (vars out : List ℕ) → Type 0
+PairRoom s from vars out =
+    (length s ≤ 256)
+    × (length s ≤ length vars)
+    × (3 * length s ≤ 2 * length out)
+    × (from .at ≤ length s)
+    × (from .count ≤ from .at)
+    × (2 * from .to ≤ 3 * from .at)
+
+-- n terms were read from a place on
+abbrev pub ReadsTerms : (e : ℕ) (s : List ℕ) (from : Place) (n : ℕ) (vars out vars′ out′ : List ℕ) → Step → Type 0
+ReadsTerms e s from n vars out vars′ out′ r =
+    TermsRan (arityOf e) s (from .at) n vars (from .count) out (from .to) vars′ out′ r
+
+-- an element and a tail were read from a place on
+abbrev pub ReadsList : (e : ℕ) (s : List ℕ) (from : Place) (vars out vars′ out′ : List ℕ) → Step → Type 0
+ReadsList e s from vars out vars′ out′ r =
+    ListRan (arityOf e) s (from .at) vars (from .count) out (from .to) vars′ out′ r

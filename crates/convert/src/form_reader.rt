@@ -1,47 +1,28 @@
 // The readers of compact form, which write pair form and check the variables' numbers as they read.
+use crate::Place;
 use crate::Step;
-ghost use mathlib.Core.Path.{_≡_};
+use crate::met_after;
 ghost use mathlib.Core.Bool.{false, true};
-ghost use Prim.Native.Nat.{ℕ, _+_, _*_, _^_, _≤_, _<_};
-ghost use lib.ListN.{length, getD};
-ghost use Rattle.forms.specs.Cells.{arityOf, variable, EPAIR};
-ghost use Rattle.convert.specs.Loading.{after, FormsRan, RestRan};
+ghost use Prim.Native.Nat.{_+_, _*_, _≤_};
+ghost use Rattle.convert.specs.Loading.{FormRoom, AtTail, ReadsForms, ReadsRest};
 
-// How many variables are met after the variable c, where `count` were met before.
-fn met_after(c: u32, count: usize) -> usize
-    requires { ⌜ (count < 2 ^ 32) × (variable c ≡ true) ⌝ }
-    ensures { λ n. ⌜ n ≡ after count c ⌝ }
+// Reads the forms of n terms and writes their pair forms.
+pub fn terms(s: &[u32], from: Place, n: usize, out: &mut [u32], edition: u32) -> Step
+    requires { ⌜ FormRoom (now s) from (now out) × (n ≤ 383 + 256 * from .at) ⌝ }
+    ensures { λ r. ⌜ ReadsForms edition (now (s .entry)) from n (now (out .entry)) (now (out .exit)) r ⌝ }
 {
-    if forms::payload_of(c) == count {
-        return count + 1;
-    }
-    count
-}
-
-// Reads the forms of n terms from `from` on and writes their pair forms from `start` on.
-pub fn terms(
-    s: &[u32],
-    from: usize,
-    n: usize,
-    known: usize,
-    out: &mut [u32],
-    start: usize,
-    edition: u32,
-) -> Step
-    requires { ⌜ (length (now s) ≤ 383) × (2 * length (now s) ≤ length (now out)) × (from ≤ length (now s)) × (n ≤ 383 + 256 * from) × (known ≤ from) × (start ≤ 2 * from) ⌝ }
-    ensures { λ r. ⌜ FormsRan (arityOf edition) (now (s .entry)) from n known (now (out .entry)) start (now (out .exit)) r ⌝ }
-{
-    let mut at = from;
+    let mut at = from.at;
     let mut due = n;
-    let mut count = known;
-    let mut to = start;
+    let mut count = from.count;
+    let mut to = from.to;
     while 0 < due {
         if s.len() <= at {
             return Step::Malformed;
         }
         let c = s[at];
         if c == forms::BLIST {
-            let Step::Done(next, end, met) = list(s, at + 1, count, out, to, edition) else {
+            let elements = Place { at: at + 1, to: to, count: count };
+            let Step::Done(next, end, met) = list(s, elements, out, edition) else {
                 return Step::Malformed;
             };
             at = next;
@@ -72,16 +53,16 @@ pub fn terms(
     Step::Done(at, to, count)
 }
 
-// Reads the elements of a list from `from` on, behind BLIST, and writes the list from `start` on.
+// Reads the elements of a list, behind BLIST, and writes the list.
 // Most elements are constants, and take no call of the term reader.
-fn list(s: &[u32], from: usize, known: usize, out: &mut [u32], start: usize, edition: u32) -> Step
-    requires { ⌜ (length (now s) ≤ 383) × (2 * length (now s) ≤ length (now out)) × (from ≤ length (now s)) × (known ≤ from) × (start + 2 ≤ 2 * from) ⌝ }
-    ensures { λ r. ⌜ RestRan (arityOf edition) (now (s .entry)) from false known (now (out .entry)) start (now (out .exit)) r ⌝ }
+fn list(s: &[u32], from: Place, out: &mut [u32], edition: u32) -> Step
+    requires { ⌜ FormRoom (now s) from (now out) × (from .to + 2 ≤ 2 * from .at) ⌝ }
+    ensures { λ r. ⌜ ReadsRest edition (now (s .entry)) from false (now (out .entry)) (now (out .exit)) r ⌝ }
 {
-    let mut at = from;
+    let mut at = from.at;
     let mut some = false;
-    let mut count = known;
-    let mut to = start;
+    let mut count = from.count;
+    let mut to = from.to;
     loop {
         if s.len() <= at {
             return Step::Malformed;
@@ -97,19 +78,22 @@ fn list(s: &[u32], from: usize, known: usize, out: &mut [u32], start: usize, edi
         }
         if c == forms::EPAIR {
             if some {
-                return ending(s, at, count, out, to, edition);
+                let tail = Place { at: at, to: to, count: count };
+                return ending(s, tail, out, edition);
             }
             return Step::Malformed;
         }
         out[to] = forms::PAIR;
         if c == forms::ELIST {
-            let Step::Done(next, end, met) = terms(s, at + 1, 1, count, out, to + 1, edition) else {
+            let last = Place { at: at + 1, to: to + 1, count: count };
+            let Step::Done(next, end, met) = terms(s, last, 1, out, edition) else {
                 return Step::Malformed;
             };
             out[end] = forms::NIL;
             return Step::Done(next, end + 1, met);
         }
-        let Step::Done(next, end, met) = terms(s, at, 1, count, out, to + 1, edition) else {
+        let element = Place { at: at, to: to + 1, count: count };
+        let Step::Done(next, end, met) = terms(s, element, 1, out, edition) else {
             return Step::Malformed;
         };
         at = next;
@@ -119,11 +103,12 @@ fn list(s: &[u32], from: usize, known: usize, out: &mut [u32], start: usize, edi
     }
 }
 
-// Reads the EPAIR at `at` and the term that a list ends in behind it: neither [] nor a list.
-fn ending(s: &[u32], at: usize, count: usize, out: &mut [u32], to: usize, edition: u32) -> Step
-    requires { ⌜ (length (now s) ≤ 383) × (2 * length (now s) ≤ length (now out)) × (at < length (now s)) × (getD (now s) at 0 ≡ EPAIR) × (count ≤ at) × (to + 2 ≤ 2 * at) ⌝ }
-    ensures { λ r. ⌜ RestRan (arityOf edition) (now (s .entry)) at true count (now (out .entry)) to (now (out .exit)) r ⌝ }
+// Reads the EPAIR at which it stands and the term that a list ends in behind it: neither [] nor a list.
+fn ending(s: &[u32], from: Place, out: &mut [u32], edition: u32) -> Step
+    requires { ⌜ FormRoom (now s) from (now out) × (from .to + 2 ≤ 2 * from .at) × AtTail (now s) from ⌝ }
+    ensures { λ r. ⌜ ReadsRest edition (now (s .entry)) from true (now (out .entry)) (now (out .exit)) r ⌝ }
 {
+    let at = from.at;
     if s.len() <= at + 1 {
         return Step::Malformed;
     }
@@ -134,5 +119,6 @@ fn ending(s: &[u32], at: usize, count: usize, out: &mut [u32], to: usize, editio
     if c == forms::BLIST {
         return Step::Malformed;
     }
-    terms(s, at + 1, 1, count, out, to, edition)
+    let behind = Place { at: at + 1, to: from.to, count: from.count };
+    terms(s, behind, 1, out, edition)
 }

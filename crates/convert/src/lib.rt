@@ -15,16 +15,37 @@ use forms::Loading;
 use forms::Reading;
 ghost use mathlib.Core.Path.{_≡_};
 ghost use mathlib.Core.List.{_++_};
-ghost use Prim.Native.Nat.{_≤_};
+ghost use Prim.Native.Nat.{_+_, _^_, _≤_, _<_};
 ghost use lib.ListN.{length, take, drop};
+ghost use Rattle.convert.specs.Loading.{after};
 ghost use Rattle.convert.specs.Holds.{RoomForForm, RoomForTerms, Reads, Loads};
 ghost use Rattle.convert.specs.Holds.{Compacts, CompactsIn, Expands, ExpandsIn};
+
+// Where a reader stands: at the cell that it reads next, before what it writes next, with the variables met so far.
+pub struct Place {
+    pub at: usize,
+    pub to: usize,
+    pub count: usize,
+}
 
 // What a reader answers: the places behind what it read and behind what it wrote, and how many
 // variables were met; or that the cells are malformed.
 pub enum Step {
     Done(usize, usize, usize),
     Malformed,
+}
+
+// How many variables are met after token c of a numbered form, where `count` were met before it.
+pub fn met_after(c: u32, count: usize) -> usize
+    requires { ⌜ count + 1 < 2 ^ 64 ⌝ }
+    ensures { λ n. ⌜ n ≡ after count c ⌝ }
+{
+    if forms::is_variable(c) {
+        if forms::payload_of(c) == count {
+            return count + 1;
+        }
+    }
+    count
 }
 
 // Reads the m terms in s, and leaves their compact form at the start of form. vars is for the
@@ -40,8 +61,8 @@ pub fn read_terms(s: &[u32], m: usize, vars: &mut [u32], form: &mut [u32], editi
     if n < m {
         return Reading::Refusal(TERM);
     }
-    let Step::Done(next, end, variables) = pair_reader::terms(s, 0, m, vars, 0, form, 0, edition)
-    else {
+    let start = Place { at: 0, to: 0, count: 0 };
+    let Step::Done(next, end, variables) = pair_reader::terms(s, start, m, vars, form, edition) else {
         return Reading::Refusal(TERM);
     };
     if next < n {
@@ -65,7 +86,8 @@ pub fn load_terms(s: &[u32], m: usize, cells: &mut [u32], edition: u32) -> Loadi
     if n < m {
         return Loading::NoForm;
     }
-    let Step::Done(next, end, met) = form_reader::terms(s, 0, m, 0, cells, 0, edition) else {
+    let start = Place { at: 0, to: 0, count: 0 };
+    let Step::Done(next, end, met) = form_reader::terms(s, start, m, cells, edition) else {
         return Loading::NoForm;
     };
     if next < n {

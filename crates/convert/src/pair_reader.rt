@@ -1,4 +1,5 @@
 // The readers of pair form, which write compact form and number variables as they read.
+use crate::Place;
 use crate::Step;
 ghost use mathlib.Core.Path.{_≡_};
 ghost use mathlib.Core.Bool.{true};
@@ -8,9 +9,8 @@ ghost use lib.ListN.{length, take, drop, set};
 ghost use lib.Seq.{sets};
 ghost use lib.Dec.{ltb};
 ghost use Rattle.basis.specs.Choice.{pick};
-ghost use Rattle.forms.specs.Cells.{arityOf};
 ghost use Rattle.forms.specs.Numbering.{rank};
-ghost use Rattle.convert.specs.Readers.{TermsRan, ListRan};
+ghost use Rattle.convert.specs.Readers.{PairRoom, ReadsTerms, ReadsList};
 
 // The rank of the variable c among the first `count` cells of vars, or count. Puts c behind them,
 // so that the search always ends at it.
@@ -53,24 +53,23 @@ fn insert(out: &mut [u32], to: usize, end: usize, x: u32)
     out[i] = moved;
 }
 
-// Reads n terms from `from` on and writes their compact forms from `start` on.
+// Reads n terms and writes their compact forms.
 pub fn terms(
     s: &[u32],
-    from: usize,
+    from: Place,
     n: usize,
     vars: &mut [u32],
-    known: usize,
     out: &mut [u32],
-    start: usize,
     edition: u32,
 ) -> Step
-    requires { ⌜ (length (now s) ≤ 256) × (length (now s) ≤ length (now vars)) × (3 * length (now s) ≤ 2 * length (now out)) × (from ≤ length (now s)) × (n ≤ 256 + 256 * from) × (known ≤ from) × (2 * start ≤ 3 * from) ⌝ }
-    ensures { λ r. ⌜ TermsRan (arityOf edition) (now (s .entry)) from n (now (vars .entry)) known (now (out .entry)) start (now (vars .exit)) (now (out .exit)) r ⌝ }
+    requires { ⌜ PairRoom (now s) from (now vars) (now out) × (n ≤ 256 + 256 * from .at) ⌝ }
+    ensures { λ r. ⌜ ReadsTerms edition (now (s .entry)) from n (now (vars .entry)) (now (out .entry))
+        (now (vars .exit)) (now (out .exit)) r ⌝ }
 {
-    let mut at = from;
+    let mut at = from.at;
     let mut due = n;
-    let mut count = known;
-    let mut to = start;
+    let mut count = from.count;
+    let mut to = from.to;
     while 0 < due {
         if s.len() <= at {
             return Step::Malformed;
@@ -94,8 +93,8 @@ pub fn terms(
             }
             forms::Shape::Pair => {
                 out[to] = forms::BLIST;
-                let Step::Done(next, end, met) = list(s, at + 1, vars, count, out, to + 1, edition)
-                else {
+                let elements = Place { at: at + 1, to: to + 1, count: count };
+                let Step::Done(next, end, met) = list(s, elements, vars, out, edition) else {
                     return Step::Malformed;
                 };
                 at = next;
@@ -109,24 +108,18 @@ pub fn terms(
     Step::Done(at, to, count)
 }
 
-// Reads a list's element and its tail from `from` on, and writes the list's elements from `start` on.
-fn list(
-    s: &[u32],
-    from: usize,
-    vars: &mut [u32],
-    known: usize,
-    out: &mut [u32],
-    start: usize,
-    edition: u32,
-) -> Step
-    requires { ⌜ (length (now s) ≤ 256) × (length (now s) ≤ length (now vars)) × (3 * length (now s) ≤ 2 * length (now out)) × (from ≤ length (now s)) × (known ≤ from) × (2 * start + 1 ≤ 3 * from) ⌝ }
-    ensures { λ r. ⌜ ListRan (arityOf edition) (now (s .entry)) from (now (vars .entry)) known (now (out .entry)) start (now (vars .exit)) (now (out .exit)) r ⌝ }
+// Reads a list's element and its tail, and writes the list's elements.
+fn list(s: &[u32], from: Place, vars: &mut [u32], out: &mut [u32], edition: u32) -> Step
+    requires { ⌜ PairRoom (now s) from (now vars) (now out) × (2 * from .to + 1 ≤ 3 * from .at) ⌝ }
+    ensures { λ r. ⌜ ReadsList edition (now (s .entry)) from (now (vars .entry)) (now (out .entry))
+        (now (vars .exit)) (now (out .exit)) r ⌝ }
 {
-    let mut at = from;
-    let mut count = known;
-    let mut to = start;
+    let mut at = from.at;
+    let mut count = from.count;
+    let mut to = from.to;
     loop {
-        let Step::Done(next, end, met) = element(s, at, vars, count, out, to, edition) else {
+        let first = Place { at: at, to: to, count: count };
+        let Step::Done(next, end, met) = element(s, first, vars, out, edition) else {
             return Step::Malformed;
         };
         if s.len() <= next {
@@ -139,7 +132,8 @@ fn list(
         }
         if c != forms::PAIR {
             out[end] = forms::EPAIR;
-            return terms(s, next, 1, vars, met, out, end + 1, edition);
+            let tail = Place { at: next, to: end + 1, count: met };
+            return terms(s, tail, 1, vars, out, edition);
         }
         at = next + 1;
         to = end;
@@ -148,24 +142,19 @@ fn list(
 }
 
 // Reads one element of a list. Most are constants, and take no call of the term reader.
-fn element(
-    s: &[u32],
-    at: usize,
-    vars: &mut [u32],
-    count: usize,
-    out: &mut [u32],
-    to: usize,
-    edition: u32,
-) -> Step
-    requires { ⌜ (length (now s) ≤ 256) × (length (now s) ≤ length (now vars)) × (3 * length (now s) ≤ 2 * length (now out)) × (at ≤ length (now s)) × (count ≤ at) × (2 * to ≤ 3 * at) ⌝ }
-    ensures { λ r. ⌜ TermsRan (arityOf edition) (now (s .entry)) at 1 (now (vars .entry)) count (now (out .entry)) to (now (vars .exit)) (now (out .exit)) r ⌝ }
+fn element(s: &[u32], from: Place, vars: &mut [u32], out: &mut [u32], edition: u32) -> Step
+    requires { ⌜ PairRoom (now s) from (now vars) (now out) ⌝ }
+    ensures { λ r. ⌜ ReadsTerms edition (now (s .entry)) from 1 (now (vars .entry)) (now (out .entry))
+        (now (vars .exit)) (now (out .exit)) r ⌝ }
 {
+    let at = from.at;
     if at < s.len() {
         let c = s[at];
         if forms::is_constant(c) {
+            let to = from.to;
             out[to] = c;
-            return Step::Done(at + 1, to + 1, count);
+            return Step::Done(at + 1, to + 1, from.count);
         }
     }
-    terms(s, at, 1, vars, count, out, to, edition)
+    terms(s, from, 1, vars, out, edition)
 }
