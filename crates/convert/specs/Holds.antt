@@ -1,4 +1,4 @@
--- What buffers must have room for and hold after reading or loading, and what the converters leave: the contracts' parts.
+-- What buffers have room for and hold after reading or loading, and what the converters leave: the contracts' parts.
 use Prim.Native.Nat.{ℕ, _*_, _≤_}
 use mathlib.Core.List.{List}
 use mathlib.Core.Path.{_≡_}
@@ -51,11 +51,13 @@ abbrev pub Compacts : (e m : ℕ) (cs out : List ℕ) → Answer → List ℕ �
 Compacts e m cs out = Converts (compacting (arityOf e) m cs (length out)) (compactForm (arityOf e) cs) out
 
 abbrev pub CompactsIn : (e m : ℕ) (cs out : List ℕ) → Answer → List ℕ → Type 0
-CompactsIn e m cs out = Converts (inEdition e (compacting (arityOf e) m cs (length out))) (compactForm (arityOf e) cs) out
+CompactsIn e m cs out =
+    Converts (inEdition e (compacting (arityOf e) m cs (length out))) (compactForm (arityOf e) cs) out
 
 -- the form of m terms was expanded; in the edition of any number: if there is one
 abbrev pub Expands : (e m : ℕ) (form out : List ℕ) → Answer → List ℕ → Type 0
 Expands e m form out = Converts (expanding (arityOf e) m form (length out)) (pairForm (arityOf e) form) out
 
 abbrev pub ExpandsIn : (e m : ℕ) (form out : List ℕ) → Answer → List ℕ → Type 0
-ExpandsIn e m form out = Converts (inEdition e (expanding (arityOf e) m form (length out))) (pairForm (arityOf e) form) out
+ExpandsIn e m form out =
+    Converts (inEdition e (expanding (arityOf e) m form (length out))) (pairForm (arityOf e) form) out

@@ -41,7 +41,8 @@ abbrev pub itemsAt : (ℕ → ℕ) → List ℕ → ℕ → List Item
 itemsAt arity s at = items (tokenOf arity) (drop at s)
 
 -- from at to next stand the cells of form, with variables in order, and pair cells were written for them
-pub record Span (s : List ℕ) (at : ℕ) (form : List ℕ) (count : ℕ) (out : List ℕ) (to : ℕ) (pair-cells : List ℕ) (out′ : List ℕ) (next end count′ : ℕ) : Type 0 where
+pub record Span (s : List ℕ) (at : ℕ) (form : List ℕ) (count : ℕ) (out : List ℕ) (to : ℕ)
+    (pair-cells out′ : List ℕ) (next end count′ : ℕ) : Type 0 where
   pub cells : drop at s ≡ form ++ drop next s
   pub next-at : next ≡ at + length form
   pub end-at : end ≡ to + length pair-cells
@@ -52,8 +53,12 @@ pub record Span (s : List ℕ) (at : ℕ) (form : List ℕ) (count : ℕ) (out :
 -- n terms were read, and their pair forms are written; or there are fewer, or variables out of order
 abbrev pub FormsRan : (ℕ → ℕ) → List ℕ → ℕ → ℕ → ℕ → List ℕ → ℕ → List ℕ → Step → Type 0
 FormsRan arity s at n count out to out′ (Done next end count′) =
-    (ts : List Term) × AllWellFormed (shapeOf arity) ts × (length ts ≡ n) × Span s at (every compact ts) count out to (every pairs ts) out′ next end count′
-FormsRan arity s at n count out to out′ Malformed = (length (front (itemsAt arity s at)) < n) ⊎ (ordered count (drop at s) ≡ false)
+    (ts : List Term)
+    × AllWellFormed (shapeOf arity) ts
+    × (length ts ≡ n)
+    × Span s at (every compact ts) count out to (every pairs ts) out′ next end count′
+FormsRan arity s at n count out to out′ Malformed =
+    (length (front (itemsAt arity s at)) < n) ⊎ (ordered count (drop at s) ≡ false)
 
 -- the rest of a list, behind an element (some) or behind BLIST
 abbrev pub Rest : Bool → Term → List ℕ → Type 0
@@ -67,8 +72,13 @@ NoRest false is = whole (collected is) ≡ []
 -- the rest of a list was read, and written; or there is none, or variables are out of order
 abbrev pub RestRan : (ℕ → ℕ) → List ℕ → ℕ → Bool → ℕ → List ℕ → ℕ → List ℕ → Step → Type 0
 RestRan arity s at some count out to out′ (Done next end count′) =
-    (u : Term) × WellFormed (shapeOf arity) u 0 × (form : List ℕ) × Rest some u form × Span s at form count out to (pairs u) out′ next end count′
-RestRan arity s at some count out to out′ Malformed = NoRest some (itemsAt arity s at) ⊎ (ordered count (drop at s) ≡ false)
+    (u : Term)
+    × WellFormed (shapeOf arity) u 0
+    × (form : List ℕ)
+    × Rest some u form
+    × Span s at form count out to (pairs u) out′ next end count′
+RestRan arity s at some count out to out′ Malformed =
+    NoRest some (itemsAt arity s at) ⊎ (ordered count (drop at s) ≡ false)
 
 -- ---- contracts
 

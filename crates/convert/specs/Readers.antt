@@ -2,14 +2,14 @@
 use Prim.Native.Nat.{ℕ, _+_, _*_, _≤_, _<_}
 use mathlib.Core.List.{List, [], _∷_}
 use mathlib.Core.Path.{_≡_}
-use lib.ListN.{length, take, drop}
+use lib.ListN.{length, take, drop, set}
 use lib.Seq.{sets}
 use Rattle.convert.specs.declared.Place.{Place}
 use Rattle.convert.specs.declared.Step.{Step}
 use Rattle.convert.specs.declared.Step.the-variants.{Done, Malformed}
 use Rattle.forms.specs.Cells.{shapeOf, arityOf}
 use Rattle.forms.specs.Terms.{Term, pairs, every, reads}
-use Rattle.forms.specs.Numbering.{seen, met, renamed}
+use Rattle.forms.specs.Numbering.{rank, seen, met, renamed}
 use Rattle.forms.specs.Compact.{compact, elements}
 
 -- the cells numbered, where the variables vs were met before them
@@ -18,7 +18,8 @@ numberedFrom vs [] = []
 numberedFrom vs (c ∷ cs) = renamed (seen vs c) c ∷ numberedFrom (seen vs c) cs
 
 -- the cells of `form` are numbered and written from `to` on, and their variables are known
-pub record Stored (form vars : List ℕ) (count : ℕ) (out : List ℕ) (to : ℕ) (vars′ : List ℕ) (count′ : ℕ) (out′ : List ℕ) (end : ℕ) : Type 0 where
+pub record Stored (form vars : List ℕ) (count : ℕ) (out : List ℕ) (to : ℕ)
+    (vars′ : List ℕ) (count′ : ℕ) (out′ : List ℕ) (end : ℕ) : Type 0 where
   pub end-at : end ≡ to + length form
   pub cells : out′ ≡ sets out to (numberedFrom (take count vars) form)
   pub known : take count′ vars′ ≡ met (take count vars) form
@@ -52,6 +53,10 @@ ListRan arity s at vars count out to vars′ out′ (Done next end count′) =
 ListRan arity s at vars count out to vars′ out′ Malformed = length (termsAt arity s at) < 2
 
 -- ---- contracts
+
+-- the rank of c among the first variables, and c behind them
+abbrev pub Ranks : (vars : List ℕ) (count c r : ℕ) (vars′ : List ℕ) → Type 0
+Ranks vars count c r vars′ = (r ≡ rank (take count vars) c) × (vars′ ≡ set vars count c)
 
 -- room for what is left to be read: a variable for each cell, and three tokens for two cells
 abbrev pub PairRoom : (s : List ℕ) (from : Place) (vars out : List ℕ) → Type 0

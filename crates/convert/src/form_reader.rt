@@ -21,7 +21,11 @@ pub fn terms(s: &[u32], from: Place, n: usize, out: &mut [u32], edition: u32) ->
         }
         let c = s[at];
         if c == forms::BLIST {
-            let elements = Place { at: at + 1, to: to, count: count };
+            let elements = Place {
+                at: at + 1,
+                to: to,
+                count: count,
+            };
             let Step::Done(next, end, met) = list(s, elements, out, edition) else {
                 return Step::Malformed;
             };
@@ -78,21 +82,33 @@ fn list(s: &[u32], from: Place, out: &mut [u32], edition: u32) -> Step
         }
         if c == forms::EPAIR {
             if some {
-                let tail = Place { at: at, to: to, count: count };
+                let tail = Place {
+                    at: at,
+                    to: to,
+                    count: count,
+                };
                 return ending(s, tail, out, edition);
             }
             return Step::Malformed;
         }
         out[to] = forms::PAIR;
         if c == forms::ELIST {
-            let last = Place { at: at + 1, to: to + 1, count: count };
+            let last = Place {
+                at: at + 1,
+                to: to + 1,
+                count: count,
+            };
             let Step::Done(next, end, met) = terms(s, last, 1, out, edition) else {
                 return Step::Malformed;
             };
             out[end] = forms::NIL;
             return Step::Done(next, end + 1, met);
         }
-        let element = Place { at: at, to: to + 1, count: count };
+        let element = Place {
+            at: at,
+            to: to + 1,
+            count: count,
+        };
         let Step::Done(next, end, met) = terms(s, element, 1, out, edition) else {
             return Step::Malformed;
         };
@@ -119,6 +135,10 @@ fn ending(s: &[u32], from: Place, out: &mut [u32], edition: u32) -> Step
     if c == forms::BLIST {
         return Step::Malformed;
     }
-    let behind = Place { at: at + 1, to: from.to, count: from.count };
+    let behind = Place {
+        at: at + 1,
+        to: from.to,
+        count: from.count,
+    };
     terms(s, behind, 1, out, edition)
 }

@@ -1,4 +1,5 @@
 // Compacting and expanding: m terms in pair form to their compact form, and back.
+pub mod buffers;
 mod form_reader;
 mod pair_reader;
 
@@ -10,6 +11,14 @@ use basis::refusals::HEADER;
 use basis::refusals::LENGTH;
 use basis::refusals::TERM;
 use basis::refusals::VARIABLES;
+use buffers::FEW_CELLS;
+use buffers::FEW_TOKENS;
+use buffers::FORM_OF_FEW;
+use buffers::FORM_OF_MOST;
+use buffers::SOME_TOKENS;
+use buffers::TERMS_OF_FEW;
+use buffers::TERMS_OF_MOST;
+use buffers::TERMS_OF_SOME;
 use forms::Answer;
 use forms::Loading;
 use forms::Reading;
@@ -61,8 +70,13 @@ pub fn read_terms(s: &[u32], m: usize, vars: &mut [u32], form: &mut [u32], editi
     if n < m {
         return Reading::Refusal(TERM);
     }
-    let start = Place { at: 0, to: 0, count: 0 };
-    let Step::Done(next, end, variables) = pair_reader::terms(s, start, m, vars, form, edition) else {
+    let start = Place {
+        at: 0,
+        to: 0,
+        count: 0,
+    };
+    let Step::Done(next, end, variables) = pair_reader::terms(s, start, m, vars, form, edition)
+    else {
         return Reading::Refusal(TERM);
     };
     if next < n {
@@ -86,7 +100,11 @@ pub fn load_terms(s: &[u32], m: usize, cells: &mut [u32], edition: u32) -> Loadi
     if n < m {
         return Loading::NoForm;
     }
-    let start = Place { at: 0, to: 0, count: 0 };
+    let start = Place {
+        at: 0,
+        to: 0,
+        count: 0,
+    };
     let Step::Done(next, end, met) = form_reader::terms(s, start, m, cells, edition) else {
         return Loading::NoForm;
     };
@@ -114,7 +132,7 @@ pub fn copy(from: &[u32], n: usize, out: &mut [u32])
     }
 }
 
-// Compacts with buffers that are long enough for s.
+// Compacts with buffers that are long enough for s. The last arm is never reached, since a form is bound above it.
 fn compact_with(
     s: &[u32],
     m: usize,
@@ -144,13 +162,13 @@ fn compact_with(
 fn compact_terms(s: &[u32], m: usize, out: &mut [u32], edition: u32) -> Answer
     ensures { λ r. ⌜ Compacts edition m (now (s .entry)) (now (out .entry)) r (now (out .exit)) ⌝ }
 {
-    if s.len() <= 16 {
-        let mut vars = [0u32; 16];
-        let mut form = [0u32; 24];
+    if s.len() <= FEW_CELLS {
+        let mut vars = [0u32; FEW_CELLS];
+        let mut form = [0u32; FORM_OF_FEW];
         return compact_with(s, m, &mut vars, &mut form, out, edition);
     }
-    let mut vars = [0u32; 256];
-    let mut form = [0u32; 384];
+    let mut vars = [0u32; MOST_CELLS];
+    let mut form = [0u32; FORM_OF_MOST];
     compact_with(s, m, &mut vars, &mut form, out, edition)
 }
 
@@ -179,19 +197,19 @@ fn expand_with(s: &[u32], m: usize, cells: &mut [u32], out: &mut [u32], edition:
     Answer::Cells(k)
 }
 
-// Expands in an edition that there is, as a sound header names one. Short forms get short buffers, since each is cleared first.
+// Expands in an edition that there is, as a sound header names one. Short forms get short buffers.
 pub fn expand_terms(s: &[u32], m: usize, out: &mut [u32], edition: u32) -> Answer
     ensures { λ r. ⌜ Expands edition m (now (s .entry)) (now (out .entry)) r (now (out .exit)) ⌝ }
 {
-    if s.len() <= 16 {
-        let mut cells = [0u32; 32];
+    if s.len() <= FEW_TOKENS {
+        let mut cells = [0u32; TERMS_OF_FEW];
         return expand_with(s, m, &mut cells, out, edition);
     }
-    if s.len() <= 64 {
-        let mut cells = [0u32; 128];
+    if s.len() <= SOME_TOKENS {
+        let mut cells = [0u32; TERMS_OF_SOME];
         return expand_with(s, m, &mut cells, out, edition);
     }
-    let mut cells = [0u32; 766];
+    let mut cells = [0u32; TERMS_OF_MOST];
     expand_with(s, m, &mut cells, out, edition)
 }
 

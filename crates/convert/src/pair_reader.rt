@@ -9,14 +9,13 @@ ghost use lib.ListN.{length, take, drop, set};
 ghost use lib.Seq.{sets};
 ghost use lib.Dec.{ltb};
 ghost use Rattle.basis.specs.Choice.{pick};
-ghost use Rattle.forms.specs.Numbering.{rank};
-ghost use Rattle.convert.specs.Readers.{PairRoom, ReadsTerms, ReadsList};
+ghost use Rattle.convert.specs.Readers.{Ranks, PairRoom, ReadsTerms, ReadsList};
 
 // The rank of the variable c among the first `count` cells of vars, or count. Puts c behind them,
 // so that the search always ends at it.
 fn number(vars: &mut [u32], count: usize, c: u32) -> usize
     requires { ⌜ count < length (now vars) ⌝ }
-    ensures { λ r. ⌜ (r ≡ rank (take count (now (vars .entry))) c) × (now (vars .exit) ≡ set (now (vars .entry)) count c) ⌝ }
+    ensures { λ r. ⌜ Ranks (now (vars .entry)) count c r (now (vars .exit)) ⌝ }
 {
     vars[count] = c;
     let mut i = 0;
@@ -93,7 +92,11 @@ pub fn terms(
             }
             forms::Shape::Pair => {
                 out[to] = forms::BLIST;
-                let elements = Place { at: at + 1, to: to + 1, count: count };
+                let elements = Place {
+                    at: at + 1,
+                    to: to + 1,
+                    count: count,
+                };
                 let Step::Done(next, end, met) = list(s, elements, vars, out, edition) else {
                     return Step::Malformed;
                 };
@@ -118,7 +121,11 @@ fn list(s: &[u32], from: Place, vars: &mut [u32], out: &mut [u32], edition: u32)
     let mut count = from.count;
     let mut to = from.to;
     loop {
-        let first = Place { at: at, to: to, count: count };
+        let first = Place {
+            at: at,
+            to: to,
+            count: count,
+        };
         let Step::Done(next, end, met) = element(s, first, vars, out, edition) else {
             return Step::Malformed;
         };
@@ -132,7 +139,11 @@ fn list(s: &[u32], from: Place, vars: &mut [u32], out: &mut [u32], edition: u32)
         }
         if c != forms::PAIR {
             out[end] = forms::EPAIR;
-            let tail = Place { at: next, to: end + 1, count: met };
+            let tail = Place {
+                at: next,
+                to: end + 1,
+                count: met,
+            };
             return terms(s, tail, 1, vars, out, edition);
         }
         at = next + 1;

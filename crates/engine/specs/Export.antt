@@ -1,14 +1,15 @@
 -- What the exports return, and every byte of out afterwards, for every input and every out.
-use Prim.Native.Nat.{ℕ, _+_, _*_, _^_, _/_, _%_}
+use Prim.Native.Nat.{ℕ, _+_, _*_, _^_, _/_, _%_, _≤_}
 use mathlib.Core.List.{List, _++_}
-use lib.ListN.{length, drop}
+use mathlib.Core.Path.{_≡_}
+use lib.ListN.{length, take, drop}
 use lib.Dec.{eqb}
 use Rattle.basis.specs.Choice.{pick}
 use Rattle.forms.specs.declared.Answer.{Answer}
 use Rattle.forms.specs.declared.Answer.the-variants.{Cells, Refused, Short}
-use Rattle.forms.specs.Converting.{converterEdition}
+use Rattle.forms.specs.Cells.{arityOf}
 use Rattle.forms.specs.Compact.{compactForm, pairForm}
-use Rattle.forms.specs.Converting.{compacting, expanding}
+use Rattle.forms.specs.Converting.{fitting, compacting, expanding, converterEdition}
 use Rattle.engine.specs.Bytes.{cellsOf, bytesOf}
 
 -- what a call returns, and the bytes of out after it
@@ -47,3 +48,37 @@ expandBytes arity input out = handed (exported (expanding arity 1) input out) (p
 -- in the edition of this number; another is refused (1), before all else
 unfoldable pub outcomeIn : ℕ → Outcome → List ℕ → Outcome
 outcomeIn e o out = pick (converterEdition e) o (outcome (2 ^ 31 + 1) out)
+
+-- ---- contracts
+
+-- room for the n cells of input, for their variables and for their form, which is no longer than that of the longest term
+abbrev pub CompactRoom : (n : ℕ) (input cells vars form : List ℕ) → Type 0
+CompactRoom n input cells vars form =
+    (4 * n ≡ length input)
+    × (n ≤ length cells)
+    × (n ≤ length vars)
+    × (3 * n ≤ 2 * length form)
+    × (length form ≤ 384)
+
+-- room for the n tokens of input and for their terms, which are no longer than those of the longest form
+abbrev pub ExpandRoom : (n : ℕ) (input form cells : List ℕ) → Type 0
+ExpandRoom n input form cells =
+    (4 * n ≡ length input) × (n ≤ length form) × (2 * n ≤ length cells) × (length cells ≤ 766)
+
+-- the first n cells were handed to out, if it has room for them
+abbrev pub Delivers : (cells : List ℕ) (n : ℕ) (out : List ℕ) (r : ℕ) (out′ : List ℕ) → Type 0
+Delivers cells n out r out′ = outcome r out′ ≡ handed (fitting n (length out / 4)) (take n cells) out
+
+-- one term was compacted; in the edition of any number: if there is one
+abbrev pub CompactsBytes : (e : ℕ) (input out : List ℕ) (r : ℕ) (out′ : List ℕ) → Type 0
+CompactsBytes e input out r out′ = outcome r out′ ≡ compactBytes (arityOf e) input out
+
+abbrev pub CompactsBytesIn : (e : ℕ) (input out : List ℕ) (r : ℕ) (out′ : List ℕ) → Type 0
+CompactsBytesIn e input out r out′ = outcome r out′ ≡ outcomeIn e (compactBytes (arityOf e) input out) out
+
+-- the form of one term was expanded; in the edition of any number: if there is one
+abbrev pub ExpandsBytes : (e : ℕ) (input out : List ℕ) (r : ℕ) (out′ : List ℕ) → Type 0
+ExpandsBytes e input out r out′ = outcome r out′ ≡ expandBytes (arityOf e) input out
+
+abbrev pub ExpandsBytesIn : (e : ℕ) (input out : List ℕ) (r : ℕ) (out′ : List ℕ) → Type 0
+ExpandsBytesIn e input out r out′ = outcome r out′ ≡ outcomeIn e (expandBytes (arityOf e) input out) out

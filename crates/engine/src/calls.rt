@@ -1,4 +1,5 @@
 // Fresh and the seven calls as C functions over the machine's own cells, each with one result word.
+use basis::refusals::OUT;
 use store::CountsAnswer;
 use words::COUNTS;
 use words::REFUSED;
@@ -10,11 +11,9 @@ use words::fresh_word;
 use words::next_word;
 use words::refusal_word;
 use words::result_word;
-ghost use mathlib.Core.Path.{_≡_};
 ghost use mathlib.Core.List.{[]};
 ghost use Rattle.plain.specs.Requests as request;
-ghost use Rattle.space.specs.Fresh.{freshAnswerIn, freshSpaceIn};
-ghost use Rattle.words.specs.Words.{word, saidFresh, Returns, ReturnsCounts};
+ghost use Rattle.words.specs.Words.{ReturnsFresh, Returns, ReturnsCounts};
 
 // ---- fresh, and the calls that write
 
@@ -27,7 +26,7 @@ pub extern "C" fn tables_fresh(
     answers: u32,
     edition: u32,
 ) -> u64
-    ensures { λ w. ⌜ (w ≡ word (saidFresh (freshAnswerIn edition nodes subgoals answers (now (space .entry))))) × (now (space .exit) ≡ freshSpaceIn edition nodes subgoals answers (now (space .entry))) ⌝ }
+    ensures { λ w. ⌜ ReturnsFresh edition nodes subgoals answers (now (space .entry)) w (now (space .exit)) ⌝ }
 {
     fresh_word(space::fresh::fresh(space, nodes, subgoals, answers, edition))
 }
@@ -43,7 +42,8 @@ pub extern "C" fn tables_call(space: &mut [u32], term: &[u32]) -> u64
 // Finds or enters an answer of a subgoal: its terms one after another, as many as the subgoal has variables.
 #[no_mangle]
 pub extern "C" fn tables_answer(space: &mut [u32], subgoal: u32, terms: &[u32]) -> u64
-    ensures { λ w. ⌜ Returns (now (space .entry)) (request.answer subgoal (now (terms .entry))) w [] (now (space .exit)) ⌝ }
+    ensures { λ w. ⌜ Returns (now (space .entry)) (request.answer subgoal (now (terms .entry))) w []
+        (now (space .exit)) ⌝ }
 {
     answer_word(store::calls::answer(space, subgoal, terms))
 }
@@ -69,7 +69,8 @@ pub extern "C" fn tables_next(space: &[u32], subgoal: u32, after: u32) -> u64
 // Writes the terms of an answer to the start of out, in pair form; the cells behind them stay.
 #[no_mangle]
 pub extern "C" fn tables_load(space: &[u32], answer: u32, out: &mut [u32]) -> u64
-    ensures { λ w. ⌜ Returns (now (space .entry)) (request.load answer (now (out .entry))) w (now (out .exit)) (now (space .entry)) ⌝ }
+    ensures { λ w. ⌜ Returns (now (space .entry)) (request.load answer (now (out .entry))) w (now (out .exit))
+        (now (space .entry)) ⌝ }
 {
     cells_word(reads::reads::load(space, answer, out))
 }
@@ -77,7 +78,8 @@ pub extern "C" fn tables_load(space: &[u32], answer: u32, out: &mut [u32]) -> u6
 // Writes the subgoal of an answer with the answer's terms for its variables, in the same way.
 #[no_mangle]
 pub extern "C" fn tables_instance(space: &[u32], answer: u32, out: &mut [u32]) -> u64
-    ensures { λ w. ⌜ Returns (now (space .entry)) (request.instance answer (now (out .entry))) w (now (out .exit)) (now (space .entry)) ⌝ }
+    ensures { λ w. ⌜ Returns (now (space .entry)) (request.instance answer (now (out .entry))) w (now (out .exit))
+        (now (space .entry)) ⌝ }
 {
     cells_word(reads::reads::instance(space, answer, out))
 }
@@ -92,7 +94,7 @@ pub extern "C" fn tables_counts(space: &[u32], out: &mut [u32]) -> u64
     match answer {
         CountsAnswer::Used(c) => {
             if out.len() < 3 {
-                return result_word(REFUSED + 12, 3);
+                return result_word(REFUSED + OUT, 3);
             }
             out[0] = c.nodes;
             out[1] = c.subgoals;

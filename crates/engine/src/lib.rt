@@ -1,16 +1,34 @@
 // The converters as C functions over little-endian bytes, four to a cell; the calls over cells in a module.
 pub mod calls;
 
+use basis::limits::MOST_CELLS;
+use basis::limits::MOST_TOKENS;
+use basis::refusals::FORM;
+use basis::refusals::HEADER;
+use basis::refusals::LENGTH;
+use basis::refusals::OUT;
+use basis::refusals::TERM;
+use convert::buffers::FEW_CELLS;
+use convert::buffers::FEW_TOKENS;
+use convert::buffers::FORM_OF_FEW;
+use convert::buffers::FORM_OF_MOST;
+use convert::buffers::FORM_OF_SOME;
+use convert::buffers::MANY_TOKENS;
+use convert::buffers::SOME_CELLS;
+use convert::buffers::SOME_TOKENS;
+use convert::buffers::TERMS_OF_FEW;
+use convert::buffers::TERMS_OF_MANY;
+use convert::buffers::TERMS_OF_MOST;
+use convert::buffers::TERMS_OF_SOME;
 use forms::Loading;
 use forms::Reading;
 ghost use mathlib.Core.Path.{_≡_};
 ghost use mathlib.Core.List.{_++_};
-ghost use Prim.Native.Nat.{ℕ, _+_, _*_, _^_, _/_, _≤_, _<_};
+ghost use Prim.Native.Nat.{_*_, _^_, _/_, _≤_, _<_};
 ghost use lib.ListN.{length, take, drop};
-ghost use Rattle.forms.specs.Cells.{arityOf};
-ghost use Rattle.forms.specs.Converting.{fitting};
 ghost use Rattle.engine.specs.Bytes.{cellOf, cellsOf, bytesOf};
-ghost use Rattle.engine.specs.Export.{outcome, handed, compactBytes, expandBytes, outcomeIn};
+ghost use Rattle.engine.specs.Export.{CompactRoom, ExpandRoom, Delivers};
+ghost use Rattle.engine.specs.Export.{CompactsBytes, CompactsBytesIn, ExpandsBytes, ExpandsBytesIn};
 
 // A refusal is returned as 2^31 plus its number.
 const REFUSED: u32 = 2147483648;
@@ -59,10 +77,10 @@ fn encode(cells: &[u32], n: usize, out: &mut [u8])
 // cell are no room. A count below 2^31 is told from a refusal.
 fn deliver(cells: &[u32], n: usize, out: &mut [u8]) -> u32
     requires { ⌜ (n ≤ length (now cells)) × (n < 2 ^ 31) ⌝ }
-    ensures { λ r. ⌜ outcome r (now (out .exit)) ≡ handed (fitting n (length (now (out .entry)) / 4)) (take n (now (cells .entry))) (now (out .entry)) ⌝ }
+    ensures { λ r. ⌜ Delivers (now (cells .entry)) n (now (out .entry)) r (now (out .exit)) ⌝ }
 {
     if out.len() / 4 < n {
-        return REFUSED + 12;
+        return REFUSED + OUT;
     }
     encode(cells, n, out);
     n as u32
@@ -79,8 +97,8 @@ fn compact_with(
     out: &mut [u8],
     edition: u32,
 ) -> u32
-    requires { ⌜ (4 * n ≡ length (now input)) × (n ≤ length (now cells)) × (n ≤ length (now vars)) × (3 * n ≤ 2 * length (now form)) × (length (now form) ≤ 384) ⌝ }
-    ensures { λ r. ⌜ outcome r (now (out .exit)) ≡ compactBytes (arityOf edition) (now (input .entry)) (now (out .entry)) ⌝ }
+    requires { ⌜ CompactRoom n (now input) (now cells) (now vars) (now form) ⌝ }
+    ensures { λ r. ⌜ CompactsBytes edition (now (input .entry)) (now (out .entry)) r (now (out .exit)) ⌝ }
 {
     decode(input, n, cells);
     let read = convert::read_terms(&cells[..n], 1, vars, form, edition);
@@ -96,32 +114,32 @@ fn compact_with(
 // Compacts one term. Short terms get short buffers, since making a buffer clears it; over 256 cells
 // nothing is read.
 fn compact_input(input: &[u8], out: &mut [u8], edition: u32) -> u32
-    ensures { λ r. ⌜ outcome r (now (out .exit)) ≡ compactBytes (arityOf edition) (now (input .entry)) (now (out .entry)) ⌝ }
+    ensures { λ r. ⌜ CompactsBytes edition (now (input .entry)) (now (out .entry)) r (now (out .exit)) ⌝ }
 {
     let bytes = input.len();
     if bytes % 4 != 0 {
-        return REFUSED + 3;
+        return REFUSED + TERM;
     }
     let n = bytes / 4;
-    if n <= 16 {
-        let mut cells = [0u32; 16];
-        let mut vars = [0u32; 16];
-        let mut form = [0u32; 24];
+    if n <= FEW_CELLS {
+        let mut cells = [0u32; FEW_CELLS];
+        let mut vars = [0u32; FEW_CELLS];
+        let mut form = [0u32; FORM_OF_FEW];
         return compact_with(input, n, &mut cells, &mut vars, &mut form, out, edition);
     }
-    if n <= 128 {
-        let mut cells = [0u32; 128];
-        let mut vars = [0u32; 128];
-        let mut form = [0u32; 192];
+    if n <= SOME_CELLS {
+        let mut cells = [0u32; SOME_CELLS];
+        let mut vars = [0u32; SOME_CELLS];
+        let mut form = [0u32; FORM_OF_SOME];
         return compact_with(input, n, &mut cells, &mut vars, &mut form, out, edition);
     }
-    if n <= 256 {
-        let mut cells = [0u32; 256];
-        let mut vars = [0u32; 256];
-        let mut form = [0u32; 384];
+    if n <= MOST_CELLS {
+        let mut cells = [0u32; MOST_CELLS];
+        let mut vars = [0u32; MOST_CELLS];
+        let mut form = [0u32; FORM_OF_MOST];
         return compact_with(input, n, &mut cells, &mut vars, &mut form, out, edition);
     }
-    REFUSED + 4
+    REFUSED + LENGTH
 }
 
 // Expands the n cells of input, with buffers that are long enough for them: each token writes at most
@@ -134,12 +152,12 @@ fn expand_with(
     out: &mut [u8],
     edition: u32,
 ) -> u32
-    requires { ⌜ (4 * n ≡ length (now input)) × (n ≤ length (now form)) × (2 * n ≤ length (now cells)) × (length (now cells) ≤ 766) ⌝ }
-    ensures { λ r. ⌜ outcome r (now (out .exit)) ≡ expandBytes (arityOf edition) (now (input .entry)) (now (out .entry)) ⌝ }
+    requires { ⌜ ExpandRoom n (now input) (now form) (now cells) ⌝ }
+    ensures { λ r. ⌜ ExpandsBytes edition (now (input .entry)) (now (out .entry)) r (now (out .exit)) ⌝ }
 {
     decode(input, n, form);
     let Loading::Terms(k) = convert::load_terms(&form[..n], 1, cells, edition) else {
-        return REFUSED + 13;
+        return REFUSED + FORM;
     };
     deliver(cells, k, out)
 }
@@ -147,54 +165,54 @@ fn expand_with(
 // Expands the form of one term. Short forms get short buffers, since making a buffer clears it; no
 // legal form is over 383 tokens, so nothing longer is read.
 fn expand_input(input: &[u8], out: &mut [u8], edition: u32) -> u32
-    ensures { λ r. ⌜ outcome r (now (out .exit)) ≡ expandBytes (arityOf edition) (now (input .entry)) (now (out .entry)) ⌝ }
+    ensures { λ r. ⌜ ExpandsBytes edition (now (input .entry)) (now (out .entry)) r (now (out .exit)) ⌝ }
 {
     let bytes = input.len();
     if bytes % 4 != 0 {
-        return REFUSED + 3;
+        return REFUSED + TERM;
     }
     let n = bytes / 4;
-    if n <= 16 {
-        let mut form = [0u32; 16];
-        let mut cells = [0u32; 32];
+    if n <= FEW_TOKENS {
+        let mut form = [0u32; FEW_TOKENS];
+        let mut cells = [0u32; TERMS_OF_FEW];
         return expand_with(input, n, &mut form, &mut cells, out, edition);
     }
-    if n <= 64 {
-        let mut form = [0u32; 64];
-        let mut cells = [0u32; 128];
+    if n <= SOME_TOKENS {
+        let mut form = [0u32; SOME_TOKENS];
+        let mut cells = [0u32; TERMS_OF_SOME];
         return expand_with(input, n, &mut form, &mut cells, out, edition);
     }
-    if n <= 128 {
-        let mut form = [0u32; 128];
-        let mut cells = [0u32; 256];
+    if n <= MANY_TOKENS {
+        let mut form = [0u32; MANY_TOKENS];
+        let mut cells = [0u32; TERMS_OF_MANY];
         return expand_with(input, n, &mut form, &mut cells, out, edition);
     }
-    if n <= 383 {
-        let mut form = [0u32; 383];
-        let mut cells = [0u32; 766];
+    if n <= MOST_TOKENS {
+        let mut form = [0u32; MOST_TOKENS];
+        let mut cells = [0u32; TERMS_OF_MOST];
         return expand_with(input, n, &mut form, &mut cells, out, edition);
     }
-    REFUSED + 13
+    REFUSED + FORM
 }
 
 // Compacts one term in the edition of this number.
 #[no_mangle]
 pub extern "C" fn tables_compact(input: &[u8], out: &mut [u8], edition: u32) -> u32
-    ensures { λ r. ⌜ outcome r (now (out .exit)) ≡ outcomeIn edition (compactBytes (arityOf edition) (now (input .entry)) (now (out .entry))) (now (out .entry)) ⌝ }
+    ensures { λ r. ⌜ CompactsBytesIn edition (now (input .entry)) (now (out .entry)) r (now (out .exit)) ⌝ }
 {
     if forms::is_converter_edition(edition) {
         return compact_input(input, out, edition);
     }
-    REFUSED + 1
+    REFUSED + HEADER
 }
 
 // Expands the form of one term in the edition of this number.
 #[no_mangle]
 pub extern "C" fn tables_expand(input: &[u8], out: &mut [u8], edition: u32) -> u32
-    ensures { λ r. ⌜ outcome r (now (out .exit)) ≡ outcomeIn edition (expandBytes (arityOf edition) (now (input .entry)) (now (out .entry))) (now (out .entry)) ⌝ }
+    ensures { λ r. ⌜ ExpandsBytesIn edition (now (input .entry)) (now (out .entry)) r (now (out .exit)) ⌝ }
 {
     if forms::is_converter_edition(edition) {
         return expand_input(input, out, edition);
     }
-    REFUSED + 1
+    REFUSED + HEADER
 }

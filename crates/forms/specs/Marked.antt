@@ -23,15 +23,19 @@ fun name arity = tag 4 (name * 16 + arity)
 abbrev pub MarkedTerms : Type 0
 MarkedTerms =
     -- M1 f(X,g(Y,X),Z)
-    (compactForm (arityOf 1) (fun 1 3 ∷ var 7 ∷ fun 2 2 ∷ var 9 ∷ var 7 ∷ var 8 ∷ []) ≡ fun 1 3 ∷ var 0 ∷ fun 2 2 ∷ var 1 ∷ var 0 ∷ var 2 ∷ [])
+    (compactForm (arityOf 1) (fun 1 3 ∷ var 7 ∷ fun 2 2 ∷ var 9 ∷ var 7 ∷ var 8 ∷ [])
+    ≡ fun 1 3 ∷ var 0 ∷ fun 2 2 ∷ var 1 ∷ var 0 ∷ var 2 ∷ [])
     -- M2 f(g(Y,Z),X,Z)
-    × (compactForm (arityOf 1) (fun 1 3 ∷ fun 2 2 ∷ var 9 ∷ var 8 ∷ var 7 ∷ var 8 ∷ []) ≡ fun 1 3 ∷ fun 2 2 ∷ var 0 ∷ var 1 ∷ var 2 ∷ var 1 ∷ [])
+    × (compactForm (arityOf 1) (fun 1 3 ∷ fun 2 2 ∷ var 9 ∷ var 8 ∷ var 7 ∷ var 8 ∷ [])
+    ≡ fun 1 3 ∷ fun 2 2 ∷ var 0 ∷ var 1 ∷ var 2 ∷ var 1 ∷ [])
     -- M3 [1,2,3]
-    × (compactForm (arityOf 1) (PAIR ∷ int 1 ∷ PAIR ∷ int 2 ∷ PAIR ∷ int 3 ∷ nil ∷ []) ≡ BLIST ∷ int 1 ∷ int 2 ∷ ELIST ∷ int 3 ∷ [])
+    × (compactForm (arityOf 1) (PAIR ∷ int 1 ∷ PAIR ∷ int 2 ∷ PAIR ∷ int 3 ∷ nil ∷ [])
+    ≡ BLIST ∷ int 1 ∷ int 2 ∷ ELIST ∷ int 3 ∷ [])
     -- M4 [1,2|3]
     × (compactForm (arityOf 1) (PAIR ∷ int 1 ∷ PAIR ∷ int 2 ∷ int 3 ∷ []) ≡ BLIST ∷ int 1 ∷ int 2 ∷ EPAIR ∷ int 3 ∷ [])
     -- M5 [1,[2,3],[]]
-    × (compactForm (arityOf 1) (PAIR ∷ int 1 ∷ PAIR ∷ PAIR ∷ int 2 ∷ PAIR ∷ int 3 ∷ nil ∷ PAIR ∷ nil ∷ nil ∷ []) ≡ BLIST ∷ int 1 ∷ BLIST ∷ int 2 ∷ ELIST ∷ int 3 ∷ ELIST ∷ nil ∷ [])
+    × (compactForm (arityOf 1) (PAIR ∷ int 1 ∷ PAIR ∷ PAIR ∷ int 2 ∷ PAIR ∷ int 3 ∷ nil ∷ PAIR ∷ nil ∷ nil ∷ [])
+    ≡ BLIST ∷ int 1 ∷ BLIST ∷ int 2 ∷ ELIST ∷ int 3 ∷ ELIST ∷ nil ∷ [])
     -- M6 [1|2]: four tokens from three cells
     × (compactForm (arityOf 1) (PAIR ∷ int 1 ∷ int 2 ∷ []) ≡ BLIST ∷ int 1 ∷ EPAIR ∷ int 2 ∷ [])
     × (compacting (arityOf 1) 1 (PAIR ∷ int 1 ∷ int 2 ∷ []) 4 ≡ Cells 4)

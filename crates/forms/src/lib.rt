@@ -42,38 +42,40 @@ pub enum Answer {
     Short(usize),
 }
 
+// How many payloads a kind has: the kind is the cell divided by it, and the payload is the remainder.
+const PAYLOADS: u32 = 268435456;
 // The empty list [], which is atom 0.
-pub const NIL: u32 = 536870912;
+pub const NIL: u32 = 2 * PAYLOADS;
 // The pair of pair form.
-pub const PAIR: u32 = 1342177280;
+pub const PAIR: u32 = 5 * PAYLOADS;
 // The marks of compact form.
-pub const BLIST: u32 = 1610612736;
+pub const BLIST: u32 = 6 * PAYLOADS;
 
-pub const ELIST: u32 = 1879048192;
+pub const ELIST: u32 = 7 * PAYLOADS;
 
-pub const EPAIR: u32 = 2147483648;
+pub const EPAIR: u32 = 8 * PAYLOADS;
 // Variable 0: the variable of rank r is r more.
-pub const VARIABLE: u32 = 268435456;
+pub const VARIABLE: u32 = PAYLOADS;
 
 // Whether a cell is a variable.
 pub fn is_variable(c: u32) -> bool
     ensures { λ r. ⌜ r ≡ variable c ⌝ }
 {
-    c / 268435456 == 1
+    c / PAYLOADS == 1
 }
 
 // The payload of a cell, as an index.
 pub fn payload_of(c: u32) -> usize
     ensures { λ r. ⌜ r ≡ payload c ⌝ }
 {
-    basis::wide(c % 268435456)
+    basis::wide(c % PAYLOADS)
 }
 
 // Whether a cell is an atom or an integer.
 pub fn is_constant(c: u32) -> bool
     ensures { λ r. ⌜ r ≡ constant c ⌝ }
 {
-    let kind = c / 268435456;
+    let kind = c / PAYLOADS;
     if kind == 2 {
         return true;
     }
@@ -84,7 +86,7 @@ pub fn is_constant(c: u32) -> bool
 pub fn is_callable(c: u32) -> bool
     ensures { λ r. ⌜ r ≡ callable c ⌝ }
 {
-    let kind = c / 268435456;
+    let kind = c / PAYLOADS;
     if kind == 2 {
         return true;
     }
@@ -115,8 +117,8 @@ fn arity_of(edition: u32, payload: u32) -> usize
 pub fn shape_of(c: u32, edition: u32) -> Shape
     ensures { λ r. ⌜ r ≡ shapeOf (arityOf edition) c ⌝ }
 {
-    let kind = c / 268435456;
-    let payload = c % 268435456;
+    let kind = c / PAYLOADS;
+    let payload = c % PAYLOADS;
     if kind == 4 {
         let k = arity_of(edition, payload);
         if k == 0 {

@@ -79,10 +79,10 @@ module _ (vs ws : List ℕ) (us : List Term) (few : length vs ≤ 32) (as-many :
   unfolding renamed
   spread-given c h = by-cases (variable c)
       (λ e.
-          let r : rank vs c < length us = omega (arith, h e) in
-          let v : variable (tag 1 (rank vs c)) ≡ true = eq-eqb (kind (tag 1 (rank vs c))) 1 (omega arith) in
-          let p : payload (tag 1 (rank vs c)) ≡ rank vs c = omega arith in
-          rw (e, v, p) (mapped-part (renamed ws) refl us (rank vs c) (cell (tag 1 (rank vs c))) r))
+      let r : rank vs c < length us = omega (arith, h e) in
+      let v : variable (tag 1 (rank vs c)) ≡ true = eq-eqb (kind (tag 1 (rank vs c))) 1 (omega arith) in
+      let p : payload (tag 1 (rank vs c)) ≡ rank vs c = omega arith in
+      rw (e, v, p) (mapped-part (renamed ws) refl us (rank vs c) (cell (tag 1 (rank vs c))) r))
       (λ e. rw e (rw e))
 
   spread-numbered : (cs : List ℕ) → Each vs cs → spread (map (mapped (renamed ws)) us) (map (renamed vs) cs) ≡ map (renamed ws) (replaced vs (map pairs us) cs)
@@ -116,9 +116,9 @@ module _ (arity : ℕ → ℕ) (term terms : List ℕ) (m : ℕ) (one : Legal ar
   form-instance : compactCoding arity .instanceOf (compactForm arity term) (compactForm arity terms) ≡ map (renamed ws) (replaced vs (map pairs us) term)
   form-instance =
       let stored-terms : formTerms arity (compactForm arity terms) ≡ map (mapped (renamed ws)) us =
-          unfold compactForm in forms-every arity (reads (shapeOf arity) (numbered terms)) (reads-well-formed (shapeOf arity) (numbered terms)) ∙ numbered-reads arity terms (many .cells) in
+      unfold compactForm in forms-every arity (reads (shapeOf arity) (numbered terms)) (reads-well-formed (shapeOf arity) (numbered terms)) ∙ numbered-reads arity terms (many .cells) in
       let stored-term : every pairs (formTerms arity (compactForm arity term)) ≡ map (renamed vs) term =
-          unfold pairForm numbered in stored arity 1 term one .1 in
+      unfold pairForm numbered in stored arity 1 term one .1 in
       substituted-every (formTerms arity (compactForm arity terms)) (formTerms arity (compactForm arity term))
       ∙ ap (spread (formTerms arity (compactForm arity terms))) stored-term
       ∙ ap (λ (l : List Term). spread l (map (renamed vs) term)) stored-terms
@@ -172,12 +172,18 @@ module _ (c : Coding) (cs : List ℕ) where
   answered-gives t s q (accepted w n) e =
       answered-cases (AnswerGives s) t s w n (λ a k i h. rw (← h) (w, n, e, k, q))
       (λ absent. appended-cases (AnswerGives s) t (withAnswer t s w) (ltb (length (t .answers)) (t .A)) (suc (length (t .answers))) (λ full i h. absurd h) (λ room full i h. absurd h)
-      (λ room free i h. rw (← h) (w, n, unfold subgoalAt in e, record {
-        low = omega arith;
-        high = omega (arith, answers-count t s w);
-        subgoal = ap (λ (a : Answer). a .subgoal) (answerAt-new t s w);
-        form = ap (λ (a : Answer). a .form) (answerAt-new t s w);
-      }, q)))
+      (λ room free i h. rw (← h) (
+        w,
+        n,
+        unfold subgoalAt in e,
+        record {
+          low = omega arith;
+          high = omega (arith, answers-count t s w);
+          subgoal = ap (λ (a : Answer). a .subgoal) (answerAt-new t s w);
+          form = ap (λ (a : Answer). a .form) (answerAt-new t s w);
+        },
+        q,
+      )))
 
   answer-gives : (t : Table) (s : ℕ) → AnswerGives s (step c t (answer s cs))
   unfolding step

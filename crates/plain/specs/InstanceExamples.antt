@@ -42,16 +42,16 @@ abbrev pub Instances : Type 0
 Instances =
     -- f(a,b), in an out that it fills; one cell fewer is 12 with the need, and out stays
     (seenOf (call two ∷ answer 1 answersTwo ∷ instance 1 (0 ∷ 0 ∷ 0 ∷ []) ∷ instance 1 (5 ∷ 6 ∷ []) ∷ [])
-      ≡ saw (new 1) (count 5 1 0)
-      ∷ saw (new 1) (count 7 1 1)
-      ∷ record { reply = cells 3; counted = count 7 1 1; out = fun 1 2 ∷ atom 1 ∷ atom 2 ∷ [] }
-      ∷ record { reply = short 3; counted = count 7 1 1; out = 5 ∷ 6 ∷ [] }
-      ∷ [])
+    ≡ saw (new 1) (count 5 1 0)
+    ∷ saw (new 1) (count 7 1 1)
+    ∷ record { reply = cells 3; counted = count 7 1 1; out = fun 1 2 ∷ atom 1 ∷ atom 2 ∷ [] }
+    ∷ record { reply = short 3; counted = count 7 1 1; out = 5 ∷ 6 ∷ [] }
+    ∷ [])
     -- and so by the meaning of instance on cells
     × (instantiated (arityOf 1) two answersTwo ≡ fun 1 2 ∷ atom 1 ∷ atom 2 ∷ [])
     × (instantiated (arityOf 1) mixed answersMixed ≡ instanceMixed)
     × (map (λ s. s .out) (seenOf (call mixed ∷ answer 1 answersMixed ∷ instance 1 (replicate 13 0) ∷ []))
-      ≡ [] ∷ [] ∷ instanceMixed ∷ [])
+    ≡ [] ∷ [] ∷ instanceMixed ∷ [])
     -- an integer is called by nobody
     × (seenOf (call (int 5 ∷ []) ∷ []) ≡ saw (refused 6) (count 1 0 0) ∷ [])
 

@@ -8,6 +8,7 @@ use Rattle.basis.specs.Choice.{pick}
 use Rattle.plain.specs.Requests.{Open, Finished, Request, counts, Counts, Reply, new, oldSubgoal, oldAnswer, done, at, none, cells, used, refused, short}
 use Rattle.space.specs.declared.FreshAnswer.{FreshAnswer}
 use Rattle.space.specs.declared.FreshAnswer.the-variants as fresh
+use Rattle.space.specs.Fresh.{freshAnswerIn, freshSpaceIn}
 use Rattle.store.specs.Calls.{spaceStep, Answers}
 
 -- what was answered in the upper half, its value in the lower
@@ -32,6 +33,12 @@ word (short n) = worded (256 + 12) n
 abbrev pub saidFresh : FreshAnswer → Reply
 saidFresh fresh.Done = done
 saidFresh (fresh.Refused r) = refused r
+
+-- `tables_fresh` returns w and leaves these cells.
+abbrev pub ReturnsFresh : (e nodes subgoals answers : ℕ) → List ℕ → ℕ → List ℕ → Type 0
+ReturnsFresh e nodes subgoals answers before w after =
+    (w ≡ word (saidFresh (freshAnswerIn e nodes subgoals answers before)))
+    × (after ≡ freshSpaceIn e nodes subgoals answers before)
 
 -- An export returns w: the word of what the call answers. The contract of every exported call but `tables_counts`.
 abbrev pub Returns : List ℕ → Request → ℕ → List ℕ → List ℕ → Type 0

@@ -1,4 +1,5 @@
 // The result word of each answer: what was answered in its upper half, the value in its lower.
+use basis::refusals::OUT;
 use forms::Answer;
 use space::FreshAnswer;
 use store::AnswerAnswer;
@@ -127,7 +128,7 @@ pub fn cells_word(answer: Answer) -> u64
 {
     match answer {
         Answer::Cells(n) => return result_word(CELLS, n as u32),
-        Answer::Short(n) => return result_word(REFUSED + 12, n as u32),
+        Answer::Short(n) => return result_word(REFUSED + OUT, n as u32),
         Answer::Refused(r) => return refusal_word(r),
     }
 }
