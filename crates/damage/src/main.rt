@@ -11,14 +11,18 @@ use space::heading::read_header;
 use space::records::read_answer;
 use space::records::read_node;
 use space::records::read_subgoal;
+use trie::End;
 use trie::Gathered;
-use trie::Run;
+use trie::Short;
 use trie::Walked;
-use trie::paths::first_run;
-use trie::paths::other_runs;
+use trie::paths::CELLS;
+use trie::paths::LEVELS;
+use trie::paths::long_path;
+use trie::paths::short_path;
 use trie::walks::walk_tokens;
 ghost use Prim.Native.Nat.{_<_};
 ghost use Rattle.space.specs.Sound.{Bounds, NodesIn};
+ghost use Rattle.trie.specs.Runs.{Ends};
 
 // How many answers were damage, and a sum over all answers in order.
 struct Tally {
@@ -344,26 +348,26 @@ fn all_walks(space: &[u32], h: Head) -> Tally
     walks_both(space, h, &f, x)
 }
 
-// The path to node n, which is shorter than a run in so small a space.
-fn first_path(space: &[u32], nodes: usize, links: usize, root: usize, n: usize, t: Tally) -> Tally
-    requires { ⌜ NodesIn (now space) nodes × (n < nodes) ⌝ }
+// The path to an end, which is short in so small a space.
+fn first_path(space: &[u32], end: End, t: Tally) -> Tally
+    requires { ⌜ Ends (now space) end ⌝ }
 {
-    let mut run = [0u32; 12];
-    let first = first_run(space, nodes, links, root, n, &mut run);
-    match first {
-        Run::Whole(k) => with_tokens(t, &run[k..]),
-        Run::On(p) => with_sum(t, mixed_index(t.sum, p)),
-        Run::Lost => with_damage(t),
+    let mut cells = [0u32; LEVELS];
+    let short = short_path(space, end, &mut cells);
+    match short {
+        Short::Whole(k) => with_tokens(t, &cells[k..]),
+        Short::Longer(n) => with_sum(t, mixed_index(t.sum, n)),
+        Short::Damaged => with_damage(t),
     }
 }
 
-// The path to node n with a run of tokens behind it.
-fn other_path(space: &[u32], nodes: usize, links: usize, root: usize, n: usize, t: Tally) -> Tally
-    requires { ⌜ NodesIn (now space) nodes × (n < nodes) ⌝ }
+// The path to an end with further tokens behind it.
+fn other_path(space: &[u32], end: End, t: Tally) -> Tally
+    requires { ⌜ Ends (now space) end ⌝ }
 {
-    let mut run = [7u32; 12];
-    let mut path = [0u32; 384];
-    let Gathered::Tokens(k) = other_runs(space, nodes, links, root, n, &mut run, &mut path) else {
+    let last = [7u32; LEVELS];
+    let mut path = [0u32; CELLS];
+    let Gathered::Tokens(k) = long_path(space, end, end.leaf, &last, &mut path) else {
         return with_damage(t);
     };
     with_tokens(t, &path[k..])
@@ -380,10 +384,16 @@ fn one_path(
 ) -> Tally
     requires { ⌜ NodesIn (now space) nodes × (n < nodes) ⌝ }
 {
+    let end = End {
+        nodes: nodes,
+        links: links,
+        root: root,
+        leaf: n,
+    };
     if first {
-        return first_path(space, nodes, links, root, n, t);
+        return first_path(space, end, t);
     }
-    other_path(space, nodes, links, root, n, t)
+    other_path(space, end, t)
 }
 
 fn paths_to(

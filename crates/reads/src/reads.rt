@@ -1,4 +1,6 @@
 // Next, load, instance and counts: the calls that only read the space.
+use super::DAMAGED;
+use super::UNKNOWN;
 use super::paths::instance_paths;
 use super::paths::load_path;
 use basis::wide;
@@ -15,71 +17,64 @@ use space::records::subgoal_in;
 use store::Counts;
 use store::CountsAnswer;
 use store::NextAnswer;
+use trie::End;
 ghost use mathlib.Core.Path.{_≡_};
 ghost use mathlib.Core.Bool.{true};
 ghost use mathlib.Core.List.{[]};
 ghost use Prim.Native.Nat.{_≤_, _<_};
-ghost use lib.ListN.{length};
-ghost use Rattle.forms.specs.Cells.{arityOf};
-ghost use Rattle.forms.specs.Compact.{pairForm};
-ghost use Rattle.plain.specs.Coding.{codingOf};
 ghost use Rattle.plain.specs.Requests.{next, load, instance, counts};
-ghost use Rattle.space.specs.Layout.{sizesOf};
 ghost use Rattle.space.specs.Sound.{Bounds};
-ghost use Rattle.store.specs.Views.{viewOf};
-ghost use Rattle.store.specs.Decisions.{says, gives, soundPair, starting, handed, onward, loaded, instanced, decide};
-ghost use Rattle.store.specs.Calls.{reply, outAfter, Answers};
+ghost use Rattle.store.specs.Decisions.{says, soundPair, starting, handed, onward};
+ghost use Rattle.store.specs.Calls.{Answers};
 ghost use Rattle.store.specs.Replies.{saidNext, saidCells, saidCounts};
+ghost use Rattle.reads.specs.Reading.{viewIn, decided, loadedAnswer, instancedAnswer, Fills};
 
 // Nodes, subgoals and answers used.
 pub fn counts(space: &[u32]) -> CountsAnswer
     ensures { λ r. ⌜ Answers (now (space .entry)) counts (saidCounts r) [] (now (space .entry)) ⌝ }
 {
     let header = read_header(space);
-    let Header::Sound(h) = header else {
-        match header {
-            Header::Refused(r) => return CountsAnswer::Refused(r),
-            Header::Sound(_) => return CountsAnswer::Refused(0),
-        }
-    };
-    CountsAnswer::Used(Counts {
-        nodes: h.nodes as u32,
-        subgoals: h.subgoals as u32,
-        answers: h.answers as u32,
-    })
+    match header {
+        Header::Sound(h) => CountsAnswer::Used(Counts {
+            nodes: h.nodes as u32,
+            subgoals: h.subgoals as u32,
+            answers: h.answers as u32,
+        }),
+        Header::Refused(r) => CountsAnswer::Refused(r),
+    }
 }
 
 // Answer a, which a record names, is handed out: it is to be the subgoal's.
 fn hand_out(space: &[u32], h: Head, s: usize, a: usize) -> NextAnswer
     requires { ⌜ Bounds (now space) h × (a ≤ h .answers) ⌝ }
-    ensures { λ r. ⌜ says (saidNext r) ≡ handed (viewOf (sizesOf (h .edition)) (now (space .entry)) h) s a ⌝ }
+    ensures { λ r. ⌜ says (saidNext r) ≡ handed (viewIn (now (space .entry)) h) s a ⌝ }
 {
     if a == 0 {
         return NextAnswer::NoMore;
     }
     let AnswerRead::Sound(y) = read_answer(space, h, a) else {
-        return NextAnswer::Refused(9);
+        return NextAnswer::Refused(DAMAGED);
     };
     let number = a as u32;
     if y.subgoal == s {
         return NextAnswer::At(number);
     }
-    NextAnswer::Refused(9)
+    NextAnswer::Refused(DAMAGED)
 }
 
 // From answer a on, or from the subgoal's first answer.
 fn go_on(space: &[u32], h: Head, s: usize, a: usize) -> NextAnswer
     requires { ⌜ Bounds (now space) h × (1 ≤ s) × (s ≤ h .subgoals) × (a ≤ h .answers) ⌝ }
-    ensures { λ r. ⌜ says (saidNext r) ≡ onward (viewOf (sizesOf (h .edition)) (now (space .entry)) h) s a ⌝ }
+    ensures { λ r. ⌜ says (saidNext r) ≡ onward (viewIn (now (space .entry)) h) s a ⌝ }
 {
     let SubgoalRead::Sound(g) = read_subgoal(space, h, s) else {
-        return NextAnswer::Refused(9);
+        return NextAnswer::Refused(DAMAGED);
     };
     if a == 0 {
         return hand_out(space, h, s, g.first);
     }
     let AnswerRead::Sound(y) = read_answer(space, h, a) else {
-        return NextAnswer::Refused(9);
+        return NextAnswer::Refused(DAMAGED);
     };
     hand_out(space, h, s, y.next)
 }
@@ -87,7 +82,7 @@ fn go_on(space: &[u32], h: Head, s: usize, a: usize) -> NextAnswer
 // May next start at a? The record of a is taken as it stands.
 fn starts(space: &[u32], h: Head, s: usize, a: usize) -> bool
     requires { ⌜ Bounds (now space) h ⌝ }
-    ensures { λ r. ⌜ r ≡ starting (viewOf (sizesOf (h .edition)) (now (space .entry)) h) s a ⌝ }
+    ensures { λ r. ⌜ r ≡ starting (viewIn (now (space .entry)) h) s a ⌝ }
 {
     if a == 0 {
         return true;
@@ -102,18 +97,18 @@ fn starts(space: &[u32], h: Head, s: usize, a: usize) -> bool
 // Next, under a sound header.
 fn next_in(space: &[u32], h: Head, s: usize, a: usize) -> NextAnswer
     requires { ⌜ Bounds (now space) h ⌝ }
-    ensures { λ r. ⌜ says (saidNext r) ≡ decide (codingOf (h .edition)) (viewOf (sizesOf (h .edition)) (now (space .entry)) h) (next s a) ⌝ }
+    ensures { λ r. ⌜ says (saidNext r) ≡ decided (next s a) (now (space .entry)) h ⌝ }
 {
     if s == 0 {
-        return NextAnswer::Refused(7);
+        return NextAnswer::Refused(UNKNOWN);
     }
     if h.subgoals < s {
-        return NextAnswer::Refused(7);
+        return NextAnswer::Refused(UNKNOWN);
     }
     if starts(space, h, s, a) {
         return go_on(space, h, s, a);
     }
-    NextAnswer::Refused(7)
+    NextAnswer::Refused(UNKNOWN)
 }
 
 // The subgoal's first answer after a given one, or after none.
@@ -121,19 +116,16 @@ pub fn next(space: &[u32], subgoal: u32, after: u32) -> NextAnswer
     ensures { λ r. ⌜ Answers (now (space .entry)) (next subgoal after) (saidNext r) [] (now (space .entry)) ⌝ }
 {
     let header = read_header(space);
-    let Header::Sound(h) = header else {
-        match header {
-            Header::Refused(r) => return NextAnswer::Refused(r),
-            Header::Sound(_) => return NextAnswer::Refused(0),
-        }
-    };
-    next_in(space, h, wide(subgoal), wide(after))
+    match header {
+        Header::Sound(h) => next_in(space, h, wide(subgoal), wide(after)),
+        Header::Refused(r) => NextAnswer::Refused(r),
+    }
 }
 
 // Are answer a and the subgoal that it names sound?
 fn pair_sound(space: &[u32], h: Head, a: usize) -> bool
     requires { ⌜ Bounds (now space) h × (1 ≤ a) × (a ≤ h .answers) ⌝ }
-    ensures { λ r. ⌜ r ≡ soundPair (viewOf (sizesOf (h .edition)) (now (space .entry)) h) a ⌝ }
+    ensures { λ r. ⌜ r ≡ soundPair (viewIn (now (space .entry)) h) a ⌝ }
 {
     let AnswerRead::Sound(y) = read_answer(space, h, a) else {
         return false;
@@ -147,83 +139,103 @@ fn pair_sound(space: &[u32], h: Head, a: usize) -> bool
 // Load of an answer whose records are sound.
 fn load_with(space: &[u32], h: Head, a: usize, out: &mut [u32]) -> Answer
     requires { ⌜ Bounds (now space) h × (1 ≤ a) × (a ≤ h .answers) ⌝ }
-    requires { ⌜ soundPair (viewOf (sizesOf (h .edition)) (now space) h) a ≡ true ⌝ }
-    ensures { λ r. ⌜ (saidCells r ≡ reply (viewOf (sizesOf (h .edition)) (now (space .entry)) h) (loaded (codingOf (h .edition)) (viewOf (sizesOf (h .edition)) (now (space .entry)) h) a (λ w. gives (pairForm (arityOf (h .edition)) w))) (length (now (out .entry)))) × (now (out .exit) ≡ outAfter (loaded (codingOf (h .edition)) (viewOf (sizesOf (h .edition)) (now (space .entry)) h) a (λ w. gives (pairForm (arityOf (h .edition)) w))) (now (out .entry))) ⌝ }
+    requires { ⌜ soundPair (viewIn (now space) h) a ≡ true ⌝ }
+    ensures { λ r. ⌜ Fills (loadedAnswer a) (now (space .entry)) h (now (out .entry)) r (now (out .exit)) ⌝ }
 {
     let y = answer_in(space, h, a);
     let g = subgoal_in(space, h, y.subgoal);
-    load_path(space, h, g.root, y.leaf, g.variables, out)
+    let end = End {
+        nodes: h.nodes,
+        links: h.answers,
+        root: g.root,
+        leaf: y.leaf,
+    };
+    load_path(space, end, g.variables, out, h.edition)
 }
 
 // Load, under a sound header.
 fn load_in(space: &[u32], h: Head, a: usize, out: &mut [u32]) -> Answer
     requires { ⌜ Bounds (now space) h ⌝ }
-    ensures { λ r. ⌜ (saidCells r ≡ reply (viewOf (sizesOf (h .edition)) (now (space .entry)) h) (decide (codingOf (h .edition)) (viewOf (sizesOf (h .edition)) (now (space .entry)) h) (load a (now (out .entry)))) (length (now (out .entry)))) × (now (out .exit) ≡ outAfter (decide (codingOf (h .edition)) (viewOf (sizesOf (h .edition)) (now (space .entry)) h) (load a (now (out .entry)))) (now (out .entry))) ⌝ }
+    ensures { λ r.
+        ⌜ Fills (decided (load a (now (out .entry)))) (now (space .entry)) h
+        (now (out .entry)) r (now (out .exit)) ⌝ }
 {
     if a == 0 {
-        return Answer::Refused(7);
+        return Answer::Refused(UNKNOWN);
     }
     if h.answers < a {
-        return Answer::Refused(7);
+        return Answer::Refused(UNKNOWN);
     }
     if pair_sound(space, h, a) {
         return load_with(space, h, a, out);
     }
-    Answer::Refused(9)
+    Answer::Refused(DAMAGED)
 }
 
 // The terms of an answer in pair form.
 pub fn load(space: &[u32], answer: u32, out: &mut [u32]) -> Answer
-    ensures { λ r. ⌜ Answers (now (space .entry)) (load answer (now (out .entry))) (saidCells r) (now (out .exit)) (now (space .entry)) ⌝ }
+    ensures { λ r.
+        ⌜ Answers (now (space .entry)) (load answer (now (out .entry)))
+        (saidCells r) (now (out .exit)) (now (space .entry)) ⌝ }
 {
     let header = read_header(space);
-    let Header::Sound(h) = header else {
-        match header {
-            Header::Refused(r) => return Answer::Refused(r),
-            Header::Sound(_) => return Answer::Refused(0),
-        }
-    };
-    load_in(space, h, wide(answer), out)
+    match header {
+        Header::Sound(h) => load_in(space, h, wide(answer), out),
+        Header::Refused(r) => Answer::Refused(r),
+    }
 }
 
 // Instance of an answer whose records are sound.
 fn instance_with(space: &[u32], h: Head, a: usize, out: &mut [u32]) -> Answer
     requires { ⌜ Bounds (now space) h × (1 ≤ a) × (a ≤ h .answers) ⌝ }
-    requires { ⌜ soundPair (viewOf (sizesOf (h .edition)) (now space) h) a ≡ true ⌝ }
-    ensures { λ r. ⌜ (saidCells r ≡ reply (viewOf (sizesOf (h .edition)) (now (space .entry)) h) (loaded (codingOf (h .edition)) (viewOf (sizesOf (h .edition)) (now (space .entry)) h) a (λ w. instanced (codingOf (h .edition)) (viewOf (sizesOf (h .edition)) (now (space .entry)) h) ((viewOf (sizesOf (h .edition)) (now (space .entry)) h) .answer a .subgoal) (λ u. gives ((codingOf (h .edition)) .instanceOf u w)))) (length (now (out .entry)))) × (now (out .exit) ≡ outAfter (loaded (codingOf (h .edition)) (viewOf (sizesOf (h .edition)) (now (space .entry)) h) a (λ w. instanced (codingOf (h .edition)) (viewOf (sizesOf (h .edition)) (now (space .entry)) h) ((viewOf (sizesOf (h .edition)) (now (space .entry)) h) .answer a .subgoal) (λ u. gives ((codingOf (h .edition)) .instanceOf u w)))) (now (out .entry))) ⌝ }
+    requires { ⌜ soundPair (viewIn (now space) h) a ≡ true ⌝ }
+    ensures { λ r. ⌜ Fills (instancedAnswer a) (now (space .entry)) h (now (out .entry)) r (now (out .exit)) ⌝ }
 {
     let y = answer_in(space, h, a);
     let g = subgoal_in(space, h, y.subgoal);
-    instance_paths(space, h, g.root, y.leaf, g.leaf, g.variables, out)
+    let end = End {
+        nodes: h.nodes,
+        links: h.answers,
+        root: g.root,
+        leaf: y.leaf,
+    };
+    let subgoal = End {
+        nodes: h.nodes,
+        links: h.subgoals,
+        root: 0,
+        leaf: g.leaf,
+    };
+    instance_paths(space, end, subgoal, g.variables, out, h.edition)
 }
 
 // Instance, under a sound header.
 fn instance_in(space: &[u32], h: Head, a: usize, out: &mut [u32]) -> Answer
     requires { ⌜ Bounds (now space) h ⌝ }
-    ensures { λ r. ⌜ (saidCells r ≡ reply (viewOf (sizesOf (h .edition)) (now (space .entry)) h) (decide (codingOf (h .edition)) (viewOf (sizesOf (h .edition)) (now (space .entry)) h) (instance a (now (out .entry)))) (length (now (out .entry)))) × (now (out .exit) ≡ outAfter (decide (codingOf (h .edition)) (viewOf (sizesOf (h .edition)) (now (space .entry)) h) (instance a (now (out .entry)))) (now (out .entry))) ⌝ }
+    ensures { λ r.
+        ⌜ Fills (decided (instance a (now (out .entry)))) (now (space .entry)) h
+        (now (out .entry)) r (now (out .exit)) ⌝ }
 {
     if a == 0 {
-        return Answer::Refused(7);
+        return Answer::Refused(UNKNOWN);
     }
     if h.answers < a {
-        return Answer::Refused(7);
+        return Answer::Refused(UNKNOWN);
     }
     if pair_sound(space, h, a) {
         return instance_with(space, h, a, out);
     }
-    Answer::Refused(9)
+    Answer::Refused(DAMAGED)
 }
 
 // The subgoal of an answer with variable i replaced by the answer's term i, in pair form.
 pub fn instance(space: &[u32], answer: u32, out: &mut [u32]) -> Answer
-    ensures { λ r. ⌜ Answers (now (space .entry)) (instance answer (now (out .entry))) (saidCells r) (now (out .exit)) (now (space .entry)) ⌝ }
+    ensures { λ r.
+        ⌜ Answers (now (space .entry)) (instance answer (now (out .entry)))
+        (saidCells r) (now (out .exit)) (now (space .entry)) ⌝ }
 {
     let header = read_header(space);
-    let Header::Sound(h) = header else {
-        match header {
-            Header::Refused(r) => return Answer::Refused(r),
-            Header::Sound(_) => return Answer::Refused(0),
-        }
-    };
-    instance_in(space, h, wide(answer), out)
+    match header {
+        Header::Sound(h) => instance_in(space, h, wide(answer), out),
+        Header::Refused(r) => Answer::Refused(r),
+    }
 }

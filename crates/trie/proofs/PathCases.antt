@@ -1,5 +1,5 @@
 -- What a climb and a gathered path return and leave, case by case.
-use Prim.Native.Nat.{ℕ, suc, _+_, _-_, _*_, _<_, _≤_}
+use Prim.Native.Nat.{ℕ, suc, _+_, _-_, _*_, _/_, _<_, _≤_}
 use mathlib.Core.Path.{_≡_, refl, sym, ap, _∙_}
 use mathlib.Core.Bool.{true}
 use mathlib.Core.List.{List, [], _∷_, _++_, append-nil, append-assoc}
@@ -15,21 +15,18 @@ use Rattle.space.specs.declared.NodeRead.the-variants as node
 use Rattle.space.proofs.JudgingLaws.{node-bounds, read-node-sound, read-node-damaged}
 use Rattle.trie.specs.Siblings.{Trie, sound}
 use Rattle.trie.specs.Paths.{Path, none, tokens, gather, longest}
-use Rattle.trie.specs.Runs.{onto, Climb, lost, whole, cut, longer, climbed, coded, Kept, Placed, Begun, Found}
-use Rattle.trie.specs.declared.Run.the-variants.{Whole, On, Lost}
+use Rattle.trie.specs.Runs.{levels, pathCells, onto, Climb, lost, whole, cut, longer, climbed, lostCode, onCode, Ran, RunCopied, PathHolds, RunsHold, trieOf, pathTo, pathBy, Begun, Found, GoesOn}
+use Rattle.trie.specs.declared.End.{End}
+use Rattle.trie.specs.declared.Short.the-variants as short
 use Rattle.trie.specs.declared.Gathered.the-variants.{Tokens, Damaged}
 use Rattle.trie.proofs.PathLaws.{climbed-unsound, climbed-root, climbed-other, climbed-up, Tells, climbed-tells, Within, gather-within}
 
 -- ---- a climb
 
--- what a return is to show
-abbrev pub Done : ℕ → Climb → List ℕ → List ℕ → ℕ → Type 0
-Done left c a b r = (r ≡ coded left c) × Kept left c a b × (length b ≡ length a)
-
-done-lost : (left : ℕ) (c : Climb) (a : List ℕ) → c ≡ lost → Done left c a a 13
+done-lost : (left : ℕ) (c : Climb) (a : List ℕ) → c ≡ lost → Ran left c a a lostCode
 done-lost left c a e = rw e (refl, tt, refl)
 
-done-whole : (left : ℕ) (c : Climb) (a : List ℕ) → c ≡ whole [] → Done left c a a left
+done-whole : (left : ℕ) (c : Climb) (a : List ℕ) → c ≡ whole [] → Ran left c a a left
 done-whole left c a e =
     let z : left ≡ left - 0 = omega arith in
     rw e (z, ap (λ (i : ℕ). drop i a) (sym z), refl)
@@ -48,7 +45,7 @@ behind a b xs left token o h e =
     ∙ ap (λ (ys : List ℕ). xs ++ ys) (drop-written a (left - 1) token (omega arith) ∙ ap (λ (j : ℕ). token ∷ drop j a) s)
     ∙ sym (append-assoc xs (token ∷ []) (drop left a))
 
-done-longer : (left token : ℕ) (c : Climb) (a b : List ℕ) (r : ℕ) → 1 ≤ left → left ≤ length a → Done (left - 1) c (set a (left - 1) token) b r → Done left (longer c token) a b r
+done-longer : (left token : ℕ) (c : Climb) (a b : List ℕ) (r : ℕ) → 1 ≤ left → left ≤ length a → Ran (left - 1) c (set a (left - 1) token) b r → Ran left (longer c token) a b r
 done-longer left token lost a b r o h d = (d .0, tt, d .2 ∙ length-set a (left - 1) token)
 done-longer left token (whole xs) a b r o h d =
     let k : length (xs ++ (token ∷ [])) ≡ length xs + 1 = length-append xs (token ∷ []) in
@@ -60,7 +57,7 @@ module _ (left : ℕ) (t : Trie) (root n : ℕ) (a : List ℕ) (o : 1 ≤ left) 
   one-more : left ≡ suc (left - 1)
   one-more = omega arith
 
-  pub climb-damaged : node.Damaged ≡ readNode (t .nodes) (t .links) (t .at) n → Done left (climbed left t root n) a a 13
+  pub climb-damaged : node.Damaged ≡ readNode (t .nodes) (t .links) (t .at) n → Ran left (climbed left t root n) a a lostCode
   climb-damaged e = done-lost left _ a (ap (λ (m : ℕ). climbed m t root n) one-more ∙ climbed-unsound t root n (left - 1) (read-node-damaged (t .nodes) (t .links) (t .at) n e))
 
   module _ (y : Node) (e : node.Sound y ≡ readNode (t .nodes) (t .links) (t .at) n) where
@@ -76,10 +73,10 @@ module _ (left : ℕ) (t : Trie) (root n : ℕ) (a : List ℕ) (o : 1 ≤ left) 
     pub climb-lower : y .parent ≤ n
     climb-lower = let b = node-bounds (t .nodes) (t .links) n (t .at n) judged in let o = own in omega arith
 
-    pub climb-root : y .parent ≡ n → n ≡ root → Done left (climbed left t root n) a a left
+    pub climb-root : y .parent ≡ n → n ≡ root → Ran left (climbed left t root n) a a left
     climb-root p r = done-whole left _ a (ap (λ (m : ℕ). climbed m t root n) one-more ∙ climbed-root t root n (left - 1) judged (sym own ∙ p) r)
 
-    pub climb-other : y .parent ≡ n → (n ≡ root → ⊥) → Done left (climbed left t root n) a a 13
+    pub climb-other : y .parent ≡ n → (n ≡ root → ⊥) → Ran left (climbed left t root n) a a lostCode
     climb-other p r = done-lost left _ a (ap (λ (m : ℕ). climbed m t root n) one-more ∙ climbed-other t root n (left - 1) judged (sym own ∙ p) r)
 
     module _ (p : y .parent ≡ n → ⊥) (h : left ≤ length a) where
@@ -88,12 +85,12 @@ module _ (left : ℕ) (t : Trie) (root n : ℕ) (a : List ℕ) (o : 1 ≤ left) 
           ap (λ (m : ℕ). climbed m t root n) one-more ∙ climbed-up t root n (left - 1) judged (λ x. p (own ∙ x))
           ∙ ap (λ (x : Node). longer (climbed (left - 1) t root (x .parent)) (x .token)) (sym is)
 
-      pub climb-more : (b : List ℕ) (r : ℕ) → Done (left - 1) (climbed (left - 1) t root (y .parent)) (set a (left - 1) (y .token)) b r → Done left (climbed left t root n) a b r
+      pub climb-more : (b : List ℕ) (r : ℕ) → Ran (left - 1) (climbed (left - 1) t root (y .parent)) (set a (left - 1) (y .token)) b r → Ran left (climbed left t root n) a b r
       climb-more b r d = rw up (done-longer left (y .token) (climbed (left - 1) t root (y .parent)) a b r o h d)
 
-      pub climb-cut : left - 1 ≡ 0 → Done left (climbed left t root n) a (set a (left - 1) (y .token)) (14 + y .parent)
+      pub climb-cut : left - 1 ≡ 0 → Ran left (climbed left t root n) a (set a (left - 1) (y .token)) (onCode + y .parent)
       unfolding climbed
-      climb-cut z = climb-more (set a (left - 1) (y .token)) (14 + y .parent) (rw z (refl, refl, refl))
+      climb-cut z = climb-more (set a (left - 1) (y .token)) (onCode + y .parent) (rw z (refl, refl, refl))
 
 -- ---- a run of a path
 
@@ -108,135 +105,150 @@ copied-step run path rest from i j s h k e =
     ∙ ap (λ (ys : List ℕ). getD run i 0 ∷ ys) (e ∙ ap (λ (m : ℕ). drop m run ++ rest) g)
     ∙ ap (λ (ys : List ℕ). ys ++ rest) (sym (drop-cons run i 0 h))
 
-pub copied-none : (run path : List ℕ) (from : ℕ) → length run ≡ 12 → drop (from + 12) path ≡ drop 12 run ++ drop (from + 12) path
-copied-none run path from l = ap (λ (ys : List ℕ). ys ++ drop (from + 12) path) (sym (drop-of-length-le run {i = 12} (omega arith)))
+pub copied-none : (run path : List ℕ) (from : ℕ) → length run ≡ levels → drop (from + levels) path ≡ drop levels run ++ drop (from + levels) path
+copied-none run path from l = ap (λ (ys : List ℕ). ys ++ drop (from + levels) path) (sym (drop-of-length-le run {i = levels} (omega arith)))
 
 -- a run as it was climbed, at its end
-tokens-of : (xs before sub : List ℕ) → length before ≡ 12 → drop (12 - length xs) sub ≡ xs ++ drop 12 before → drop (12 - length xs) sub ≡ xs
-tokens-of xs before sub l e = e ∙ ap (λ (ys : List ℕ). xs ++ ys) (drop-of-length-le before {i = 12} (omega arith)) ∙ append-nil xs
+tokens-of : (xs before sub : List ℕ) → length before ≡ levels → drop (levels - length xs) sub ≡ xs ++ drop levels before → drop (levels - length xs) sub ≡ xs
+tokens-of xs before sub l e = e ∙ ap (λ (ys : List ℕ). xs ++ ys) (drop-of-length-le before {i = levels} (omega arith)) ∙ append-nil xs
 
--- what climbing the runs is to show, from the last of them on
-abbrev pub Runs : ℕ → Path → ℕ → List ℕ → List ℕ → Type 0
-Runs runs p r a b = Placed (12 * runs) p r a b × (length b ≡ length a)
-
-module _ (t : Trie) (root n runs : ℕ) (a before sub after : List ℕ) (r : ℕ) (one : 1 ≤ runs) (old : length before ≡ 12) (new : length sub ≡ 12)
-    (put : (drop (12 * (runs - 1)) after ≡ sub ++ drop (12 * (runs - 1) + 12) a) × (length after ≡ length a)) where
+module _ (t : Trie) (root n runs : ℕ) (a before sub after : List ℕ) (r : ℕ) (one : 1 ≤ runs) (old : length before ≡ levels) (new : length sub ≡ levels)
+    (put : RunCopied sub (levels * (runs - 1)) a after) where
   abbrev from : ℕ
-  from = 12 * (runs - 1)
+  from = levels * (runs - 1)
 
   -- the cells of the run, and those behind it
-  run-kept : (xs : List ℕ) → length xs ≤ 12 → drop (12 - length xs) sub ≡ xs ++ drop 12 before → drop (from + (12 - length xs)) after ≡ xs ++ drop (12 * runs) a
+  run-kept : (xs : List ℕ) → length xs ≤ levels → drop (levels - length xs) sub ≡ xs ++ drop levels before → drop (from + (levels - length xs)) after ≡ xs ++ drop (levels * runs) a
   run-kept xs h e =
-      let f : from + 12 ≡ 12 * runs = omega arith in
-      sym (drop-drop (12 - length xs) from after)
-      ∙ ap (drop (12 - length xs)) (put .0)
-      ∙ drop-append-le (12 - length xs) sub (drop (from + 12) a) (omega arith)
-      ∙ ap (λ (ys : List ℕ). ys ++ drop (from + 12) a) (tokens-of xs before sub old e)
+      let f : from + levels ≡ levels * runs = omega arith in
+      sym (drop-drop (levels - length xs) from after)
+      ∙ ap (drop (levels - length xs)) (put .0)
+      ∙ drop-append-le (levels - length xs) sub (drop (from + levels) a) (omega arith)
+      ∙ ap (λ (ys : List ℕ). ys ++ drop (from + levels) a) (tokens-of xs before sub old e)
       ∙ ap (λ (j : ℕ). xs ++ drop j a) f
 
-  pub whole-run : (c : Climb) → Tells t root n 12 c → Done 12 c before sub r → r < 13 → Runs runs (gather (12 * runs - 1) t root n) (from + r) a after
-  whole-run lost x d h = let e : r ≡ 13 = d .0 in absurd (omega arith)
-  whole-run (cut p xs) x d h = let e : r ≡ 14 + p = d .0 in absurd (omega arith)
+  pub whole-run : (c : Climb) → Tells t root n levels c → Ran levels c before sub r → r < lostCode → RunsHold runs (gather (levels * runs - 1) t root n) (from + r) a after
+  whole-run lost x d h = let e : r ≡ lostCode = d .0 in absurd (omega arith)
+  whole-run (cut p xs) x d h = let e : r ≡ onCode + p = d .0 in absurd (omega arith)
   whole-run (whole xs) x d h =
-      let e : r ≡ 12 - length xs = d .0 in
-      let m : length xs ≤ 12 = x .0 in
-      by-cases (leb (length xs) (12 * runs - 1))
-      (λ b. let s = leb-true _ _ b in rw (x .1 (12 * runs - 1) s) ((omega arith, ap (λ (j : ℕ). drop (from + j) after) e ∙ run-kept xs m (d .1)), put .1))
-      (λ b. let s = leb-false _ _ b in rw (x .2 (12 * runs - 1) s) (omega arith, put .1))
+      let e : r ≡ levels - length xs = d .0 in
+      let m : length xs ≤ levels = x .0 in
+      by-cases (leb (length xs) (levels * runs - 1))
+      (λ b. let s = leb-true _ _ b in rw (x .1 (levels * runs - 1) s) ((omega arith, ap (λ (j : ℕ). drop (from + j) after) e ∙ run-kept xs m (d .1)), put .1))
+      (λ b. let s = leb-false _ _ b in rw (x .2 (levels * runs - 1) s) (omega arith, put .1))
 
-  pub lost-run : (c : Climb) → Tells t root n 12 c → Done 12 c before sub r → r ≡ 13 → Runs runs (gather (12 * runs - 1) t root n) 0 a after
-  lost-run lost x d h = rw (x (12 * runs - 1)) (refl, put .1)
-  lost-run (whole xs) x d h = let e : r ≡ 12 - length xs = d .0 in absurd (omega arith)
-  lost-run (cut p xs) x d h = let e : r ≡ 14 + p = d .0 in absurd (omega arith)
+  pub lost-run : (c : Climb) → Tells t root n levels c → Ran levels c before sub r → r ≡ lostCode → RunsHold runs (gather (levels * runs - 1) t root n) 0 a after
+  lost-run lost x d h = rw (x (levels * runs - 1)) (refl, put .1)
+  lost-run (whole xs) x d h = let e : r ≡ levels - length xs = d .0 in absurd (omega arith)
+  lost-run (cut p xs) x d h = let e : r ≡ onCode + p = d .0 in absurd (omega arith)
 
-  pub last-run : (c : Climb) → Tells t root n 12 c → Done 12 c before sub r → 13 < r → runs ≡ 1 → Runs runs (gather (12 * runs - 1) t root n) 0 a after
-  last-run lost x d h i = let e : r ≡ 13 = d .0 in absurd (omega arith)
-  last-run (whole xs) x d h i = let e : r ≡ 12 - length xs = d .0 in absurd (omega arith)
-  last-run (cut p xs) x d h i = rw (x .3 (12 * runs - 1) (omega arith)) (refl, put .1)
+  pub last-run : (c : Climb) → Tells t root n levels c → Ran levels c before sub r → lostCode < r → runs ≡ 1 → RunsHold runs (gather (levels * runs - 1) t root n) 0 a after
+  last-run lost x d h i = let e : r ≡ lostCode = d .0 in absurd (omega arith)
+  last-run (whole xs) x d h i = let e : r ≡ levels - length xs = d .0 in absurd (omega arith)
+  last-run (cut p xs) x d h i = rw (x .3 (levels * runs - 1) (omega arith)) (refl, put .1)
 
-  pub next-lower : (c : Climb) → Tells t root n 12 c → Done 12 c before sub r → 13 < r → r - 14 ≤ n
-  next-lower lost x d h = let e : r ≡ 13 = d .0 in absurd (omega arith)
-  next-lower (whole xs) x d h = let e : r ≡ 12 - length xs = d .0 in absurd (omega arith)
-  next-lower (cut p xs) x d h = let e : r ≡ 14 + p = d .0 in let l = x .1 in omega arith
+  -- the node number falls from run to run
+  pub next-lower : (c : Climb) → Tells t root n levels c → Ran levels c before sub r → lostCode < r → r - onCode < n
+  next-lower lost x d h = let e : r ≡ lostCode = d .0 in absurd (omega arith)
+  next-lower (whole xs) x d h = let e : r ≡ levels - length xs = d .0 in absurd (omega arith)
+  next-lower (cut p xs) x d h = let e : r ≡ onCode + p = d .0 in let l = x .1 in omega arith
 
   -- the runs above, with the tokens of this one behind theirs
-  onto-placed : (p : Path) (xs b : List ℕ) (q : ℕ) → length xs ≡ 12 → drop from after ≡ xs ++ drop (12 * runs) a → Placed from p q after b → Placed (12 * runs) (onto p xs) q a b
+  onto-placed : (p : Path) (xs b : List ℕ) (q : ℕ) → length xs ≡ levels → drop from after ≡ xs ++ drop (levels * runs) a → PathHolds from p q after b → PathHolds (levels * runs) (onto p xs) q a b
   onto-placed none xs b q m e d = d
   onto-placed (tokens ys) xs b q m e d =
       let k : length (ys ++ xs) ≡ length ys + length xs = length-append ys xs in
       let s : q + length ys ≡ from = d .0 in
-      (omega arith, d .1 ∙ ap (λ (zs : List ℕ). ys ++ zs) e ∙ sym (append-assoc ys xs (drop (12 * runs) a)))
+      (omega arith, d .1 ∙ ap (λ (zs : List ℕ). ys ++ zs) e ∙ sym (append-assoc ys xs (drop (levels * runs) a)))
 
-  pub next-run : (c : Climb) → Tells t root n 12 c → Done 12 c before sub r → 13 < r → (runs ≡ 1 → ⊥) → (b : List ℕ) (q : ℕ)
-      → Runs (runs - 1) (gather (from - 1) t root (r - 14)) q after b → Runs runs (gather (12 * runs - 1) t root n) q a b
-  next-run lost x d h i b q u = let e : r ≡ 13 = d .0 in absurd (omega arith)
-  next-run (whole xs) x d h i b q u = let e : r ≡ 12 - length xs = d .0 in absurd (omega arith)
+  pub next-run : (c : Climb) → Tells t root n levels c → Ran levels c before sub r → lostCode < r → (runs ≡ 1 → ⊥) → (b : List ℕ) (q : ℕ)
+      → RunsHold (runs - 1) (gather (from - 1) t root (r - onCode)) q after b → RunsHold runs (gather (levels * runs - 1) t root n) q a b
+  next-run lost x d h i b q u = let e : r ≡ lostCode = d .0 in absurd (omega arith)
+  next-run (whole xs) x d h i b q u = let e : r ≡ levels - length xs = d .0 in absurd (omega arith)
   next-run (cut p xs) x d h i b q u =
-      let m : length xs ≡ 12 = x .0 in
-      let e : r - 14 ≡ p = let e : r ≡ 14 + p = d .0 in omega arith in
-      let f : from - 1 ≡ 12 * runs - 1 - 12 = omega arith in
-      let z : from + (12 - length xs) ≡ from = omega arith in
-      let w : gather (from - 1) t root (r - 14) ≡ gather (12 * runs - 1 - 12) t root p = ap (λ (j : ℕ). gather j t root (r - 14)) f ∙ ap (gather (12 * runs - 1 - 12) t root) e in
-      rw (x .2 (12 * runs - 1) (omega arith)) (
-        onto-placed (gather (12 * runs - 1 - 12) t root p) xs b q m
+      let m : length xs ≡ levels = x .0 in
+      let e : r - onCode ≡ p = let e : r ≡ onCode + p = d .0 in omega arith in
+      let f : from - 1 ≡ levels * runs - 1 - levels = omega arith in
+      let z : from + (levels - length xs) ≡ from = omega arith in
+      let w : gather (from - 1) t root (r - onCode) ≡ gather (levels * runs - 1 - levels) t root p = ap (λ (j : ℕ). gather j t root (r - onCode)) f ∙ ap (gather (levels * runs - 1 - levels) t root) e in
+      rw (x .2 (levels * runs - 1) (omega arith)) (
+        onto-placed (gather (levels * runs - 1 - levels) t root p) xs b q m
             (ap (λ (j : ℕ). drop j after) (sym z) ∙ run-kept xs (omega arith) (d .1))
             (rw w at (u .0)),
         u .1 ∙ put .1,
       )
 
--- ---- the first run
+-- ---- a path in the cells of a run
 
-run-begun : (t : Trie) (root n : ℕ) (c : Climb) → Tells t root n 12 c → (a b : List ℕ) (r : ℕ) → length a ≡ 12 → length b ≡ 12 → Done 12 c a b r → r < 13 → Begun t root n (Whole r) b
-run-begun t root n lost x a b r l m d h = let e : r ≡ 13 = d .0 in absurd (omega arith)
-run-begun t root n (cut p xs) x a b r l m d h = let e : r ≡ 14 + p = d .0 in absurd (omega arith)
-run-begun t root n (whole xs) x a b r l m d h =
-    let e : r ≡ 12 - length xs = d .0 in
-    let k : length xs ≤ 12 = x .0 in
-    (omega arith, x .1 longest (omega arith) ∙ ap tokens (sym (ap (λ (i : ℕ). drop i b) e ∙ tokens-of xs a b l (d .1))))
+module _ (cs : List ℕ) (e : End) (a b : List ℕ) (r : ℕ) where
+  abbrev Told : Climb → Type 0
+  Told c = Tells (trieOf cs e) (e .root) (e .leaf) levels c
 
-run-lost : (t : Trie) (root n : ℕ) (c : Climb) → Tells t root n 12 c → (a b : List ℕ) (r : ℕ) → Done 12 c a b r → r ≡ 13 → Begun t root n Lost b
-run-lost t root n lost x a b r d h = x longest
-run-lost t root n (whole xs) x a b r d h = let e : r ≡ 12 - length xs = d .0 in absurd (omega arith)
-run-lost t root n (cut p xs) x a b r d h = let e : r ≡ 14 + p = d .0 in absurd (omega arith)
+  begun-whole : (c : Climb) → Told c → length a ≡ levels → length b ≡ levels → Ran levels c a b r → r < lostCode → Begun cs e (short.Whole r) b
+  begun-whole lost x l m d h = let o : r ≡ lostCode = d .0 in absurd (omega arith)
+  begun-whole (cut p xs) x l m d h = let o : r ≡ onCode + p = d .0 in absurd (omega arith)
+  begun-whole (whole xs) x l m d h =
+      let o : r ≡ levels - length xs = d .0 in
+      let k : length xs ≤ levels = x .0 in
+      (omega arith, x .1 longest (omega arith) ∙ ap tokens (sym (ap (λ (i : ℕ). drop i b) o ∙ tokens-of xs a b l (d .1))))
 
-run-on : (t : Trie) (root n : ℕ) (c : Climb) → Tells t root n 12 c → (a b : List ℕ) (r : ℕ) → length a ≡ 12 → Done 12 c a b r → 13 < r → n < t .nodes → Begun t root n (On (r - 14)) b
-run-on t root n lost x a b r l d h i = let e : r ≡ 13 = d .0 in absurd (omega arith)
-run-on t root n (whole xs) x a b r l d h i = let e : r ≡ 12 - length xs = d .0 in absurd (omega arith)
-run-on t root n (cut p xs) x a b r l d h i =
-    let e : r - 14 ≡ p = let e : r ≡ 14 + p = d .0 in omega arith in
-    let m : length xs ≡ 12 = x .0 in
-    let q = x .1 in
-    let z : 12 - length xs ≡ 0 = omega arith in
-    let s : b ≡ xs = ap (λ (i : ℕ). drop i b) (sym z) ∙ tokens-of xs a b l (d .1) in
-    (omega arith, x .2 longest (omega arith) ∙ ap (λ (j : ℕ). onto (gather (longest - 12) t root j) xs) (sym e) ∙ ap (onto (gather (longest - 12) t root (r - 14))) (sym s))
+  begun-damaged : (c : Climb) → Told c → Ran levels c a b r → r ≡ lostCode → Begun cs e short.Damaged b
+  begun-damaged lost x d h = x longest
+  begun-damaged (whole xs) x d h = let o : r ≡ levels - length xs = d .0 in absurd (omega arith)
+  begun-damaged (cut p xs) x d h = let o : r ≡ onCode + p = d .0 in absurd (omega arith)
 
-module _ (t : Trie) (root n r : ℕ) (a b : List ℕ) (l : length a ≡ 12) (m : length b ≡ 12) (d : Done 12 (climbed 12 t root n) a b r) where
-  pub first-whole : r < 13 → Begun t root n (Whole r) b
-  first-whole h = run-begun t root n (climbed 12 t root n) (climbed-tells t root 12 n) a b r l m d h
+  begun-longer : (c : Climb) → Told c → length a ≡ levels → Ran levels c a b r → lostCode < r → e .leaf < e .nodes → Begun cs e (short.Longer (r - onCode)) b
+  begun-longer lost x l d h i = let o : r ≡ lostCode = d .0 in absurd (omega arith)
+  begun-longer (whole xs) x l d h i = let o : r ≡ levels - length xs = d .0 in absurd (omega arith)
+  begun-longer (cut p xs) x l d h i =
+      let o : r - onCode ≡ p = let o : r ≡ onCode + p = d .0 in omega arith in
+      let m : length xs ≡ levels = x .0 in
+      let q : p + levels ≤ e .leaf = x .1 in
+      let z : levels - length xs ≡ 0 = omega arith in
+      let s : b ≡ xs = ap (λ (i : ℕ). drop i b) (sym z) ∙ tokens-of xs a b l (d .1) in
+      (omega arith, x .2 longest (omega arith) ∙ ap (λ (j : ℕ). pathBy cs e j xs) (sym o) ∙ ap (pathBy cs e (r - onCode)) (sym s))
 
-  pub first-lost : r ≡ 13 → Begun t root n Lost b
-  first-lost h = run-lost t root n (climbed 12 t root n) (climbed-tells t root 12 n) a b r d h
+  module _ (l : length a ≡ levels) (m : length b ≡ levels) (d : Ran levels (climbed levels (trieOf cs e) (e .root) (e .leaf)) a b r) where
+    abbrev this : Climb
+    this = climbed levels (trieOf cs e) (e .root) (e .leaf)
 
-  pub first-on : 13 < r → n < t .nodes → Begun t root n (On (r - 14)) b
-  first-on h i = run-on t root n (climbed 12 t root n) (climbed-tells t root 12 n) a b r l d h i
+    tells : Told this
+    tells = climbed-tells (trieOf cs e) (e .root) levels (e .leaf)
 
--- ---- the other runs
+    pub short-whole : r < lostCode → Begun cs e (short.Whole r) b
+    short-whole h = begun-whole this tells l m d h
 
-path-found : (p : Path) (run start a b : List ℕ) (k : ℕ) → length b ≡ 384 → length start ≡ 384 → drop 372 a ≡ run ++ drop 384 start → (k ≡ 0 → ⊥) → Placed 372 p k a b → Found (onto p run) (Tokens k) b
+    pub short-damaged : r ≡ lostCode → Begun cs e short.Damaged b
+    short-damaged h = begun-damaged this tells d h
+
+    pub short-longer : lostCode < r → e .leaf < e .nodes → Begun cs e (short.Longer (r - onCode)) b
+    short-longer h i = begun-longer this tells l d h i
+
+-- ---- the runs above it
+
+-- how many, and their cells
+abbrev pub higher : ℕ
+higher = pathCells / levels - 1
+
+abbrev pub higherCells : ℕ
+higherCells = levels * higher
+
+path-found : (p : Path) (run start a b : List ℕ) (k : ℕ) → length b ≡ pathCells → length start ≡ pathCells → drop higherCells a ≡ run ++ drop (higherCells + levels) start → (k ≡ 0 → ⊥) → PathHolds higherCells p k a b → Found (onto p run) (Tokens k) b
 path-found none run start a b k l m e z d = absurd (z d)
 path-found (tokens xs) run start a b k l m e z d =
-    let f : k + length xs ≡ 372 = d .0 in
-    let n : drop 384 start ≡ [] = drop-of-length-le start {i = 384} (omega arith) in
-    let g : drop 372 a ≡ run = e ∙ ap (λ (ys : List ℕ). run ++ ys) n ∙ append-nil run in
+    let f : k + length xs ≡ higherCells = d .0 in
+    let n : drop (higherCells + levels) start ≡ [] = drop-of-length-le start {i = higherCells + levels} (omega arith) in
+    let g : drop higherCells a ≡ run = e ∙ ap (λ (ys : List ℕ). run ++ ys) n ∙ append-nil run in
     (omega arith, ap tokens (sym (d .1 ∙ ap (λ (ys : List ℕ). xs ++ ys) g)))
 
-path-lost : (p : Path) (run a b : List ℕ) (k : ℕ) → Within 371 p → k ≡ 0 → Placed 372 p k a b → Found (onto p run) Damaged b
+path-lost : (p : Path) (run a b : List ℕ) (k : ℕ) → Within (longest - levels) p → k ≡ 0 → PathHolds higherCells p k a b → Found (onto p run) Damaged b
 path-lost none run a b k w z d = refl
-path-lost (tokens xs) run a b k w z d = let e : k + length xs ≡ 372 = d .0 in absurd (omega arith)
+path-lost (tokens xs) run a b k w z d = let e : k + length xs ≡ higherCells = d .0 in absurd (omega arith)
 
-module _ (t : Trie) (root n k : ℕ) (run start a b : List ℕ) (l : length start ≡ 384) (e : (drop 372 a ≡ run ++ drop 384 start) × (length a ≡ length start)) (d : Runs 31 (gather 371 t root n) k a b) where
-  pub other-found : (k ≡ 0 → ⊥) → Found (onto (gather (longest - 12) t root n) run) (Tokens k) b × (length b ≡ length start)
-  other-found z = let f = d .1 in let g = e .1 in (path-found (gather 371 t root n) run start a b k (omega arith) l (e .0) z (d .0), omega arith)
+module _ (cs : List ℕ) (e : End) (n k : ℕ) (run start a b : List ℕ) (l : length start ≡ pathCells) (put : RunCopied run higherCells start a)
+    (d : RunsHold higher (gather (longest - levels) (trieOf cs e) (e .root) n) k a b) where
+  pub long-found : (k ≡ 0 → ⊥) → GoesOn cs e n run (Tokens k) b
+  long-found z = let f = d .1 in let g = put .1 in (path-found (gather (longest - levels) (trieOf cs e) (e .root) n) run start a b k (omega arith) l (put .0) z (d .0), omega arith)
 
-  pub other-lost : k ≡ 0 → Found (onto (gather (longest - 12) t root n) run) Damaged b × (length b ≡ length start)
-  other-lost z = let f = d .1 in let g = e .1 in (path-lost (gather 371 t root n) run a b k (gather-within 371 t root n) z (d .0), omega arith)
+  pub long-damaged : k ≡ 0 → GoesOn cs e n run Damaged b
+  long-damaged z = let f = d .1 in let g = put .1 in (path-lost (gather (longest - levels) (trieOf cs e) (e .root) n) run a b k (gather-within (longest - levels) (trieOf cs e) (e .root) n) z (d .0), omega arith)

@@ -104,7 +104,7 @@ abbrev pub Tells : Trie → ℕ → ℕ → ℕ → Climb → Type 0
 Tells t root n levels lost = (most : ℕ) → gather most t root n ≡ none
 Tells t root n levels (whole xs) = (length xs ≤ levels) × ((most : ℕ) → length xs ≤ most → gather most t root n ≡ tokens xs)
     × ((most : ℕ) → most < length xs → gather most t root n ≡ none)
-Tells t root n levels (cut p xs) = (length xs ≡ levels) × (p ≤ n) × ((most : ℕ) → levels ≤ most → gather most t root n ≡ onto (gather (most - levels) t root p) xs)
+Tells t root n levels (cut p xs) = (length xs ≡ levels) × (p + levels ≤ n) × ((most : ℕ) → levels ≤ most → gather most t root n ≡ onto (gather (most - levels) t root p) xs)
     × ((most : ℕ) → most < levels → gather most t root n ≡ none)
 
 module _ (t : Trie) (root n : ℕ) (e : sound t n ≡ true) (p : t .at n .parent ≡ n → ⊥) where
@@ -144,7 +144,8 @@ module _ (t : Trie) (root n : ℕ) (e : sound t n ≡ true) (p : t .at n .parent
   longer-tells levels (cut q xs) x =
       let k : length (xs ++ (token ∷ [])) ≡ length xs + 1 = length-append xs (token ∷ []) in
       let b : length xs ≡ levels = x .0 in
-      let h : q ≤ above = x .1 in
+      let h : q + levels ≤ above = x .1 in
+      let o : above ≡ n → ⊥ = p in
       let l = node-bounds (t .nodes) (t .links) n (t .at n) e .parent-most in (
         omega arith,
         omega arith,

@@ -26,12 +26,14 @@ cells = 1 ∷ 5 ∷ 2 ∷ 0 ∷ 8 ∷ 0 ∷ 0 ∷ 0
 abbrev small : Trie
 small = trieIn sizes cells 5 2
 
-searched : (searchChildren small 1 72 ≡ Found 4) × (searchChildren small 1 73 ≡ Last 4) × (searchChildren small 3 40 ≡ Last 0)
+searched : (searchChildren small 1 72 ≡ Found 4) × (searchChildren small 1 73 ≡ Last 4)
+    × (searchChildren small 3 40 ≡ Last 0)
 unfolding searchChildren searchSiblings nodeSound follows
 searched = (refl, refl, refl)
 
 -- links held to one record: node 4 is damaged, and met only by a search that goes past node 2
-searched-damaged : (searchChildren (trieIn sizes cells 5 1) 1 73 ≡ Damaged) × (searchChildren (trieIn sizes cells 5 1) 1 71 ≡ Found 2)
+searched-damaged : (searchChildren (trieIn sizes cells 5 1) 1 73 ≡ Damaged)
+    × (searchChildren (trieIn sizes cells 5 1) 1 71 ≡ Found 2)
 unfolding searchChildren searchSiblings nodeSound follows
 searched-damaged = (refl, refl)
 
@@ -40,12 +42,13 @@ walked : (walk small 0 (40 ∷ 72 ∷ []) ≡ whole 4) × (walk small 0 (40 ∷ 
 unfolding walk walkFrom searchChildren searchSiblings nodeSound follows
 walked = (refl, refl, refl, refl)
 
-gathered : (gather longest small 0 4 ≡ tokens (40 ∷ 72 ∷ [])) × (gather longest small 3 4 ≡ none) × (gather 1 small 0 4 ≡ none)
-    × (gather longest small 3 3 ≡ tokens [])
+gathered : (gather longest small 0 4 ≡ tokens (40 ∷ 72 ∷ [])) × (gather longest small 3 4 ≡ none)
+    × (gather 1 small 0 4 ≡ none) × (gather longest small 3 3 ≡ tokens [])
 unfolding gather nodeSound follows
 gathered = (refl, refl, refl, refl)
 
-in-runs : (climbed 2 small 0 4 ≡ cut 0 (40 ∷ 72 ∷ [])) × (climbed 3 small 0 4 ≡ runs.whole (40 ∷ 72 ∷ [])) × (climbed 3 small 3 4 ≡ lost)
+in-runs : (climbed 2 small 0 4 ≡ cut 0 (40 ∷ 72 ∷ [])) × (climbed 3 small 0 4 ≡ runs.whole (40 ∷ 72 ∷ []))
+    × (climbed 3 small 3 4 ≡ lost)
 unfolding climbed nodeSound follows
 in-runs = (refl, refl, refl)
 

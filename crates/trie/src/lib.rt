@@ -18,11 +18,20 @@ pub enum Walked {
     Damaged,
 }
 
-// The first run of a path: the path is whole, and where its tokens start; or the node from which it goes on.
-pub enum Run {
+// The last node of a path and the root that it is to start from; the nodes of the trie, and the count that its links
+// are held to.
+pub struct End {
+    pub nodes: usize,
+    pub links: usize,
+    pub root: usize,
+    pub leaf: usize,
+}
+
+// A path gathered in few cells: whole, and where its tokens start; or longer, and the node from which it goes on.
+pub enum Short {
     Whole(usize),
-    On(usize),
-    Lost,
+    Longer(usize),
+    Damaged,
 }
 
 // Where the tokens that were gathered start.

@@ -1,26 +1,41 @@
-// The tokens of a path, gathered from its end up to its root.
+// The tokens of a path, gathered from its end up to its root by recursion on the parent: the node number falls at each
+// step until the root, within a run (`climb`) and from run to run (`climb_runs`). Runs are there since deep recursion
+// is slow: beyond some 16 nested calls each level was measured to take four times as long, as if the processor did not
+// foresee so many returns. The cells of one run are all that most paths need. A caller lends the cells of a whole path
+// only where the path turns out to be longer, since cells are cleared before they are lent.
+use super::End;
 use super::Gathered;
-use super::Run;
+use super::Short;
 use space::NodeRead;
 use space::records::read_node;
 ghost use mathlib.Core.Path.{_≡_};
-ghost use mathlib.Core.List.{_++_};
-ghost use Prim.Native.Nat.{_<_, _≤_, _+_, _-_, _*_};
-ghost use lib.ListN.{length, drop};
-ghost use Rattle.space.specs.Layout.{sizes};
+ghost use Prim.Native.Nat.{_<_, _≤_, _+_, _*_};
+ghost use lib.ListN.{length};
 ghost use Rattle.space.specs.Sound.{NodesIn};
-ghost use Rattle.trie.specs.Siblings.{trieIn};
-ghost use Rattle.trie.specs.Paths.{gather, longest};
-ghost use Rattle.trie.specs.Runs.{onto, climbed, coded, Kept, Placed, Begun, Found};
+ghost use Rattle.trie.specs.Runs.{levels, pathCells, Climbs, RunCopied, ClimbsRuns, Ends, Begun, GoesOn};
+
+// The levels of a run.
+pub const LEVELS: usize = 12;
+
+// The most tokens that a path has.
+pub const LONGEST: usize = 383;
+
+// The cells of a whole path: one more than it has tokens at most, which is a whole number of runs.
+pub const CELLS: usize = LONGEST + 1;
+
+// The runs above the first, and their cells.
+const HIGHER_RUNS: usize = CELLS / LEVELS - 1;
+
+const HIGHER_CELLS: usize = LEVELS * HIGHER_RUNS;
 
 // What `climb` answers for damage, and the least that it answers for a node to go on from.
-const LOST: usize = 13;
+const LOST: usize = LEVELS + 1;
 
-const ON: usize = 14;
+const ON: usize = LEVELS + 2;
 
-// The tokens of node n and of those above it, at most `left` of them, written to the first `left` cells of run from behind. Where
-// the root is reached: how many cells are left; where no cell is: ON and the node to go on from. The node number falls at each step
-// up. A plain number is answered, and not an enum, since that comes back in a register at every level.
+// The tokens of node n and of those above it, at most `left` of them, written to the first `left` cells of run from
+// behind. Where the root is reached: how many cells are left; where no cell is: ON and the node to go on from. A plain
+// number is answered, and not an enum, since that comes back in a register at every level.
 fn climb(
     space: &[u32],
     nodes: usize,
@@ -28,10 +43,11 @@ fn climb(
     root: usize,
     n: usize,
     left: usize,
-    run: &mut [u32; 12],
+    run: &mut [u32; LEVELS],
 ) -> usize
-    requires { ⌜ NodesIn (now space) nodes × (n < nodes) × (1 ≤ left) × (left ≤ 12) × (length (now run) ≡ 12) ⌝ }
-    ensures { λ r. ⌜ (r ≡ coded left (climbed left (trieIn sizes (now (space .entry)) nodes links) root n)) × Kept left (climbed left (trieIn sizes (now (space .entry)) nodes links) root n) (now (run .entry)) (now (run .exit)) × (length (now (run .exit)) ≡ length (now (run .entry))) ⌝ }
+    requires { ⌜ NodesIn (now space) nodes × (n < nodes) ⌝ }
+    requires { ⌜ (1 ≤ left) × (left ≤ levels) × (length (now run) ≡ levels) ⌝ }
+    ensures { λ r. ⌜ Climbs (now (space .entry)) nodes links root n left (now (run .entry)) (now (run .exit)) r ⌝ }
 {
     let NodeRead::Sound(y) = read_node(space, nodes, links, n) else {
         return LOST;
@@ -51,44 +67,43 @@ fn climb(
     climb(&space[..], nodes, links, root, y.parent, at, run)
 }
 
-// The tokens from the root down to node n, or the last 12 of them, written to run from behind. Most paths end here, and need no
-// cells but these.
-pub fn first_run(
-    space: &[u32],
-    nodes: usize,
-    links: usize,
-    root: usize,
-    n: usize,
-    run: &mut [u32; 12],
-) -> Run
-    requires { ⌜ NodesIn (now space) nodes × (n < nodes) × (length (now run) ≡ 12) ⌝ }
-    ensures { λ r. ⌜ Begun (trieIn sizes (now (space .entry)) nodes links) root n r (now (run .exit)) × (length (now (run .exit)) ≡ length (now (run .entry))) ⌝ }
+// The path in the cells of a run, which hold its last tokens where it is longer.
+pub fn short_path(space: &[u32], end: End, cells: &mut [u32; LEVELS]) -> Short
+    requires { ⌜ Ends (now space) end × (length (now cells) ≡ levels) ⌝ }
+    ensures { λ r. ⌜ Begun (now (space .entry)) end r (now (cells .exit)) × (length (now (cells .exit)) ≡ levels) ⌝ }
 {
-    let r = climb(space, nodes, links, root, n, 12, run);
+    let r = climb(
+        space,
+        end.nodes,
+        end.links,
+        end.root,
+        end.leaf,
+        LEVELS,
+        cells,
+    );
     if r < LOST {
-        return Run::Whole(r);
+        return Short::Whole(r);
     }
     if r == LOST {
-        return Run::Lost;
+        return Short::Damaged;
     }
-    Run::On(r - ON)
+    Short::Longer(r - ON)
 }
 
 // Copies a run to the cells of path from `from` on.
-fn copy_run(run: &[u32; 12], from: usize, path: &mut [u32])
-    requires { ⌜ (length (now run) ≡ 12) × (from + 12 ≤ length (now path)) ⌝ }
-    ensures { λ _. ⌜ (drop from (now (path .exit)) ≡ now (run .entry) ++ drop (from + 12) (now (path .entry))) × (length (now (path .exit)) ≡ length (now (path .entry))) ⌝ }
+fn copy_run(run: &[u32; LEVELS], from: usize, path: &mut [u32])
+    requires { ⌜ (length (now run) ≡ levels) × (from + levels ≤ length (now path)) ⌝ }
+    ensures { λ _. ⌜ RunCopied (now (run .entry)) from (now (path .entry)) (now (path .exit)) ⌝ }
 {
-    let mut i = 12;
+    let mut i = LEVELS;
     while 0 < i {
         i -= 1;
         path[from + i] = run[i];
     }
 }
 
-// The tokens of node n and of those above it, written to the first 12 * runs cells of path from behind: where they start, or 0 for
-// none. The recursion is cut into runs of 12 levels: beyond some 16 nested calls each level was measured to take four times as
-// long, as if the processor did not foresee so many returns.
+// The tokens of node n and of those above it, written to the cells of so many runs from behind: where they start, or 0
+// for none.
 fn climb_runs(
     space: &[u32],
     nodes: usize,
@@ -96,15 +111,16 @@ fn climb_runs(
     root: usize,
     n: usize,
     runs: usize,
-    run: &mut [u32; 12],
     path: &mut [u32],
 ) -> usize
-    requires { ⌜ NodesIn (now space) nodes × (n < nodes) × (1 ≤ runs) × (length (now run) ≡ 12) × (12 * runs ≤ length (now path)) ⌝ }
-    ensures { λ r. ⌜ Placed (12 * runs) (gather (12 * runs - 1) (trieIn sizes (now (space .entry)) nodes links) root n) r (now (path .entry)) (now (path .exit)) × (length (now (path .exit)) ≡ length (now (path .entry))) ⌝ }
+    requires { ⌜ NodesIn (now space) nodes × (n < nodes) × (1 ≤ runs) × (levels * runs ≤ length (now path)) ⌝ }
+    ensures { λ r.
+        ⌜ ClimbsRuns (now (space .entry)) nodes links root n runs (now (path .entry)) (now (path .exit)) r ⌝ }
 {
-    let r = climb(&space[..], nodes, links, root, n, 12, run);
-    let from = 12 * (runs - 1);
-    copy_run(run, from, path);
+    let mut run = [0u32; LEVELS];
+    let r = climb(&space[..], nodes, links, root, n, LEVELS, &mut run);
+    let from = LEVELS * (runs - 1);
+    copy_run(&run, from, path);
     if r < LOST {
         return from + r;
     }
@@ -114,25 +130,23 @@ fn climb_runs(
     if runs == 1 {
         return 0;
     }
-    climb_runs(&space[..], nodes, links, root, r - ON, runs - 1, run, path)
+    climb_runs(&space[..], nodes, links, root, r - ON, runs - 1, path)
 }
 
-// The tokens from the root down to node n, and those of the first run behind them, up to the end of path. The cells of the first
-// run serve the others too.
-pub fn other_runs(
+// A path that goes on from node n above its last tokens, which are given, in the last cells of path.
+pub fn long_path(
     space: &[u32],
-    nodes: usize,
-    links: usize,
-    root: usize,
+    end: End,
     n: usize,
-    run: &mut [u32; 12],
+    last: &[u32; LEVELS],
     path: &mut [u32],
 ) -> Gathered
-    requires { ⌜ NodesIn (now space) nodes × (n < nodes) × (length (now run) ≡ 12) × (length (now path) ≡ longest + 1) ⌝ }
-    ensures { λ r. ⌜ Found (onto (gather (longest - 12) (trieIn sizes (now (space .entry)) nodes links) root n) (now (run .entry))) r (now (path .exit)) × (length (now (path .exit)) ≡ length (now (path .entry))) ⌝ }
+    requires { ⌜ NodesIn (now space) (end .nodes) × (n < end .nodes) ⌝ }
+    requires { ⌜ (length (now last) ≡ levels) × (length (now path) ≡ pathCells) ⌝ }
+    ensures { λ r. ⌜ GoesOn (now (space .entry)) end n (now (last .entry)) r (now (path .exit)) ⌝ }
 {
-    copy_run(run, 372, path);
-    let k = climb_runs(space, nodes, links, root, n, 31, run, path);
+    copy_run(last, HIGHER_CELLS, path);
+    let k = climb_runs(space, end.nodes, end.links, end.root, n, HIGHER_RUNS, path);
     if k == 0 {
         return Gathered::Damaged;
     }

@@ -16,7 +16,8 @@ ghost use Rattle.trie.specs.Walks.{walkFrom, walk, shown};
 fn walk_from(space: &[u32], nodes: usize, links: usize, start: usize, tokens: &[u32]) -> Walked
     requires { ⌜ NodesIn (now space) nodes × (start < nodes) ⌝ }
     requires { ⌜ sound (trieIn sizes (now space) nodes links) start ≡ true ⌝ }
-    ensures { λ r. ⌜ r ≡ shown (walkFrom (trieIn sizes (now (space .entry)) nodes links) start (now (tokens .entry))) ⌝ }
+    ensures { λ r.
+        ⌜ r ≡ shown (walkFrom (trieIn sizes (now (space .entry)) nodes links) start (now (tokens .entry))) ⌝ }
 {
     let mut n = start;
     let mut i = 0;

@@ -4,20 +4,20 @@ use borrow.Author.Needs.{needs}
 use Rattle.damage.proofs.first_path.Statement.{statement}
 use Rattle.damage.proofs.first_path.Tie as tie
 
-first-run-requires : tie.Need-first-run-requires
-first-run-requires c κs = search needs
+short-path-requires : tie.Need-short-path-requires
+short-path-requires c κs = search needs
 
-enum-known-first : tie.Need-enum-known-first
-enum-known-first c = search needs
+enum-known-short : tie.Need-enum-known-short
+enum-known-short c = search needs
 
 mul-with-tokens : tie.Need-mul-with-tokens
-mul-with-tokens c = let f = rw (c .before .first .given .1) at (c .before .before .before .first-run .ensures .0) in omega (arith, f .0, c .before .before .before .first-run .ensures .1)
+mul-with-tokens c = let f = rw (c .before .short .given .1) at (c .before .before .before .short-path .ensures .0) in omega (arith, f .0, c .before .before .before .short-path .ensures .1)
 
 sub-with-tokens : tie.Need-sub-with-tokens
-sub-with-tokens c = let f = rw (c .before .first .given .1) at (c .before .before .before .first-run .ensures .0) in omega (arith, f .0, c .before .before .before .first-run .ensures .1)
+sub-with-tokens c = let f = rw (c .before .short .given .1) at (c .before .before .before .short-path .ensures .0) in omega (arith, f .0, c .before .before .before .short-path .ensures .1)
 
 part-with-tokens-start : tie.Need-part-with-tokens-start
-part-with-tokens-start c = let f = rw (c .before .before .first .given .1) at (c .before .before .before .before .first-run .ensures .0) in omega (arith, f .0, c .before .before .before .before .first-run .ensures .1)
+part-with-tokens-start c = let f = rw (c .before .before .short .given .1) at (c .before .before .before .before .short-path .ensures .0) in omega (arith, f .0, c .before .before .before .before .short-path .ensures .1)
 
 part-with-tokens-end : tie.Need-part-with-tokens-end
 part-with-tokens-end c = search needs
@@ -25,8 +25,8 @@ part-with-tokens-end c = search needs
 with-tokens-requires : tie.Need-with-tokens-requires
 with-tokens-requires c κs = search needs
 
-enum-known-first-2 : tie.Need-enum-known-first-2
-enum-known-first-2 c = search needs
+enum-known-short-2 : tie.Need-enum-known-short-2
+enum-known-short-2 c = search needs
 
 mixed-index-requires : tie.Need-mixed-index-requires
 mixed-index-requires c κs = search needs
@@ -53,14 +53,14 @@ pub first-path-spec : {M : Type 1} → statement M
 first-path-spec =
     tie.close
     (tie.spec
-    first-run-requires
-    enum-known-first
+    short-path-requires
+    enum-known-short
     mul-with-tokens
     sub-with-tokens
     part-with-tokens-start
     part-with-tokens-end
     with-tokens-requires
-    enum-known-first-2
+    enum-known-short-2
     mixed-index-requires
     with-sum-requires
     enum-told

@@ -4,11 +4,11 @@ use borrow.Author.Needs.{needs}
 use Rattle.damage.proofs.other_path.Statement.{statement}
 use Rattle.damage.proofs.other_path.Tie as tie
 
-slice-aggregate-other-runs : tie.Need-slice-aggregate-other-runs
-slice-aggregate-other-runs c = search needs
+slice-aggregate-long-path : tie.Need-slice-aggregate-long-path
+slice-aggregate-long-path c = search needs
 
-other-runs-requires : tie.Need-other-runs-requires
-other-runs-requires c κs = search needs
+long-path-requires : tie.Need-long-path-requires
+long-path-requires c κs = search needs
 
 enum-known-k : tie.Need-enum-known-k
 enum-known-k c = search needs
@@ -23,13 +23,13 @@ returns : tie.Need-returns
 returns c = search needs
 
 mul-with-tokens : tie.Need-mul-with-tokens
-mul-with-tokens c = let f = rw (c .before .k .given .1) at (c .before .before .before .before .other-runs .ensures .0) in omega (arith, f .0, c .before .before .before .before .other-runs .ensures .1)
+mul-with-tokens c = let f = rw (c .before .k .given .1) at (c .before .before .before .before .long-path .ensures .0) in omega (arith, f .0, c .before .before .before .before .long-path .ensures .1)
 
 sub-with-tokens : tie.Need-sub-with-tokens
-sub-with-tokens c = let f = rw (c .before .k .given .1) at (c .before .before .before .before .other-runs .ensures .0) in omega (arith, f .0, c .before .before .before .before .other-runs .ensures .1)
+sub-with-tokens c = let f = rw (c .before .k .given .1) at (c .before .before .before .before .long-path .ensures .0) in omega (arith, f .0, c .before .before .before .before .long-path .ensures .1)
 
 part-with-tokens-start : tie.Need-part-with-tokens-start
-part-with-tokens-start c = let f = rw (c .before .before .k .given .1) at (c .before .before .before .before .before .other-runs .ensures .0) in omega (arith, f .0, c .before .before .before .before .before .other-runs .ensures .1)
+part-with-tokens-start c = let f = rw (c .before .before .k .given .1) at (c .before .before .before .before .before .long-path .ensures .0) in omega (arith, f .0, c .before .before .before .before .before .long-path .ensures .1)
 
 part-with-tokens-end : tie.Need-part-with-tokens-end
 part-with-tokens-end c = search needs
@@ -44,8 +44,8 @@ pub other-path-spec : {M : Type 1} → statement M
 other-path-spec =
     tie.close
     (tie.spec
-    slice-aggregate-other-runs
-    other-runs-requires
+    slice-aggregate-long-path
+    long-path-requires
     enum-known-k
     enum-told
     with-damage-requires

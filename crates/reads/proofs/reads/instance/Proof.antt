@@ -18,8 +18,11 @@ use Rattle.space.proofs.heading.read_header.Reads as read-header-reads
 use Rattle.reads.proofs.reads.instance_in.Reads as instance-in-reads
 
 -- the header that was read
-sound-header : (c : tie.After-known-told) → header.Sound (c .before .header .given .0 .0) ≡ spaceHeader (c .before .before .before .before .before .before .args .space .now)
-sound-header c = told (c .before .header .given .1) (c .before .before .before .read-header .ensures)
+sound-header : (c : tie.After-header) → header.Sound (c .header .given .0 .0) ≡ spaceHeader (c .before .before .before .before .before .args .space .now)
+sound-header c = told (c .header .given .1) (c .before .before .read-header .ensures)
+
+refused-header : (c : tie.After-header2) → header.Refused (c .header2 .given .0 .0) ≡ spaceHeader (c .before .before .before .before .before .args .space .now)
+refused-header c = told (c .header2 .given .1) (c .before .before .read-header .ensures)
 
 read-header-requires : tie.Need-read-header-requires
 read-header-requires c κs = search needs
@@ -27,32 +30,23 @@ read-header-requires c κs = search needs
 enum-known-header : tie.Need-enum-known-header
 enum-known-header c = search needs
 
-enum-known-header-2 : tie.Need-enum-known-header-2
-enum-known-header-2 c = search needs
-
-enum-known-header-3 : tie.Need-enum-known-header-3
-enum-known-header-3 c = search needs
-
-returns : tie.Need-returns
-returns c = let e : header.Refused (c .before .header3 .given .0 .0) ≡ spaceHeader (c .before .before .before .before .before .before .before .before .before .args .space .now) = told (c .before .header3 .given .1) (told (c .before .before .before .before .header2 .given .1) (c .before .before .before .before .before .before .read-header .ensures)) in instance-answers _ _ _ _ _ (instance-refused (c .before .before .before .before .before .before .before .before .before .args .space .now) (c .before .before .before .before .before .before .before .before .before .args .answer) (c .before .before .before .before .before .before .before .before .before .args .out .now) (c .before .header3 .given .0 .0) e)
-
-enum-told : tie.Need-enum-told
-enum-told c = search needs
-
-returns-2 : tie.Need-returns-2
-returns-2 c = search needs
-
 wide-requires : tie.Need-wide-requires
 wide-requires c κs = search needs
 
 instance-in-requires : tie.Need-instance-in-requires
-instance-in-requires c κs = header-bounds _ _ (sound-header (c .before .before))
+instance-in-requires c κs = header-bounds _ _ (sound-header (c .before .before .before))
+
+enum-known-header-2 : tie.Need-enum-known-header-2
+enum-known-header-2 c = search needs
 
 same-length : tie.Need-same-length
 same-length c = search needs
 
-returns-3 : tie.Need-returns-3
-returns-3 c = instance-answers _ _ _ _ _ (instance-step (c .before .before .before .before .before .before .before .before .before .before .before .args .space .now) (c .before .before .before .before .before .before .header .given .0 .0) (sound-header (c .before .before .before .before .before)) _ _ (c .before .before .before .before .wide .ensures .0) (c .before .before .before .before .before .before .before .before .before .before .before .args .out .now) _ _ (c .before .before .instance-in .ensures))
+returns : tie.Need-returns
+returns c = instance-answers _ _ _ _ _ (instance-step (c .before .before .before .before .before .before .before .before .before .before .before .args .space .now) (c .before .before .before .before .before .before .header .given .0 .0) (sound-header (c .before .before .before .before .before .before)) _ _ (c .before .before .before .before .wide .ensures .0) (c .before .before .before .before .before .before .before .before .before .before .before .args .out .now) _ _ (c .before .before .instance-in .ensures))
+
+returns-2 : tie.Need-returns-2
+returns-2 c = instance-answers _ _ _ _ _ (instance-refused (c .before .before .before .before .before .before .args .space .now) (c .before .before .before .before .before .before .args .answer) (c .before .before .before .before .before .before .args .out .now) (c .before .header2 .given .0 .0) (refused-header (c .before)))
 
 pub instance-spec : {M : Type 1} → statement M
 instance-spec =
@@ -60,12 +54,9 @@ instance-spec =
     (tie.spec
     read-header-requires
     enum-known-header
-    enum-known-header-2
-    enum-known-header-3
-    returns
-    enum-told
-    returns-2
     wide-requires
     instance-in-requires
+    enum-known-header-2
     same-length
-    returns-3)
+    returns
+    returns-2)
