@@ -1,2 +1,3 @@
 pub mod FieldsLaws
 pub mod DigitsLaws
+pub mod CuttingLaws
