@@ -11,7 +11,7 @@ use lib.Seq.{drop-cons, drop-drop, take-all, take-append-le, length-take-le, tak
 use borrow.Author.Tests.{ltb-true, lt-ltb, le-ltb, leb-true, leb-false, eq-eqb, ne-eqb}
 use Rattle.basis.specs.Choice.{pick}
 use Rattle.basis.proofs.Cases.{by-cases}
-use Rattle.text.specs.Cutting.{newline, Lines, lines, linesFrom, lastLine, linesOf, joined, linesOfChunks, AnyChunks, Took, took, keptMore, taking, Keeps, InRange, Ends, Cuts, TakesLines}
+use Rattle.text.specs.Cutting.{newline, Lines, lines, linesFrom, lastLine, linesOf, joined, linesOfChunks, AnyChunks, Took, took, keptMore, taking, Keeps, InRange, Cuts, TakesLines}
 use Rattle.text.specs.declared.Taking.{Taking}
 use Rattle.text.specs.declared.Taking.the-variants.{Line, More}
 
@@ -114,7 +114,7 @@ cuts-all (b ∷ bs) chunk at line kept begun e k =
         (cuts-all bs chunk (at + 1) (set line kept b) (keptMore line kept) (begun ++ (b ∷ [])) (rest-behind chunk bs at b e) (keeps-more line begun kept b k))))
 
 pub takes-lines : TakesLines
-takes-lines chunk at line kept begun k = cuts-all (drop at chunk) chunk at line kept begun refl k
+takes-lines chunk line begun at kept k = cuts-all (drop at chunk) chunk at line kept begun refl k
 
 -- ---- places and counts
 

@@ -86,20 +86,21 @@ InRange chunk at line kept (Line next n) =
     (at < next) × (next ≤ length chunk) × (kept ≤ length line → n ≤ length line)
 InRange chunk at line kept (More n) = kept ≤ length line → n ≤ length line
 
--- the line that ended, of which the buffer keeps n bytes, and the bytes behind its newline: these are lines alone
-pub record Ends (bytes behind begun line : List ℕ) (n : ℕ) : Type 0 where
+-- of bytes that go on with a line begun, the line that ends first, of which the buffer keeps n bytes; behind its newline
+-- other lines begin
+pub record FirstLine (bytes behind begun line : List ℕ) (n : ℕ) : Type 0 where
   pub whole : List ℕ
   pub keeps : Keeps line n whole
   pub goes-on : linesFrom begun bytes ≡ lines (whole ∷ linesFrom [] behind .ended) (linesFrom [] behind .begun)
 
 -- what a step says of the lines of the bytes left: one has ended, or none
 abbrev pub Cuts : List ℕ → List ℕ → List ℕ → List ℕ → Taking → Type 0
-Cuts chunk bytes begun line (Line next n) = Ends bytes (drop next chunk) begun line n
+Cuts chunk bytes begun line (Line next n) = FirstLine bytes (drop next chunk) begun line n
 Cuts chunk bytes begun line (More n) =
     (linesFrom begun bytes .ended ≡ []) × Keeps line n (linesFrom begun bytes .begun)
 
 -- a step cuts the chunk as its lines say, where the buffer keeps the line begun
 abbrev pub TakesLines : Type 0
 TakesLines =
-    (chunk : List ℕ) (at : ℕ) (line : List ℕ) (kept : ℕ) (begun : List ℕ) → Keeps line kept begun
-    → Cuts chunk (drop at chunk) begun (taking (drop at chunk) at line kept .line) (taking (drop at chunk) at line kept .answer)
+    (chunk line begun : List ℕ) (at kept : ℕ) → Keeps line kept begun
+    → (let r = taking (drop at chunk) at line kept in Cuts chunk (drop at chunk) begun (r .line) (r .answer))

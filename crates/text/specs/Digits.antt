@@ -7,7 +7,9 @@ use lib.Dec.{ltb, eqb}
 use lib.ListN.{length}
 use lib.Seq.{sets}
 use Rattle.basis.specs.Choice.{pick}
+use Rattle.text.specs.Fields.{space, decimal, hexadecimal, cellDigits}
 
+-- a digit's byte: 48 is 0, and 87 more than ten is a
 abbrev pub digitText : ℕ → ℕ
 digitText d = pick (ltb d 10) (48 + d) (87 + d)
 
@@ -23,20 +25,20 @@ abbrev pub digits : ℕ → ℕ → ℕ → List ℕ
 digits base width n = digitsBefore base 10 width n []
 
 abbrev pub decimalText : ℕ → List ℕ
-decimalText n = digits 10 1 n
+decimalText n = digits decimal 1 n
 
 -- 8 hexadecimal digits
 abbrev pub cellText : ℕ → List ℕ
-cellText c = digits 16 8 c
+cellText c = digits hexadecimal cellDigits c
 
 -- each cell behind a space
 unfoldable pub cellTexts : List ℕ → List ℕ
 cellTexts [] = []
-cellTexts (c ∷ cs) = 32 ∷ (cellText c ++ cellTexts cs)
+cellTexts (c ∷ cs) = space ∷ (cellText c ++ cellTexts cs)
 
 -- a word and a number behind a space
 abbrev pub numbered : List ℕ → ℕ → List ℕ
-numbered word n = word ++ (32 ∷ decimalText n)
+numbered word n = word ++ (space ∷ decimalText n)
 
 -- bytes put at a place of a text, and the place behind them, which is still within the text
 abbrev pub Puts : ℕ → List ℕ → List ℕ → ℕ → List ℕ → Type 0

@@ -9,9 +9,23 @@ use Rattle.basis.specs.Choice.{pick}
 abbrev pub space : ℕ
 space = 32
 
--- the value of a digit, 0 to 9 and a to f; 16 for any other byte
+-- the bases that numbers are written in
+abbrev pub decimal : ℕ
+decimal = 10
+
+abbrev pub hexadecimal : ℕ
+hexadecimal = 16
+
+-- a number has at most so many digits, and a cell exactly so many
+abbrev pub numberDigits : ℕ
+numberDigits = 7
+
+abbrev pub cellDigits : ℕ
+cellDigits = 8
+
+-- the value of a digit, 0 to 9 (bytes 48 to 57) and a to f (97 to 102); 16 for any other byte
 abbrev pub digitOf : ℕ → ℕ
-digitOf b = pick (leb 48 b && leb b 57) (b - 48) (pick (leb 97 b && leb b 102) (b - 87) 16)
+digitOf b = pick (leb 48 b && leb b 57) (b - 48) (pick (leb 97 b && leb b 102) (b - 87) hexadecimal)
 
 -- the first field and the others, where each space ends a field
 pub record Fields : Type 0 where
@@ -22,7 +36,9 @@ unfoldable pub fields : List ℕ → Fields
 fields [] = record { first = []; others = [] }
 fields (b ∷ bs) =
     let r = fields bs in
-    pick (eqb b space) (record { first = []; others = r .first ∷ r .others }) (record { first = b ∷ r .first; others = r .others })
+    pick (eqb b space)
+    (record { first = []; others = r .first ∷ r .others })
+    (record { first = b ∷ r .first; others = r .others })
 
 -- a number or a list of cells, or none
 pub data Number : Type 0 where
@@ -53,7 +69,7 @@ behind (f ∷ fs) = fs
 
 -- a number: 1 to 7 decimal digits
 abbrev pub firstNumber : List (List ℕ) → Number
-firstNumber fs = numeralFirst 10 1 7 fs
+firstNumber fs = numeralFirst decimal 1 numberDigits fs
 
 -- exactly one number
 abbrev pub onlyNumber : List (List ℕ) → Number
@@ -67,4 +83,4 @@ before (number n) (cellsOf cs) = cellsOf (n ∷ cs)
 -- cells: 8 hexadecimal digits each
 unfoldable pub hexCells : List (List ℕ) → Cells
 hexCells [] = cellsOf []
-hexCells (f ∷ fs) = before (numeral 16 8 8 f) (hexCells fs)
+hexCells (f ∷ fs) = before (numeral hexadecimal cellDigits cellDigits f) (hexCells fs)

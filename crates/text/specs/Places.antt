@@ -26,9 +26,14 @@ inField line i = ltb i (length line) && not (eqb (getD line i 0) space)
 abbrev pub Ends : List ℕ → ℕ → Type 0
 Ends line i = (i ≤ length line) × (fieldAt line i ≡ [])
 
+-- the line's first field ends there, and the others follow
+abbrev pub EndsFirst : List ℕ → ℕ → Type 0
+EndsFirst line i = Ends line i × (fields line .first ≡ take i line) × (restAt line i ≡ fields line .others)
+
 -- the numeral in the field behind a place, of at least so many digits
 abbrev pub ReadsNumeral : List ℕ → ℕ → ℕ → Number → Numeral → Type 0
-ReadsNumeral line i least said (Value n e) = (said ≡ number n) × Ends line e × (restAt line e ≡ behind (restAt line i)) × (i + least < e)
+ReadsNumeral line i least said (Value n e) =
+    (said ≡ number n) × Ends line e × (restAt line e ≡ behind (restAt line i)) × (i + least < e)
 ReadsNumeral line i least said Bad = said ≡ noNumber
 
 -- the cells read, at the front of the cells lent

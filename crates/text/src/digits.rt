@@ -1,4 +1,7 @@
 // Words, numbers and cells put into a text as bytes, each behind what was put before it.
+use super::CELL_DIGITS;
+use super::DECIMAL;
+use super::HEXADECIMAL;
 ghost use mathlib.Core.Path.{_≡_};
 ghost use mathlib.Core.Bool.{_&&_};
 ghost use mathlib.Core.List.{_∷_};
@@ -21,7 +24,7 @@ pub fn put(bytes: &[u8], text: &mut [u8], at: usize) -> usize
     at + i
 }
 
-// A digit's byte: letters stand for ten and above, and 87 more than ten is 'a'.
+// A digit's byte: 48 is '0', and 87 more than ten is 'a'.
 fn digit_text(d: u32) -> u8
     requires { ⌜ d < 16 ⌝ }
     ensures { λ r. ⌜ r ≡ digitText d ⌝ }
@@ -75,7 +78,7 @@ pub fn put_numbered(word: &[u8], n: u32, text: &mut [u8], at: usize) -> usize
     ensures { λ r. ⌜ Puts at (numbered (now (word .entry)) n) (now (text .entry)) r (now (text .exit)) ⌝ }
 {
     let end = put(word, text, at);
-    put_field(n, 10, 1, text, end)
+    put_field(n, DECIMAL, 1, text, end)
 }
 
 // Puts the first n cells, each as 8 hexadecimal digits behind a space. Two bytes of room are over,
@@ -87,7 +90,7 @@ pub fn put_cells(cells: &[u32], n: usize, text: &mut [u8], at: usize) -> usize
     let mut end = at;
     let mut i = 0;
     while i < n {
-        end = put_field(cells[i], 16, 8, text, end);
+        end = put_field(cells[i], HEXADECIMAL, CELL_DIGITS, text, end);
         i += 1;
     }
     end

@@ -1,14 +1,18 @@
 // Fields of a line, read from left to right.
+use super::CELL_DIGITS;
 use super::CellsRead;
+use super::DECIMAL;
+use super::HEXADECIMAL;
+use super::NUMBER_DIGITS;
 use super::Numeral;
 ghost use mathlib.Core.Path.{_≡_};
 ghost use mathlib.Core.Bool.{_&&_};
 ghost use Prim.Native.Nat.{_*_, _≤_};
 ghost use lib.Dec.{leb};
-ghost use lib.ListN.{length, take};
-ghost use Rattle.text.specs.Fields.{fields, digitOf, numeralFirst, firstNumber, onlyNumber, hexCells};
+ghost use lib.ListN.{length};
+ghost use Rattle.text.specs.Fields.{digitOf, numeralFirst, firstNumber, onlyNumber, hexCells};
 ghost use Rattle.forms.specs.Compact.{same};
-ghost use Rattle.text.specs.Places.{fieldAt, restAt, inField, Ends, ReadsNumeral, ReadsCells};
+ghost use Rattle.text.specs.Places.{restAt, inField, Ends, EndsFirst, ReadsNumeral, ReadsCells};
 
 // Is the byte between two others, or one of them?
 fn is_between(b: u8, low: u8, high: u8) -> bool
@@ -24,13 +28,13 @@ fn is_between(b: u8, low: u8, high: u8) -> bool
 fn digit_of(b: u8) -> u32
     ensures { λ d. ⌜ d ≡ digitOf b ⌝ }
 {
-    if is_between(b, 48, 57) {
+    if is_between(b, b'0', b'9') {
         return (b - 48) as u32;
     }
-    if is_between(b, 97, 102) {
+    if is_between(b, b'a', b'f') {
         return (b - 87) as u32;
     }
-    16
+    HEXADECIMAL
 }
 
 // Does a field go on at the place?
@@ -38,14 +42,14 @@ fn in_field(line: &[u8], i: usize) -> bool
     ensures { λ r. ⌜ r ≡ inField (now (line .entry)) i ⌝ }
 {
     if i < line.len() {
-        return line[i] != 32;
+        return line[i] != b' ';
     }
     false
 }
 
 // Where the line's first field ends.
 pub fn first_end(line: &[u8]) -> usize
-    ensures { λ r. ⌜ Ends (now (line .entry)) r × (fields (now (line .entry)) .first ≡ take r (now (line .entry))) × (restAt (now (line .entry)) r ≡ fields (now (line .entry)) .others) ⌝ }
+    ensures { λ r. ⌜ EndsFirst (now (line .entry)) r ⌝ }
 {
     let mut i = 0;
     while in_field(line, i) {
@@ -57,7 +61,8 @@ pub fn first_end(line: &[u8]) -> usize
 // The numeral in the field behind a place that ends one. A value of at most 8 digits fits a cell.
 fn read_numeral(line: &[u8], at: usize, base: u32, least: usize, most: usize) -> Numeral
     requires { ⌜ Ends (now line) at × (base ≤ 16) × (most ≤ 8) ⌝ }
-    ensures { λ r. ⌜ ReadsNumeral (now (line .entry)) at least (numeralFirst base least most (restAt (now (line .entry)) at)) r ⌝ }
+    ensures { λ r. ⌜ ReadsNumeral (now (line .entry)) at least
+        (numeralFirst base least most (restAt (now (line .entry)) at)) r ⌝ }
 {
     if line.len() <= at {
         return Numeral::Bad;
@@ -87,7 +92,7 @@ pub fn first_number(line: &[u8], at: usize) -> Numeral
     requires { ⌜ Ends (now line) at ⌝ }
     ensures { λ r. ⌜ ReadsNumeral (now (line .entry)) at 1 (firstNumber (restAt (now (line .entry)) at)) r ⌝ }
 {
-    read_numeral(line, at, 10, 1, 7)
+    read_numeral(line, at, DECIMAL, 1, NUMBER_DIGITS)
 }
 
 // The number in the only field behind a place.
@@ -112,7 +117,7 @@ pub fn read_cells(line: &[u8], at: usize, cells: &mut [u32]) -> CellsRead
     let mut n = 0;
     let mut i = at;
     while i < line.len() {
-        let Numeral::Value(c, e) = read_numeral(line, i, 16, 8, 8) else {
+        let Numeral::Value(c, e) = read_numeral(line, i, HEXADECIMAL, CELL_DIGITS, CELL_DIGITS) else {
             return CellsRead::Bad;
         };
         cells[n] = c;

@@ -3,6 +3,14 @@ pub mod digits;
 pub mod fields;
 pub mod lines;
 
+// The two bases that numbers are written in.
+pub const DECIMAL: u32 = 10;
+pub const HEXADECIMAL: u32 = 16;
+
+// A number read has at most so many digits, and a cell exactly so many.
+pub const NUMBER_DIGITS: usize = 7;
+pub const CELL_DIGITS: usize = 8;
+
 // A number and the place at which its field ends, or none.
 pub enum Numeral {
     Value(u32, usize),
@@ -15,8 +23,8 @@ pub enum CellsRead {
     Bad,
 }
 
-// A line that has ended, by the place behind its newline and the bytes kept of it; or the chunk's end came before, with so
-// many bytes kept of the line begun.
+// A line that has ended: the place behind its newline, and how many bytes are kept of it. Or the chunk has ended
+// before the line: how many are kept of it so far.
 pub enum Taking {
     Line(usize, usize),
     More(usize),
