@@ -16,8 +16,9 @@ use Rattle.text.proofs.DigitsLaws.{sets-append}
 use Rattle.plain.specs.Requests.{Request, Reply, call, answer, finish, next, load, instance, counts}
 use Rattle.store.specs.Calls.{spaceStep}
 use Rattle.session.specs.Lines.{Meaning, bad, asks, withCells, withNumber, oneNumber, twoNumbers, numberAndCells, noField, wordCall, wordAnswer, wordFinish, wordNext, wordLoad, wordInstance, wordCounts, wordMeans, means}
-use Rattle.session.specs.Texts.{newline, textBad, replyText, textRoom}
-use Rattle.session.specs.Session.{Said, outLeft, says, Leaves, response, responding}
+use Rattle.text.specs.Cutting.{newline}
+use Rattle.session.specs.Texts.{textBad, replyText, textRoom}
+use Rattle.session.specs.Session.{Said, outLeft, says, Prints, response, responding}
 
 -- ---- meanings
 
@@ -52,12 +53,12 @@ some-bad fs gs g q e = ap (λ (hs : List (List ℕ)). noField hs q) e
 -- ---- what is left
 
 module _ (space out text after : List ℕ) (end : ℕ) (m : Meaning) where
-  pub bad-leaves : m ≡ bad → Puts 0 textBad text end after → Leaves (says spaceStep m space out) text end after space
+  pub bad-leaves : m ≡ bad → Puts 0 textBad text end after → Prints (says spaceStep m space out) text end after space
   unfolding says
   bad-leaves e p = rw e (p, refl)
 
   pub asks-leaves : (q : Request) (x : Reply) (space′ : List ℕ) → m ≡ asks q → x ≡ spaceStep space q .reply → space′ ≡ spaceStep space q .state
-      → Puts 0 (replyText x (spaceStep space q .out)) text end after → Leaves (says spaceStep m space out) text end after space′
+      → Puts 0 (replyText x (spaceStep space q .out)) text end after → Prints (says spaceStep m space out) text end after space′
   unfolding says
   asks-leaves q x space′ e r s p = rw e (rw (← r) p, s)
 
@@ -71,7 +72,7 @@ module _ (space out : List ℕ) (m : Meaning) where
   asks-out q e = rw e refl
 
 pub leaves-alike : (space out text after space′ : List ℕ) (end : ℕ) (m n : Meaning) → m ≡ n
-    → Leaves (says spaceStep n space out) text end after space′ → Leaves (says spaceStep m space out) text end after space′
+    → Prints (says spaceStep n space out) text end after space′ → Prints (says spaceStep m space out) text end after space′
 leaves-alike space out text after space′ end m n e p = rw e p
 
 -- ---- the calls that leave out
@@ -193,7 +194,7 @@ module _ (line text space out after : List ℕ) (end : ℕ) where
       let zero-add : 0 + length (bytes ++ (newline ∷ [])) ≡ length (bytes ++ (newline ∷ [])) = omega arith in
       (sym n, whole ∙ sets-eq (bytes ++ (newline ∷ [])) text 0 (omega (arith, p .2)) ∙ ap (λ (j : ℕ). (bytes ++ (newline ∷ [])) ++ drop j text) zero-add)
 
-  pub response-line : (space′ out′ : List ℕ) → textRoom (length out) ≤ length text → Leaves answered text end after space′ → out′ ≡ answered .out
+  pub response-line : (space′ out′ : List ℕ) → textRoom (length out) ≤ length text → Prints answered text end after space′ → out′ ≡ answered .out
       → response (end + 1) (set after end newline) space′ out′ ≡ responding line text space out
   unfolding responding
   response-line space′ out′ h l o = rw (le-leb _ _ h, line-put (answered .text) (l .0) .0, line-put (answered .text) (l .0) .1, l .1, o)

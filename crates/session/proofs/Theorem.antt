@@ -13,7 +13,8 @@ use Rattle.space.specs.declared.FreshAnswer.the-variants.{Done}
 use Rattle.store.specs.Calls.{spaceStep}
 use Rattle.agreement.proofs.Theorem.{following}
 use Rattle.session.specs.Lines.{Meaning, bad, asks, means}
-use Rattle.session.specs.Texts.{newline, textBad, replyText}
+use Rattle.text.specs.Cutting.{newline}
+use Rattle.session.specs.Texts.{textBad, replyText}
 use Rattle.session.specs.Session.{outLeft, says, session, Printed}
 
 -- a list of calls and one call more

@@ -1,4 +1,6 @@
 pub mod Lines
 pub mod Texts
+pub mod Numbers
 pub mod Session
+pub mod Program
 pub mod Examples

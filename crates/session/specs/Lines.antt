@@ -6,29 +6,35 @@ use lib.ListN.{length}
 use Rattle.basis.specs.Choice.{pick}
 use Rattle.forms.specs.Compact.{same}
 use Rattle.plain.specs.Requests.{Request, call, answer, finish, next, load, instance, counts}
-use Rattle.text.specs.Fields.{Number, noNumber, number, Cells, noCells, cellsOf, Fields, fields, firstNumber, behind, hexCells, onlyNumber}
+use Rattle.text.specs.Letters.{letters}
+use Rattle.text.specs.Fields.{Number, noNumber, number, Cells, noCells, cellsOf}
+use Rattle.text.specs.Fields.{Fields, fields, firstNumber, behind, hexCells, onlyNumber}
 
 -- the seven words
 abbrev pub wordCall : List ℕ
-wordCall = 99 ∷ 97 ∷ 108 ∷ 108 ∷ []
+wordCall = letters "call"
 
 abbrev pub wordAnswer : List ℕ
-wordAnswer = 97 ∷ 110 ∷ 115 ∷ 119 ∷ 101 ∷ 114 ∷ []
+wordAnswer = letters "answer"
 
 abbrev pub wordFinish : List ℕ
-wordFinish = 102 ∷ 105 ∷ 110 ∷ 105 ∷ 115 ∷ 104 ∷ []
+wordFinish = letters "finish"
 
 abbrev pub wordNext : List ℕ
-wordNext = 110 ∷ 101 ∷ 120 ∷ 116 ∷ []
+wordNext = letters "next"
 
 abbrev pub wordLoad : List ℕ
-wordLoad = 108 ∷ 111 ∷ 97 ∷ 100 ∷ []
+wordLoad = letters "load"
 
 abbrev pub wordInstance : List ℕ
-wordInstance = 105 ∷ 110 ∷ 115 ∷ 116 ∷ 97 ∷ 110 ∷ 99 ∷ 101 ∷ []
+wordInstance = letters "instance"
 
 abbrev pub wordCounts : List ℕ
-wordCounts = 99 ∷ 111 ∷ 117 ∷ 110 ∷ 116 ∷ 115 ∷ []
+wordCounts = letters "counts"
+
+-- a line has at most so many bytes, its newline not counted
+abbrev pub longestLine : ℕ
+longestLine = 4096
 
 -- ---- meaning
 
@@ -60,17 +66,39 @@ abbrev pub noField : List (List ℕ) → Request → Meaning
 noField [] q = asks q
 noField (f ∷ fs) q = bad
 
--- by the first word; load and instance are lent out
+-- what the fields behind each word mean; load and instance are lent out
+abbrev pub meansCall : List (List ℕ) → Meaning
+meansCall fs = withCells (hexCells fs) call
+
+abbrev pub meansAnswer : List (List ℕ) → Meaning
+meansAnswer fs = numberAndCells fs answer
+
+abbrev pub meansFinish : List (List ℕ) → Meaning
+meansFinish fs = oneNumber fs finish
+
+abbrev pub meansNext : List (List ℕ) → Meaning
+meansNext fs = twoNumbers fs next
+
+abbrev pub meansLoad : List (List ℕ) → List ℕ → Meaning
+meansLoad fs out = oneNumber fs (λ a. load a out)
+
+abbrev pub meansInstance : List (List ℕ) → List ℕ → Meaning
+meansInstance fs out = oneNumber fs (λ a. instance a out)
+
+abbrev pub meansCounts : List (List ℕ) → Meaning
+meansCounts fs = noField fs counts
+
+-- by the first word
 unfoldable pub wordMeans : Fields → List ℕ → Meaning
 wordMeans r out =
-    pick (same (r .first) wordCall) (withCells (hexCells (r .others)) call)
-    (pick (same (r .first) wordAnswer) (numberAndCells (r .others) answer)
-    (pick (same (r .first) wordFinish) (oneNumber (r .others) finish)
-    (pick (same (r .first) wordNext) (twoNumbers (r .others) next)
-    (pick (same (r .first) wordLoad) (oneNumber (r .others) (λ a. load a out))
-    (pick (same (r .first) wordInstance) (oneNumber (r .others) (λ a. instance a out))
-    (pick (same (r .first) wordCounts) (noField (r .others) counts) bad))))))
+    pick (same (r .first) wordCall) (meansCall (r .others))
+    (pick (same (r .first) wordAnswer) (meansAnswer (r .others))
+    (pick (same (r .first) wordFinish) (meansFinish (r .others))
+    (pick (same (r .first) wordNext) (meansNext (r .others))
+    (pick (same (r .first) wordLoad) (meansLoad (r .others) out)
+    (pick (same (r .first) wordInstance) (meansInstance (r .others) out)
+    (pick (same (r .first) wordCounts) (meansCounts (r .others)) bad))))))
 
--- a line of over 4,096 bytes, its newline not counted, means nothing
+-- a line that is too long means nothing, however long it is
 unfoldable pub means : List ℕ → List ℕ → Meaning
-means line out = pick (leb (length line) 4096) (wordMeans (fields line) out) bad
+means line out = pick (leb (length line) longestLine) (wordMeans (fields line) out) bad

@@ -11,13 +11,11 @@ use Rattle.plain.specs.Table.{Table, fresh, step}
 use Rattle.space.specs.Fresh.{freshAnswerIn, freshSpaceIn}
 use Rattle.space.specs.declared.FreshAnswer.the-variants.{Done}
 use Rattle.store.specs.Calls.{spaceStep}
+use Rattle.text.specs.Cutting.{newline}
 use Rattle.text.specs.Digits.{Puts}
 use Rattle.session.specs.Lines.{Meaning, bad, asks, means}
-use Rattle.session.specs.Texts.{newline, textBad, replyText, textRoom}
-
--- the edition of the program's space
-abbrev pub sessionEdition : ℕ
-sessionEdition = 1
+use Rattle.session.specs.Texts.{textBad, replyText, textRoom}
+use Rattle.session.specs.Numbers.{sessionEdition}
 
 -- the line printed, its newline not counted, the table and out
 pub record Said (S : Type 0) : Type 0 where
@@ -51,9 +49,19 @@ session calls (line ∷ lines) s out =
 
 -- ---- the function that answers a line
 
--- the text with a line put at its start, the place behind the line, and the space
-abbrev pub Leaves : Said (List ℕ) → List ℕ → ℕ → List ℕ → List ℕ → Type 0
-Leaves r text end after space = Puts 0 (r .text) text end after × (space ≡ r .state)
+-- a line is printed at the start of the text, and the space is left: the text before, the place behind the line, the text
+-- and the space after
+abbrev pub Prints : Said (List ℕ) → List ℕ → ℕ → List ℕ → List ℕ → Type 0
+Prints r text end text′ space′ = Puts 0 (r .text) text end text′ × (space′ ≡ r .state)
+
+-- what a line's meaning asks for is done and printed, whatever out holds: the space and the text before, and so on
+abbrev pub Asked : Meaning → List ℕ → List ℕ → ℕ → List ℕ → List ℕ → Type 0
+Asked m space text end text′ space′ = (out : List ℕ) → Prints (says spaceStep m space out) text end text′ space′
+
+-- the same where out may be written
+abbrev pub AskedOut : Meaning → List ℕ → List ℕ → List ℕ → ℕ → List ℕ → List ℕ → List ℕ → Type 0
+AskedOut m space out text end text′ space′ out′ =
+    Prints (says spaceStep m space out) text end text′ space′ × (out′ ≡ says spaceStep m space out .out)
 
 -- how many bytes of the text are to be printed, and the text, the space and out after it
 pub record Response : Type 0 where

@@ -2,62 +2,76 @@
 use Prim.Native.Nat.{ℕ, _+_, _*_}
 use mathlib.Core.List.{List, [], _∷_, _++_}
 use lib.ListN.{take}
-use Rattle.plain.specs.Requests.{State, Open, Finished, Counts, Reply, new, oldSubgoal, oldAnswer, done, at, none, cells, used, refused, short}
-use Rattle.text.specs.Digits.{cellTexts, numbered}
-
-abbrev pub newline : ℕ
-newline = 10
+use Rattle.plain.specs.Requests.{State, Open, Finished, Counts}
+use Rattle.plain.specs.Requests.{Reply, new, oldSubgoal, oldAnswer, done, at, none, cells, used, refused, short}
+use Rattle.text.specs.Letters.{letters}
+use Rattle.text.specs.Fields.{space, cellDigits}
+use Rattle.text.specs.Digits.{cellTexts, numbered, Puts}
 
 abbrev pub textNew : List ℕ
-textNew = 110 ∷ 101 ∷ 119 ∷ []
+textNew = letters "new"
 
 abbrev pub textOld : List ℕ
-textOld = 111 ∷ 108 ∷ 100 ∷ []
+textOld = letters "old"
 
 abbrev pub textOpen : List ℕ
-textOpen = 111 ∷ 112 ∷ 101 ∷ 110 ∷ []
+textOpen = letters "open"
 
 abbrev pub textFinished : List ℕ
-textFinished = 102 ∷ 105 ∷ 110 ∷ 105 ∷ 115 ∷ 104 ∷ 101 ∷ 100 ∷ []
+textFinished = letters "finished"
 
 abbrev pub textDone : List ℕ
-textDone = 100 ∷ 111 ∷ 110 ∷ 101 ∷ []
+textDone = letters "done"
 
 abbrev pub textAt : List ℕ
-textAt = 97 ∷ 116 ∷ []
+textAt = letters "at"
 
 abbrev pub textNone : List ℕ
-textNone = 110 ∷ 111 ∷ 110 ∷ 101 ∷ []
+textNone = letters "none"
 
 abbrev pub textCells : List ℕ
-textCells = 99 ∷ 101 ∷ 108 ∷ 108 ∷ 115 ∷ []
+textCells = letters "cells"
 
 abbrev pub textCounts : List ℕ
-textCounts = 99 ∷ 111 ∷ 117 ∷ 110 ∷ 116 ∷ 115 ∷ []
+textCounts = letters "counts"
 
 abbrev pub textRefused : List ℕ
-textRefused = 114 ∷ 101 ∷ 102 ∷ 117 ∷ 115 ∷ 101 ∷ 100 ∷ []
+textRefused = letters "refused"
 
 abbrev pub textBad : List ℕ
-textBad = 98 ∷ 97 ∷ 100 ∷ []
+textBad = letters "bad"
 
 abbrev pub stateText : State → List ℕ
 stateText Open = textOpen
 stateText Finished = textFinished
 
--- the cells printed are those written to out; 12 prints no need
+abbrev pub countsText : ℕ → ℕ → ℕ → List ℕ
+countsText nodes subgoals answers = numbered (numbered (numbered textCounts nodes) subgoals) answers
+
+-- the refusal of an out that is too short
+abbrev pub refusedShort : ℕ
+refusedShort = 12
+
+-- the cells printed are those written to out; an out that is too short has its need not printed
 unfoldable pub replyText : Reply → List ℕ → List ℕ
 replyText (new n) out = numbered textNew n
-replyText (oldSubgoal n s) out = numbered textOld n ++ (32 ∷ stateText s)
+replyText (oldSubgoal n s) out = numbered textOld n ++ (space ∷ stateText s)
 replyText (oldAnswer n) out = numbered textOld n
 replyText done out = textDone
 replyText (at n) out = numbered textAt n
 replyText none out = textNone
 replyText (cells n) out = textCells ++ cellTexts (take n out)
-replyText (used y) out = numbered (numbered (numbered textCounts (y .nodes)) (y .subgoals)) (y .answers)
+replyText (used y) out = countsText (y .nodes) (y .subgoals) (y .answers)
 replyText (refused r) out = numbered textRefused r
-replyText (short n) out = numbered textRefused 12
+replyText (short n) out = numbered textRefused refusedShort
 
--- a reply has at most 9 bytes for each cell of out, and 64 besides
+-- the room for any reply and its newline: a space and 8 digits for each cell of out, and so many bytes besides
+abbrev pub replyBytes : ℕ
+replyBytes = 64
+
 abbrev pub textRoom : ℕ → ℕ
-textRoom n = 9 * n + 64
+textRoom n = (1 + cellDigits) * n + replyBytes
+
+-- a reply that prints no cells is printed at the start of a text, whatever out holds
+abbrev pub PrintsReply : Reply → List ℕ → ℕ → List ℕ → Type 0
+PrintsReply q text end text′ = (out : List ℕ) → Puts 0 (replyText q out) text end text′

@@ -18,24 +18,24 @@ use text::Numeral;
 use text::fields::first_number;
 use text::fields::only_number;
 use text::fields::read_cells;
-ghost use mathlib.Core.Path.{_≡_};
-ghost use mathlib.Core.List.{List};
-ghost use Prim.Native.Nat.{ℕ, _≤_};
+ghost use Prim.Native.Nat.{_≤_};
 ghost use lib.ListN.{length};
-ghost use Rattle.text.specs.Fields.{hexCells};
 ghost use Rattle.text.specs.Places.{restAt, Ends};
-ghost use Rattle.plain.specs.Requests as request;
-ghost use Rattle.store.specs.Calls.{spaceStep};
-ghost use Rattle.session.specs.Lines.{withCells, oneNumber, twoNumbers, numberAndCells, noField};
-ghost use Rattle.session.specs.Texts.{textRoom};
-ghost use Rattle.session.specs.Session.{says, Leaves};
+ghost use Rattle.session.specs.Lines.{longestLine, meansCall, meansAnswer, meansFinish, meansNext};
+ghost use Rattle.session.specs.Lines.{meansLoad, meansInstance, meansCounts};
+ghost use Rattle.session.specs.Texts.{replyBytes, textRoom};
+ghost use Rattle.session.specs.Session.{Asked, AskedOut};
 
-// call, with cells. A line of 4,096 bytes has room for 454.
+// Cells for all that a line of 4,096 bytes has room for: 9 bytes each.
+const LINE_CELLS: usize = 456;
+
+// call, with cells.
 pub fn ask_call(line: &[u8], at: usize, space: &mut [u32], text: &mut [u8]) -> usize
-    requires { ⌜ Ends (now line) at × (length (now line) ≤ 4096) × (64 ≤ length (now text)) ⌝ }
-    ensures { λ r. ⌜ ((out : List ℕ) → Leaves (says spaceStep (withCells (hexCells (restAt (now (line .entry)) at)) request.call) (now (space .entry)) out) (now (text .entry)) r (now (text .exit)) (now (space .exit))) ⌝ }
+    requires { ⌜ Ends (now line) at × (length (now line) ≤ longestLine) × (replyBytes ≤ length (now text)) ⌝ }
+    ensures { λ r. ⌜ Asked (meansCall (restAt (now (line .entry)) at)) (now (space .entry))
+        (now (text .entry)) r (now (text .exit)) (now (space .exit)) ⌝ }
 {
-    let mut cells = [0u32; 456];
+    let mut cells = [0u32; LINE_CELLS];
     let CellsRead::Cells(n) = read_cells(line, at, &mut cells) else {
         return print_bad(text);
     };
@@ -45,13 +45,14 @@ pub fn ask_call(line: &[u8], at: usize, space: &mut [u32], text: &mut [u8]) -> u
 
 // answer, with a number and cells.
 pub fn ask_answer(line: &[u8], at: usize, space: &mut [u32], text: &mut [u8]) -> usize
-    requires { ⌜ Ends (now line) at × (length (now line) ≤ 4096) × (64 ≤ length (now text)) ⌝ }
-    ensures { λ r. ⌜ ((out : List ℕ) → Leaves (says spaceStep (numberAndCells (restAt (now (line .entry)) at) request.answer) (now (space .entry)) out) (now (text .entry)) r (now (text .exit)) (now (space .exit))) ⌝ }
+    requires { ⌜ Ends (now line) at × (length (now line) ≤ longestLine) × (replyBytes ≤ length (now text)) ⌝ }
+    ensures { λ r. ⌜ Asked (meansAnswer (restAt (now (line .entry)) at)) (now (space .entry))
+        (now (text .entry)) r (now (text .exit)) (now (space .exit)) ⌝ }
 {
     let Numeral::Value(subgoal, end) = first_number(line, at) else {
         return print_bad(text);
     };
-    let mut cells = [0u32; 456];
+    let mut cells = [0u32; LINE_CELLS];
     let CellsRead::Cells(n) = read_cells(line, end, &mut cells) else {
         return print_bad(text);
     };
@@ -61,8 +62,9 @@ pub fn ask_answer(line: &[u8], at: usize, space: &mut [u32], text: &mut [u8]) ->
 
 // finish, with a number.
 pub fn ask_finish(line: &[u8], at: usize, space: &mut [u32], text: &mut [u8]) -> usize
-    requires { ⌜ Ends (now line) at × (64 ≤ length (now text)) ⌝ }
-    ensures { λ r. ⌜ ((out : List ℕ) → Leaves (says spaceStep (oneNumber (restAt (now (line .entry)) at) request.finish) (now (space .entry)) out) (now (text .entry)) r (now (text .exit)) (now (space .exit))) ⌝ }
+    requires { ⌜ Ends (now line) at × (replyBytes ≤ length (now text)) ⌝ }
+    ensures { λ r. ⌜ Asked (meansFinish (restAt (now (line .entry)) at)) (now (space .entry))
+        (now (text .entry)) r (now (text .exit)) (now (space .exit)) ⌝ }
 {
     let Numeral::Value(subgoal, _) = only_number(line, at) else {
         return print_bad(text);
@@ -73,8 +75,9 @@ pub fn ask_finish(line: &[u8], at: usize, space: &mut [u32], text: &mut [u8]) ->
 
 // next, with two numbers.
 pub fn ask_next(line: &[u8], at: usize, space: &[u32], text: &mut [u8]) -> usize
-    requires { ⌜ Ends (now line) at × (64 ≤ length (now text)) ⌝ }
-    ensures { λ r. ⌜ ((out : List ℕ) → Leaves (says spaceStep (twoNumbers (restAt (now (line .entry)) at) request.next) (now (space .entry)) out) (now (text .entry)) r (now (text .exit)) (now (space .entry))) ⌝ }
+    requires { ⌜ Ends (now line) at × (replyBytes ≤ length (now text)) ⌝ }
+    ensures { λ r. ⌜ Asked (meansNext (restAt (now (line .entry)) at)) (now (space .entry))
+        (now (text .entry)) r (now (text .exit)) (now (space .entry)) ⌝ }
 {
     let Numeral::Value(subgoal, end) = first_number(line, at) else {
         return print_bad(text);
@@ -89,7 +92,9 @@ pub fn ask_next(line: &[u8], at: usize, space: &[u32], text: &mut [u8]) -> usize
 // load, with a number. What was written to out is printed.
 pub fn ask_load(line: &[u8], at: usize, space: &[u32], out: &mut [u32], text: &mut [u8]) -> usize
     requires { ⌜ Ends (now line) at × (textRoom (length (now out)) ≤ length (now text)) ⌝ }
-    ensures { λ r. ⌜ Leaves (says spaceStep (oneNumber (restAt (now (line .entry)) at) (λ a. request.load a (now (out .entry)))) (now (space .entry)) (now (out .entry))) (now (text .entry)) r (now (text .exit)) (now (space .entry)) × (now (out .exit) ≡ says spaceStep (oneNumber (restAt (now (line .entry)) at) (λ a. request.load a (now (out .entry)))) (now (space .entry)) (now (out .entry)) .out) ⌝ }
+    ensures { λ r. ⌜ AskedOut (meansLoad (restAt (now (line .entry)) at) (now (out .entry)))
+        (now (space .entry)) (now (out .entry)) (now (text .entry)) r
+        (now (text .exit)) (now (space .entry)) (now (out .exit)) ⌝ }
 {
     let Numeral::Value(number, _) = only_number(line, at) else {
         return print_bad(text);
@@ -107,7 +112,9 @@ pub fn ask_instance(
     text: &mut [u8],
 ) -> usize
     requires { ⌜ Ends (now line) at × (textRoom (length (now out)) ≤ length (now text)) ⌝ }
-    ensures { λ r. ⌜ Leaves (says spaceStep (oneNumber (restAt (now (line .entry)) at) (λ a. request.instance a (now (out .entry)))) (now (space .entry)) (now (out .entry))) (now (text .entry)) r (now (text .exit)) (now (space .entry)) × (now (out .exit) ≡ says spaceStep (oneNumber (restAt (now (line .entry)) at) (λ a. request.instance a (now (out .entry)))) (now (space .entry)) (now (out .entry)) .out) ⌝ }
+    ensures { λ r. ⌜ AskedOut (meansInstance (restAt (now (line .entry)) at) (now (out .entry)))
+        (now (space .entry)) (now (out .entry)) (now (text .entry)) r
+        (now (text .exit)) (now (space .entry)) (now (out .exit)) ⌝ }
 {
     let Numeral::Value(number, _) = only_number(line, at) else {
         return print_bad(text);
@@ -118,8 +125,9 @@ pub fn ask_instance(
 
 // counts, with no field: the line ends behind the word.
 pub fn ask_counts(line: &[u8], at: usize, space: &[u32], text: &mut [u8]) -> usize
-    requires { ⌜ Ends (now line) at × (64 ≤ length (now text)) ⌝ }
-    ensures { λ r. ⌜ ((out : List ℕ) → Leaves (says spaceStep (noField (restAt (now (line .entry)) at) request.counts) (now (space .entry)) out) (now (text .entry)) r (now (text .exit)) (now (space .entry))) ⌝ }
+    requires { ⌜ Ends (now line) at × (replyBytes ≤ length (now text)) ⌝ }
+    ensures { λ r. ⌜ Asked (meansCounts (restAt (now (line .entry)) at)) (now (space .entry))
+        (now (text .entry)) r (now (text .exit)) (now (space .entry)) ⌝ }
 {
     if at < line.len() {
         return print_bad(text);

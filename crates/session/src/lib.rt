@@ -1,6 +1,7 @@
-// One line of a session in, one line out.
+// One line of a session in, one line out; and what the session program starts from.
 pub mod asking;
 pub mod replies;
+pub mod start;
 
 use asking::ask_answer;
 use asking::ask_call;
@@ -10,6 +11,7 @@ use asking::ask_instance;
 use asking::ask_load;
 use asking::ask_next;
 use replies::print_bad;
+use text::CELL_DIGITS;
 use text::fields::first_end;
 use text::fields::is_word;
 ghost use mathlib.Core.Path.{_≡_};
@@ -17,15 +19,23 @@ ghost use Prim.Native.Nat.{_≤_};
 ghost use lib.Dec.{leb};
 ghost use lib.ListN.{length};
 ghost use Rattle.text.specs.Fields.{fields};
-ghost use Rattle.store.specs.Calls.{spaceStep};
-ghost use Rattle.session.specs.Lines.{wordMeans, means};
+ghost use Rattle.session.specs.Lines.{longestLine, wordMeans, means};
 ghost use Rattle.session.specs.Texts.{textRoom};
-ghost use Rattle.session.specs.Session.{says, Leaves, response, responding};
+ghost use Rattle.session.specs.Session.{AskedOut, response, responding};
 
-// The reply to a line of at most 4,096 bytes, by its first word; without the newline.
+// A line that means something has at most so many bytes, its newline not counted.
+pub const LONGEST_LINE: usize = 4096;
+
+// A reply has at most so many bytes for each cell, and so many besides.
+pub const CELL_BYTES: usize = 1 + CELL_DIGITS;
+pub const REPLY_BYTES: usize = 64;
+
+// The reply to a line that is not too long, by its first word; without the newline.
 fn reply(line: &[u8], space: &mut [u32], out: &mut [u32], text: &mut [u8]) -> usize
-    requires { ⌜ (length (now line) ≤ 4096) × (textRoom (length (now out)) ≤ length (now text)) ⌝ }
-    ensures { λ r. ⌜ Leaves (says spaceStep (wordMeans (fields (now (line .entry))) (now (out .entry))) (now (space .entry)) (now (out .entry))) (now (text .entry)) r (now (text .exit)) (now (space .exit)) × (now (out .exit) ≡ says spaceStep (wordMeans (fields (now (line .entry))) (now (out .entry))) (now (space .entry)) (now (out .entry)) .out) ⌝ }
+    requires { ⌜ (length (now line) ≤ longestLine) × (textRoom (length (now out)) ≤ length (now text)) ⌝ }
+    ensures { λ r. ⌜ AskedOut (wordMeans (fields (now (line .entry))) (now (out .entry)))
+        (now (space .entry)) (now (out .entry)) (now (text .entry)) r
+        (now (text .exit)) (now (space .exit)) (now (out .exit)) ⌝ }
 {
     let at = first_end(line);
     if is_word(&line[..at], b"call") {
@@ -52,36 +62,39 @@ fn reply(line: &[u8], space: &mut [u32], out: &mut [u32], text: &mut [u8]) -> us
     print_bad(text)
 }
 
-// The same of a line of any length: one of over 4,096 bytes is not read.
+// The same of a line of any length: one that is too long is not read.
 fn reply_or_bad(line: &[u8], space: &mut [u32], out: &mut [u32], text: &mut [u8]) -> usize
     requires { ⌜ textRoom (length (now out)) ≤ length (now text) ⌝ }
-    ensures { λ r. ⌜ Leaves (says spaceStep (means (now (line .entry)) (now (out .entry))) (now (space .entry)) (now (out .entry))) (now (text .entry)) r (now (text .exit)) (now (space .exit)) × (now (out .exit) ≡ says spaceStep (means (now (line .entry)) (now (out .entry))) (now (space .entry)) (now (out .entry)) .out) ⌝ }
+    ensures { λ r. ⌜ AskedOut (means (now (line .entry)) (now (out .entry)))
+        (now (space .entry)) (now (out .entry)) (now (text .entry)) r
+        (now (text .exit)) (now (space .exit)) (now (out .exit)) ⌝ }
 {
-    if line.len() <= 4096 {
+    if line.len() <= LONGEST_LINE {
         return reply(line, space, out, text);
     }
     print_bad(text)
 }
 
-// Has the text room for any reply? Subtracted, since nine times a length could overflow.
+// Has the text room for any reply? Divided, since the bytes for so many cells could overflow.
 fn has_room(out: &[u32], text: &[u8]) -> bool
     ensures { λ r. ⌜ r ≡ leb (textRoom (length (now (out .entry)))) (length (now (text .entry))) ⌝ }
 {
-    if text.len() < 64 {
+    if text.len() < REPLY_BYTES {
         return false;
     }
-    out.len() <= (text.len() - 64) / 9
+    out.len() <= (text.len() - REPLY_BYTES) / CELL_BYTES
 }
 
 // Answers a line: what is to be printed stands at the start of text, with its newline, and its length
 // is returned. A text without room for any reply gets none.
 pub fn respond(line: &[u8], space: &mut [u32], out: &mut [u32], text: &mut [u8]) -> usize
-    ensures { λ r. ⌜ response r (now (text .exit)) (now (space .exit)) (now (out .exit)) ≡ responding (now (line .entry)) (now (text .entry)) (now (space .entry)) (now (out .entry)) ⌝ }
+    ensures { λ r. ⌜ response r (now (text .exit)) (now (space .exit)) (now (out .exit))
+        ≡ responding (now (line .entry)) (now (text .entry)) (now (space .entry)) (now (out .entry)) ⌝ }
     ensures { λ r. ⌜ r ≤ length (now (text .exit)) ⌝ }
 {
     if has_room(out, text) {
         let end = reply_or_bad(line, space, out, text);
-        text[end] = 10;
+        text[end] = b'\n';
         return end + 1;
     }
     0

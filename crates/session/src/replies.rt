@@ -7,22 +7,28 @@ use store::CountsAnswer;
 use store::FinishAnswer;
 use store::NextAnswer;
 use store::State;
+use text::DECIMAL;
 use text::digits::put;
 use text::digits::put_cells;
 use text::digits::put_field;
 use text::digits::put_numbered;
 ghost use mathlib.Core.Path.{_≡_};
-ghost use mathlib.Core.List.{List, _∷_};
+ghost use mathlib.Core.List.{_∷_};
 ghost use Prim.Native.Nat.{ℕ, _+_, _≤_, _<_};
 ghost use lib.ListN.{length};
 ghost use Rattle.plain.specs.Requests.{cells};
 ghost use Rattle.store.specs.Replies.{saidState, saidCall, saidAnswer, saidFinish, saidNext, saidCells, saidCounts};
+ghost use Rattle.text.specs.Fields.{space};
 ghost use Rattle.text.specs.Digits.{numbered, Puts};
-ghost use Rattle.session.specs.Texts.{textBad, textCounts, textRefused, stateText, replyText, textRoom};
+ghost use Rattle.session.specs.Texts.{textBad, textRefused, stateText, countsText};
+ghost use Rattle.session.specs.Texts.{replyText, replyBytes, textRoom, PrintsReply};
+
+// The refusal of an out that is too short.
+const REFUSED_SHORT: u32 = 12;
 
 // For a line that means nothing.
 pub fn print_bad(text: &mut [u8]) -> usize
-    requires { ⌜ 64 ≤ length (now text) ⌝ }
+    requires { ⌜ replyBytes ≤ length (now text) ⌝ }
     ensures { λ r. ⌜ Puts 0 textBad (now (text .entry)) r (now (text .exit)) ⌝ }
 {
     put(b"bad", text, 0)
@@ -30,7 +36,7 @@ pub fn print_bad(text: &mut [u8]) -> usize
 
 // A refusal prints its number alone, so one function serves every call.
 fn print_refused(number: u32, text: &mut [u8]) -> usize
-    requires { ⌜ 64 ≤ length (now text) ⌝ }
+    requires { ⌜ replyBytes ≤ length (now text) ⌝ }
     ensures { λ r. ⌜ Puts 0 (numbered textRefused number) (now (text .entry)) r (now (text .exit)) ⌝ }
 {
     put_numbered(b"refused", number, text, 0)
@@ -39,7 +45,7 @@ fn print_refused(number: u32, text: &mut [u8]) -> usize
 // The state stands behind the number of an old subgoal, with its space.
 fn put_state(state: State, text: &mut [u8], at: usize) -> usize
     requires { ⌜ at + 9 < length (now text) ⌝ }
-    ensures { λ r. ⌜ Puts at (32 ∷ stateText (saidState state)) (now (text .entry)) r (now (text .exit)) ⌝ }
+    ensures { λ r. ⌜ Puts at (space ∷ stateText (saidState state)) (now (text .entry)) r (now (text .exit)) ⌝ }
 {
     match state {
         State::Open => return put(b" open", text, at),
@@ -49,8 +55,8 @@ fn put_state(state: State, text: &mut [u8], at: usize) -> usize
 
 // Only an old subgoal has its state printed.
 pub fn print_call(answer: CallAnswer, text: &mut [u8]) -> usize
-    requires { ⌜ 64 ≤ length (now text) ⌝ }
-    ensures { λ r. ⌜ ((out : List ℕ) → Puts 0 (replyText (saidCall answer) out) (now (text .entry)) r (now (text .exit))) ⌝ }
+    requires { ⌜ replyBytes ≤ length (now text) ⌝ }
+    ensures { λ r. ⌜ PrintsReply (saidCall answer) (now (text .entry)) r (now (text .exit)) ⌝ }
 {
     match answer {
         CallAnswer::New(n) => return put_numbered(b"new", n, text, 0),
@@ -64,8 +70,8 @@ pub fn print_call(answer: CallAnswer, text: &mut [u8]) -> usize
 
 // An old answer has no state.
 pub fn print_answer(answer: AnswerAnswer, text: &mut [u8]) -> usize
-    requires { ⌜ 64 ≤ length (now text) ⌝ }
-    ensures { λ r. ⌜ ((out : List ℕ) → Puts 0 (replyText (saidAnswer answer) out) (now (text .entry)) r (now (text .exit))) ⌝ }
+    requires { ⌜ replyBytes ≤ length (now text) ⌝ }
+    ensures { λ r. ⌜ PrintsReply (saidAnswer answer) (now (text .entry)) r (now (text .exit)) ⌝ }
 {
     match answer {
         AnswerAnswer::New(n) => return put_numbered(b"new", n, text, 0),
@@ -76,8 +82,8 @@ pub fn print_answer(answer: AnswerAnswer, text: &mut [u8]) -> usize
 
 // A subgoal that was finished before prints the same.
 pub fn print_finish(answer: FinishAnswer, text: &mut [u8]) -> usize
-    requires { ⌜ 64 ≤ length (now text) ⌝ }
-    ensures { λ r. ⌜ ((out : List ℕ) → Puts 0 (replyText (saidFinish answer) out) (now (text .entry)) r (now (text .exit))) ⌝ }
+    requires { ⌜ replyBytes ≤ length (now text) ⌝ }
+    ensures { λ r. ⌜ PrintsReply (saidFinish answer) (now (text .entry)) r (now (text .exit)) ⌝ }
 {
     match answer {
         FinishAnswer::Done => return put(b"done", text, 0),
@@ -87,8 +93,8 @@ pub fn print_finish(answer: FinishAnswer, text: &mut [u8]) -> usize
 
 // The number of the answer, or none where there are no more.
 pub fn print_next(answer: NextAnswer, text: &mut [u8]) -> usize
-    requires { ⌜ 64 ≤ length (now text) ⌝ }
-    ensures { λ r. ⌜ ((out : List ℕ) → Puts 0 (replyText (saidNext answer) out) (now (text .entry)) r (now (text .exit))) ⌝ }
+    requires { ⌜ replyBytes ≤ length (now text) ⌝ }
+    ensures { λ r. ⌜ PrintsReply (saidNext answer) (now (text .entry)) r (now (text .exit)) ⌝ }
 {
     match answer {
         NextAnswer::At(n) => return put_numbered(b"at", n, text, 0),
@@ -99,18 +105,19 @@ pub fn print_next(answer: NextAnswer, text: &mut [u8]) -> usize
 
 // Nodes, subgoals and answers used, in this order.
 fn print_used(used: Counts, text: &mut [u8]) -> usize
-    requires { ⌜ 64 ≤ length (now text) ⌝ }
-    ensures { λ r. ⌜ Puts 0 (numbered (numbered (numbered textCounts (used .nodes)) (used .subgoals)) (used .answers)) (now (text .entry)) r (now (text .exit)) ⌝ }
+    requires { ⌜ replyBytes ≤ length (now text) ⌝ }
+    ensures { λ r. ⌜ Puts 0 (countsText (used .nodes) (used .subgoals) (used .answers))
+        (now (text .entry)) r (now (text .exit)) ⌝ }
 {
     let nodes_end = put_numbered(b"counts", used.nodes, text, 0);
-    let subgoals_end = put_field(used.subgoals, 10, 1, text, nodes_end);
-    put_field(used.answers, 10, 1, text, subgoals_end)
+    let subgoals_end = put_field(used.subgoals, DECIMAL, 1, text, nodes_end);
+    put_field(used.answers, DECIMAL, 1, text, subgoals_end)
 }
 
 // What is used is printed, no capacity.
 pub fn print_counts(answer: CountsAnswer, text: &mut [u8]) -> usize
-    requires { ⌜ 64 ≤ length (now text) ⌝ }
-    ensures { λ r. ⌜ ((out : List ℕ) → Puts 0 (replyText (saidCounts answer) out) (now (text .entry)) r (now (text .exit))) ⌝ }
+    requires { ⌜ replyBytes ≤ length (now text) ⌝ }
+    ensures { λ r. ⌜ PrintsReply (saidCounts answer) (now (text .entry)) r (now (text .exit)) ⌝ }
 {
     match answer {
         CountsAnswer::Used(used) => return print_used(used, text),
@@ -123,7 +130,8 @@ pub fn print_counts(answer: CountsAnswer, text: &mut [u8]) -> usize
 pub fn print_cells(answer: Answer, out: &[u32], text: &mut [u8]) -> usize
     requires { ⌜ textRoom (length (now out)) ≤ length (now text) ⌝ }
     requires { ⌜ ((n : ℕ) → saidCells answer ≡ cells n → n ≤ length (now out)) ⌝ }
-    ensures { λ r. ⌜ Puts 0 (replyText (saidCells answer) (now (out .entry))) (now (text .entry)) r (now (text .exit)) ⌝ }
+    ensures { λ r. ⌜ Puts 0 (replyText (saidCells answer) (now (out .entry)))
+        (now (text .entry)) r (now (text .exit)) ⌝ }
 {
     match answer {
         Answer::Cells(n) => {
@@ -131,6 +139,6 @@ pub fn print_cells(answer: Answer, out: &[u32], text: &mut [u8]) -> usize
             return put_cells(out, n, text, end);
         }
         Answer::Refused(r) => return print_refused(r, text),
-        Answer::Short(_) => return print_refused(12, text),
+        Answer::Short(_) => return print_refused(REFUSED_SHORT, text),
     }
 }

@@ -1,8 +1,17 @@
-// The session program: reads calls from standard input, a line each, and prints a line for each.
+// The session program: reads calls from standard input, a line each, and prints a line for each. It reads, calls
+// `take_line` and `respond`, and writes; crates/session/specs/Program.antt says what these calls come to.
+use libc::STDERR_FILENO;
 use libc::STDIN_FILENO;
 use libc::STDOUT_FILENO;
 use session::respond;
-use space::fresh::fresh;
+use session::start::new_line;
+use session::start::new_out;
+use session::start::new_space;
+use session::start::new_text;
+use session::start::start;
+use space::FreshAnswer;
+use text::Taking;
+use text::lines::take_line;
 ghost use Prim.Native.Nat.{_≤_};
 ghost use lib.ListN.{length};
 ghost use Rattle.tables.specs.Progress.{Within};
@@ -23,10 +32,9 @@ fn answer(line: &[u8], space: &mut [u32], out: &mut [u32], text: &mut [u8]) -> b
     is_written
 }
 
-// Takes a byte behind the kept ones of its line. Of a line that is too long one byte more than the limit
-// is kept, which makes it bad.
-fn take_byte(
-    b: u8,
+// Answers the lines that end in a chunk.
+fn take_chunk(
+    chunk: &[u8],
     line: &mut [u8],
     kept: usize,
     space: &mut [u32],
@@ -36,41 +44,23 @@ fn take_byte(
     requires { ⌜ kept ≤ length (now line) ⌝ }
     ensures { λ r. ⌜ Within r (length (now (line .entry))) ⌝ }
 {
-    if b == b'\n' {
-        if answer(&line[..kept], space, out, text) {
-            return Progress::Kept(0);
-        }
-        return Progress::Over;
-    }
-    if kept < line.len() {
-        line[kept] = b;
-        return Progress::Kept(kept + 1);
-    }
-    Progress::Kept(kept)
-}
-
-// Takes all bytes that were read.
-fn take_bytes(
-    read: &[u8],
-    line: &mut [u8],
-    kept: usize,
-    space: &mut [u32],
-    out: &mut [u32],
-    text: &mut [u8],
-) -> Progress
-    requires { ⌜ kept ≤ length (now line) ⌝ }
-    ensures { λ r. ⌜ Within r (length (now (line .entry))) ⌝ }
-{
-    let mut now_kept = kept;
-    let mut i = 0;
-    while i < read.len() {
-        let Progress::Kept(n) = take_byte(read[i], line, now_kept, space, out, text) else {
-            return Progress::Over;
+    let mut at = 0;
+    let mut n = kept;
+    while at < chunk.len() {
+        let taken = take_line(chunk, at, line, n);
+        let Taking::Line(next, end) = taken else {
+            match taken {
+                Taking::More(k) => return Progress::Kept(k),
+                Taking::Line(_, _) => return Progress::Over,
+            }
         };
-        now_kept = n;
-        i += 1;
+        if !answer(&line[..end], space, out, text) {
+            return Progress::Over;
+        }
+        at = next;
+        n = 0;
     }
-    Progress::Kept(now_kept)
+    Progress::Kept(n)
 }
 
 // Reads once. At the end of the input a line without newline counts if it is not empty; a line that
@@ -98,7 +88,7 @@ fn read_some(
         return Progress::Over;
     }
     let n = io::count(got, read);
-    take_bytes(&read[..n], line, kept, space, out, text)
+    take_chunk(&read[..n], line, kept, space, out, text)
 }
 
 // Reads to the end. A proved loop has to end, and nothing says that the input does, so the loop counts
@@ -115,14 +105,16 @@ fn run(read: &mut [u8], line: &mut [u8], space: &mut [u32], out: &mut [u32], tex
     }
 }
 
-// The lengths: 8 + 5 * 1000 + 6 * 50 + 3 * 100 cells; a line's limit and one byte; 9 bytes for each cell
-// of out and 64 besides.
+// The table is never refused (`start-done` in crates/session/proofs/ProgramLaws.antt); it is looked at all the same.
 fn main() {
-    let mut space = [0u32; 5608];
-    let mut out = [0u32; 8192];
-    let mut text = [0u8; 73792];
-    let mut line = [0u8; 4097];
+    let mut space = new_space();
+    let FreshAnswer::Done = start(&mut space) else {
+        io::write_all(STDERR_FILENO, b"no table could be made\n");
+        return;
+    };
+    let mut out = new_out();
+    let mut text = new_text();
+    let mut line = new_line();
     let mut read = io::large_buffer();
-    fresh(&mut space, 1000, 50, 100, 1);
     run(&mut read, &mut line, &mut space, &mut out, &mut text);
 }

@@ -79,7 +79,7 @@ module _ (line begun : List ℕ) (kept b : ℕ) (k : Keeps line kept begun) wher
 -- ---- a step, byte by byte
 
 module _ (chunk bs : List ℕ) (at b : ℕ) (e : b ∷ bs ≡ drop at chunk) where
-  rest-behind : bs ≡ drop (at + 1) chunk
+  pub rest-behind : bs ≡ drop (at + 1) chunk
   rest-behind = ap (drop 1) e ∙ drop-drop 1 at chunk
 
   rest-within : at < length chunk

@@ -10,7 +10,7 @@ use Rattle.io.proofs.count.Reads as count-reads
 use Rattle.libc.proofs.read.Reads as read-reads
 use Rattle.os.proofs.fail.Reads as fail-reads
 use Rattle.tables.proofs.answer.Reads as answer-reads
-use Rattle.tables.proofs.take_bytes.Reads as take-bytes-reads
+use Rattle.tables.proofs.take_chunk.Reads as take-chunk-reads
 
 read-requires : tie.Need-read-requires
 read-requires c κs = search needs
@@ -63,14 +63,14 @@ returns-3 c = search needs
 count-requires : tie.Need-count-requires
 count-requires c κs = search needs
 
-slice-reshare-prefix-take-bytes : tie.Need-slice-reshare-prefix-take-bytes
-slice-reshare-prefix-take-bytes c = search needs
+slice-reshare-prefix-take-chunk : tie.Need-slice-reshare-prefix-take-chunk
+slice-reshare-prefix-take-chunk c = search needs
 
-slice-aggregate-take-bytes : tie.Need-slice-aggregate-take-bytes
-slice-aggregate-take-bytes c = search needs
+slice-aggregate-take-chunk : tie.Need-slice-aggregate-take-chunk
+slice-aggregate-take-chunk c = search needs
 
-take-bytes-requires : tie.Need-take-bytes-requires
-take-bytes-requires c κs = search needs
+take-chunk-requires : tie.Need-take-chunk-requires
+take-chunk-requires c κs = search needs
 
 same-length-8 : tie.Need-same-length-8
 same-length-8 c = search needs
@@ -111,9 +111,9 @@ read-some-spec =
     same-length-7
     returns-3
     count-requires
-    slice-reshare-prefix-take-bytes
-    slice-aggregate-take-bytes
-    take-bytes-requires
+    slice-reshare-prefix-take-chunk
+    slice-aggregate-take-chunk
+    take-chunk-requires
     same-length-8
     same-length-9
     same-length-10
