@@ -47,18 +47,16 @@ fn take_chunk(
     let mut at = 0;
     let mut n = kept;
     while at < chunk.len() {
-        let taken = take_line(chunk, at, line, n);
-        let Taking::Line(next, end) = taken else {
-            match taken {
-                Taking::More(k) => return Progress::Kept(k),
-                Taking::Line(_, _) => return Progress::Over,
+        match take_line(chunk, at, line, n) {
+            Taking::More(k) => return Progress::Kept(k),
+            Taking::Line(next, end) => {
+                if !answer(&line[..end], space, out, text) {
+                    return Progress::Over;
+                }
+                at = next;
+                n = 0;
             }
-        };
-        if !answer(&line[..end], space, out, text) {
-            return Progress::Over;
         }
-        at = next;
-        n = 0;
     }
     Progress::Kept(n)
 }
