@@ -34,7 +34,7 @@ use Rattle.session.specs.Lines.{Meaning, bad, asks, withCells, withNumbe
 use Rattle.session.specs.Texts.{textRoom}
 use Rattle.session.specs.Numbers.{sessionEdition, sessionNodes, sessionSubgoals, sessionAnswers, spaceCells, startAnswer, startSpace}
 use Rattle.session.specs.Session.{Said, outLeft, says, session, Response, responding, cellSession}
-use Rattle.session.specs.Program.{responses, Responded, Held, Turn, turn, withLine, answersLine, keepsByte, feed, lastPrinted, runs, goesOn, TurnByTurn, Ready, starts, AnyInput, Sessions}
+use Rattle.session.specs.Program.{responses, Responded, Held, Turn, turn, withLine, answersLine, keepsByte, feed, lastPrinted, runs, goesOn, TurnByTurn, Ready, starts, AnyInput, Lengths, Started, Sessions}
 use Rattle.session.proofs.AskingLaws.{means-short, means-long}
 use Rattle.session.proofs.Theorem.{printed}
 
@@ -170,8 +170,8 @@ means-cut line out most h =
     by-cases (leb (length line) most)
     (λ t. ap (λ (l : List ℕ). means l out) (take-all most line (leb-true (length line) most t)))
     (λ t. let more = leb-false (length line) most t in
-        let cut : length (take most line) ≡ most = length-take-le most line (omega (arith, more)) in
-        means-long (take most line) out (omega arith) ∙ sym (means-long line out (omega (arith, more))))
+    let cut : length (take most line) ≡ most = length-take-le most line (omega (arith, more)) in
+    means-long (take most line) out (omega arith) ∙ sym (means-long line out (omega (arith, more))))
 
 -- ---- chunks
 
@@ -285,18 +285,18 @@ fed [] p begun k ready = unfold feed linesFrom in last-line p begun k ready
 fed (b ∷ bs) p begun k ready =
     by-cases (eqb b newline)
     (λ t.
-        let h = answersLine p .holds in
-        rw (feed-end bs p b t, lines-end begun bs b t)
-        (joins (answersLine p .printed) (feed bs h .printed) (lastPrinted (feed bs h .holds)) (line-said p begun k ready .text)
-        (session spaceStep (allLines (linesFrom [] bs))) (h .space) (line-said p begun k ready .state) (h .out) (line-said p begun k ready .out)
-        (line-printed p begun k ready)
-        (fed bs h [] (keeps-none (p .line)) (line-ready p begun k ready))
-        (line-space p begun k ready) (line-out p begun k ready)
-        ∙ session-line begun (allLines (linesFrom [] bs)) (p .space) (p .out)))
+    let h = answersLine p .holds in
+    rw (feed-end bs p b t, lines-end begun bs b t)
+    (joins (answersLine p .printed) (feed bs h .printed) (lastPrinted (feed bs h .holds)) (line-said p begun k ready .text)
+    (session spaceStep (allLines (linesFrom [] bs))) (h .space) (line-said p begun k ready .state) (h .out) (line-said p begun k ready .out)
+    (line-printed p begun k ready)
+    (fed bs h [] (keeps-none (p .line)) (line-ready p begun k ready))
+    (line-space p begun k ready) (line-out p begun k ready)
+    ∙ session-line begun (allLines (linesFrom [] bs)) (p .space) (p .out)))
     (λ t.
-        rw (feed-on bs p b t, lines-on begun bs b t)
-        (fed bs (keepsByte b p .holds) (begun ++ (b ∷ [])) (keeps-more (p .line) begun (p .kept) b k)
-        (record { longer = rw (length-set (p .line) (p .kept) b) (ready .longer); room = ready .room })))
+    rw (feed-on bs p b t, lines-on begun bs b t)
+    (fed bs (keepsByte b p .holds) (begun ++ (b ∷ [])) (keeps-more (p .line) begun (p .kept) b k)
+    (record { longer = rw (length-set (p .line) (p .kept) b) (ready .longer); room = ready .room })))
 
 pub any-input : AnyInput
 any-input chunks line text space out ready =
@@ -305,14 +305,18 @@ any-input chunks line text space out ready =
 
 -- ---- the program's numbers
 
-start-done : (s : List ℕ) → length s ≡ spaceCells → startAnswer s ≡ Done
+pub started : Started
 unfolding knownEdition freshAnswerIn freshAnswer freshFits inRange subgoalWidth answerWidth
-start-done s e = rw e
+started s e = rw e
+
+ready : (line text space out : List ℕ) → Lengths line text space out → Ready line text out
+ready line text space out l =
+    record { longer = omega (arith, l .of-line); room = omega (arith, l .of-text, l .of-out) }
 
 pub sessions : Sessions
-sessions chunks line text space out ready e =
-    any-input chunks line text (startSpace space) out ready
-    ∙ printed sessionNodes sessionSubgoals sessionAnswers space (linesOf (joined chunks)) out (start-done space e)
+sessions chunks line text space out l =
+    any-input chunks line text (startSpace space) out (ready line text space out l)
+    ∙ printed sessionNodes sessionSubgoals sessionAnswers space (linesOf (joined chunks)) out (started space (l .of-space))
 
 -- ---- the program's turns
 
@@ -328,15 +332,15 @@ turns [] chunk at p e = unfold feed taking in refl
 turns (b ∷ bs) chunk at p e =
     by-cases (eqb b newline)
     (λ t.
-        rw (feed-end bs p b t, taking-end bs (p .line) at (p .kept) b t)
-        (ap (λ (l : List ℕ). then (answersLine p) (feed l)) (rest-behind chunk bs at b e)))
+    rw (feed-end bs p b t, taking-end bs (p .line) at (p .kept) b t)
+    (ap (λ (l : List ℕ). then (answersLine p) (feed l)) (rest-behind chunk bs at b e)))
     (λ t.
-        let line = set (p .line) (p .kept) b in
-        let kept = keptMore (p .line) (p .kept) in
-        let r = taking bs (at + 1) line kept in
-        rw (feed-on bs p b t, taking-on bs (p .line) at (p .kept) b t)
-        (turns bs chunk (at + 1) (withLine p line kept) (rest-behind chunk bs at b e)
-        ∙ goes-alike chunk p line kept (r .line) (r .answer)))
+    let line = set (p .line) (p .kept) b in
+    let kept = keptMore (p .line) (p .kept) in
+    let r = taking bs (at + 1) line kept in
+    rw (feed-on bs p b t, taking-on bs (p .line) at (p .kept) b t)
+    (turns bs chunk (at + 1) (withLine p line kept) (rest-behind chunk bs at b e)
+    ∙ goes-alike chunk p line kept (r .line) (r .answer)))
 
 pub turn-by-turn : TurnByTurn
 turn-by-turn chunk at p = turns (drop at chunk) chunk at p refl

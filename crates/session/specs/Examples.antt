@@ -101,6 +101,15 @@ sessionText =
 
 -- over a space that it fills, and an out of 7 cells
 pub worked :
-    cellSession (linesOf sessionInput) (freshSpaceIn sessionEdition 11 1 2 (replicate 75 9)) (replicate 7 0) ≡ sessionText
-unfolding linesFrom session says means wordMeans fields valueFrom numeral hexCells replyText digitsBefore cellTexts lent inRange capacity counted knownEdition headerOf spaceHeader subgoalWidth answerWidth freshCells freshFits freshSpace freshSpaceIn follows nodeSound bothOrNeither subgoalSound answerSound searchSiblings searchChildren walkFrom walk gather leadCell appendNode appendPath calledOld calledNew calledAt called answeredNew answeredOld answeredAt answered starting handed onward onPath loaded instanced decide subgoalEntered answerEntered change reply outAfter under underAny spaceStep areForms legalForm judged handedOn reading callable predicate compacted substituted compactForm areTerms pairForm formTerms front symbolic tokenOf items entered filled lastOf tailOf into inside collected reads begun applied paired shapeOf arityOf every compact elements pairs numbered renamed met seen rank same whole
+    cellSession (linesOf sessionInput) (freshSpaceIn sessionEdition 11 1 2 (replicate 75 9)) (replicate 7 0)
+    ≡ sessionText
+unfolding linesFrom session says means wordMeans fields valueFrom numeral hexCells replyText digitsBefore cellTexts
+    lent inRange capacity counted knownEdition headerOf spaceHeader subgoalWidth answerWidth freshCells freshFits
+    freshSpace freshSpaceIn follows nodeSound bothOrNeither subgoalSound answerSound searchSiblings searchChildren
+    walkFrom walk gather leadCell appendNode appendPath calledOld calledNew calledAt called answeredNew answeredOld
+    answeredAt answered starting handed onward onPath loaded instanced decide subgoalEntered answerEntered change
+    reply outAfter under underAny spaceStep areForms legalForm judged handedOn reading callable predicate compacted
+    substituted compactForm areTerms pairForm formTerms front symbolic tokenOf items entered filled lastOf tailOf
+    into inside collected reads begun applied paired shapeOf arityOf every compact elements pairs numbered renamed
+    met seen rank same whole
 worked = refl

@@ -1,23 +1,26 @@
--- The session program, as its calls of two functions come to: line after line, and byte after byte of what it reads. The
--- program itself reads, makes these calls and writes.
-use Prim.Native.Nat.{ℕ, _+_, _≤_, _<_}
+-- What the session program's calls of two functions come to: line after line, and byte after byte of what it reads.
+-- The program itself reads, makes these calls and writes.
+use Prim.Native.Nat.{ℕ, _≤_, _<_}
 use mathlib.Core.List.{List, [], _∷_, _++_}
 use mathlib.Core.Path.{_≡_}
 use lib.Dec.{eqb}
 use lib.ListN.{length, take, drop, set}
 use Rattle.basis.specs.Choice.{pick}
 use Rattle.plain.specs.Table.{fresh}
+use Rattle.space.specs.declared.FreshAnswer.the-variants.{Done}
 use Rattle.text.specs.Cutting.{newline, linesOf, joined, keptMore, taking}
 use Rattle.text.specs.declared.Taking.{Taking}
 use Rattle.text.specs.declared.Taking.the-variants.{Line, More}
 use Rattle.session.specs.Lines.{longestLine}
 use Rattle.session.specs.Texts.{textRoom}
-use Rattle.session.specs.Numbers.{sessionNodes, sessionSubgoals, sessionAnswers, spaceCells, startSpace}
+use Rattle.session.specs.Numbers.{sessionNodes, sessionSubgoals, sessionAnswers, startAnswer, startSpace}
+use Rattle.session.specs.Numbers.{spaceCells, outCells, textBytes, lineBytes}
 use Rattle.session.specs.Session.{responding, cellSession, plainSession}
 
 -- ---- line after line
 
--- what is printed where each line is answered by `responding`, with the text, the space and out that the one before left
+-- what is printed where each line is answered by `responding`, with the text, the space and out that the line before
+-- left
 unfoldable pub responses : List (List ℕ) → List ℕ → List ℕ → List ℕ → List ℕ
 responses [] text space out = []
 responses (line ∷ lines) text space out =
@@ -81,8 +84,8 @@ runs (c ∷ cs) p =
     let now = feed c p in
     now .printed ++ runs cs (now .holds)
 
--- The program's turns through a chunk are `feed` of it: `take_line` goes on to the next newline, the line taken is answered,
--- and the chunk goes on behind it; or the chunk ends.
+-- The program's turns through a chunk are `feed` of it: `take_line` goes on to the next newline, the line taken is
+-- answered, and the chunk goes on behind it; or the chunk ends.
 abbrev pub goesOn : List ℕ → Held → List ℕ → Taking → Turn
 goesOn chunk p line (Line next n) =
     let now = answersLine (withLine p line n) in
@@ -93,15 +96,17 @@ goesOn chunk p line (More n) = turn [] (withLine p line n)
 abbrev pub TurnByTurn : Type 0
 TurnByTurn =
     (chunk : List ℕ) (at : ℕ) (p : Held)
-    → (let r = taking (drop at chunk) at (p .line) (p .kept) in feed (drop at chunk) p ≡ goesOn chunk p (r .line) (r .answer))
+    → (let r = taking (drop at chunk) at (p .line) (p .kept) in
+    feed (drop at chunk) p ≡ goesOn chunk p (r .line) (r .answer))
 
 -- ---- what the program prints
 
--- an empty line begun, a buffer longer than any line that means something, and a text with room for any reply
+-- a buffer longer than any line that means something, and a text with room for any reply
 pub record Ready (line text out : List ℕ) : Type 0 where
   pub longer : longestLine < length line
   pub room : textRoom (length out) ≤ length text
 
+-- no line has begun
 abbrev pub starts : List ℕ → List ℕ → List ℕ → List ℕ → Held
 starts line text space out = record { line = line; kept = 0; text = text; space = space; out = out }
 
@@ -111,9 +116,20 @@ AnyInput =
     (chunks : List (List ℕ)) (line text space out : List ℕ) → Ready line text out
     → runs chunks (starts line text space out) ≡ cellSession (linesOf (joined chunks)) space out
 
--- with the program's numbers it prints what the plain table would
+-- the lengths of what the program holds
+pub record Lengths (line text space out : List ℕ) : Type 0 where
+  pub of-line : length line ≡ lineBytes
+  pub of-text : length text ≡ textBytes
+  pub of-space : length space ≡ spaceCells
+  pub of-out : length out ≡ outCells
+
+-- with the program's numbers its table is made
+abbrev pub Started : Type 0
+Started = (space : List ℕ) → length space ≡ spaceCells → startAnswer space ≡ Done
+
+-- and it prints what the plain table would
 abbrev pub Sessions : Type 0
 Sessions =
-    (chunks : List (List ℕ)) (line text space out : List ℕ) → Ready line text out → length space ≡ spaceCells
+    (chunks : List (List ℕ)) (line text space out : List ℕ) → Lengths line text space out
     → runs chunks (starts line text (startSpace space) out)
     ≡ plainSession (linesOf (joined chunks)) (fresh sessionNodes sessionSubgoals sessionAnswers) out

@@ -26,8 +26,10 @@ ghost use Rattle.session.specs.Session.{AskedOut, response, responding};
 // A line that means something has at most so many bytes, its newline not counted.
 pub const LONGEST_LINE: usize = 4096;
 
-// A reply has at most so many bytes for each cell, and so many besides.
+// A cell is printed with a space before it.
 pub const CELL_BYTES: usize = 1 + CELL_DIGITS;
+
+// Besides its cells a reply has fewer bytes than this.
 pub const REPLY_BYTES: usize = 64;
 
 // The reply to a line that is not too long, by its first word; without the newline.

@@ -8,16 +8,28 @@ ghost use mathlib.Core.Path.{_≡_};
 ghost use lib.ListN.{length};
 ghost use Rattle.session.specs.Numbers.{spaceCells, outCells, textBytes, lineBytes, startAnswer, startSpace};
 
-// The table's edition, and its capacities.
+// The table's edition.
 const EDITION: u32 = 1;
+
+// The capacity N.
 const NODES: u32 = 1000;
+
+// The capacity F.
 const SUBGOALS: u32 = 50;
+
+// The capacity A.
 const ANSWERS: u32 = 100;
 
-// The lengths: a space of those capacities, out, a text with room for any reply, and a byte more than the longest line.
+// All that a table of these capacities takes: 8 + 5 N + 6 F + 3 A.
 pub const SPACE_CELLS: usize = 5608;
+
+// The longest instance that is printed.
 pub const OUT_CELLS: usize = 8192;
+
+// Room for any reply.
 pub const TEXT_BYTES: usize = CELL_BYTES * OUT_CELLS + REPLY_BYTES;
+
+// A byte more than the longest line, so that a longer one shows.
 pub const LINE_BYTES: usize = LONGEST_LINE + 1;
 
 // Makes the table.

@@ -103,7 +103,8 @@ fn run(read: &mut [u8], line: &mut [u8], space: &mut [u32], out: &mut [u32], tex
     }
 }
 
-// The table is never refused (`start-done` in crates/session/proofs/ProgramLaws.antt); it is looked at all the same.
+// A table in a space of this length is never refused (`Started` in crates/session/specs/Program.antt); what `start`
+// answers is looked at all the same.
 fn main() {
     let mut space = new_space();
     let FreshAnswer::Done = start(&mut space) else {

@@ -107,11 +107,11 @@ cuts-all [] chunk at line kept begun e k = unfold taking linesFrom in (refl, k)
 cuts-all (b ∷ bs) chunk at line kept begun e k =
     by-cases (eqb b newline)
     (λ t. rw (taking-end bs line at kept b t)
-        (record { whole = begun; keeps = k; goes-on = rw (← rest-behind chunk bs at b e) (lines-end begun bs b t) }))
+    (record { whole = begun; keeps = k; goes-on = rw (← rest-behind chunk bs at b e) (lines-end begun bs b t) }))
     (λ t. rw (taking-on bs line at kept b t)
-        (cuts-more chunk bs (taking bs (at + 1) (set line kept b) (keptMore line kept) .line) begun b
-        (taking bs (at + 1) (set line kept b) (keptMore line kept) .answer) t
-        (cuts-all bs chunk (at + 1) (set line kept b) (keptMore line kept) (begun ++ (b ∷ [])) (rest-behind chunk bs at b e) (keeps-more line begun kept b k))))
+    (cuts-more chunk bs (taking bs (at + 1) (set line kept b) (keptMore line kept) .line) begun b
+    (taking bs (at + 1) (set line kept b) (keptMore line kept) .answer) t
+    (cuts-all bs chunk (at + 1) (set line kept b) (keptMore line kept) (begun ++ (b ∷ [])) (rest-behind chunk bs at b e) (keeps-more line begun kept b k))))
 
 pub takes-lines : TakesLines
 takes-lines chunk line begun at kept k = cuts-all (drop at chunk) chunk at line kept begun refl k
@@ -138,8 +138,8 @@ range-all (b ∷ bs) chunk at line kept e =
     by-cases (eqb b newline)
     (λ t. rw (taking-end bs line at kept b t) (omega arith, omega (arith, rest-within chunk bs at b e), λ h. h))
     (λ t. rw (taking-on bs line at kept b t)
-        (range-later chunk line at kept b (taking bs (at + 1) (set line kept b) (keptMore line kept) .answer)
-        (range-all bs chunk (at + 1) (set line kept b) (keptMore line kept) (rest-behind chunk bs at b e))))
+    (range-later chunk line at kept b (taking bs (at + 1) (set line kept b) (keptMore line kept) .answer)
+    (range-all bs chunk (at + 1) (set line kept b) (keptMore line kept) (rest-behind chunk bs at b e))))
 
 pub in-range : (chunk line : List ℕ) (at kept : ℕ) (r : Took) → r ≡ taking (drop at chunk) at line kept
     → InRange chunk at line kept (r .answer)

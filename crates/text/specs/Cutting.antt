@@ -86,8 +86,8 @@ InRange chunk at line kept (Line next n) =
     (at < next) × (next ≤ length chunk) × (kept ≤ length line → n ≤ length line)
 InRange chunk at line kept (More n) = kept ≤ length line → n ≤ length line
 
--- of bytes that go on with a line begun, the line that ends first, of which the buffer keeps n bytes; behind its newline
--- other lines begin
+-- of bytes that go on with a line begun, the line that ends first, of which the buffer keeps n bytes; behind its
+-- newline other lines begin
 pub record FirstLine (bytes behind begun line : List ℕ) (n : ℕ) : Type 0 where
   pub whole : List ℕ
   pub keeps : Keeps line n whole

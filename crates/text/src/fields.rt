@@ -117,7 +117,8 @@ pub fn read_cells(line: &[u8], at: usize, cells: &mut [u32]) -> CellsRead
     let mut n = 0;
     let mut i = at;
     while i < line.len() {
-        let Numeral::Value(c, e) = read_numeral(line, i, HEXADECIMAL, CELL_DIGITS, CELL_DIGITS) else {
+        let Numeral::Value(c, e) = read_numeral(line, i, HEXADECIMAL, CELL_DIGITS, CELL_DIGITS)
+        else {
             return CellsRead::Bad;
         };
         cells[n] = c;

@@ -3,12 +3,16 @@ pub mod digits;
 pub mod fields;
 pub mod lines;
 
-// The two bases that numbers are written in.
+// The base of numbers.
 pub const DECIMAL: u32 = 10;
+
+// The base of cells.
 pub const HEXADECIMAL: u32 = 16;
 
-// A number read has at most so many digits, and a cell exactly so many.
+// A number that is read has at most so many digits.
 pub const NUMBER_DIGITS: usize = 7;
+
+// A cell has exactly so many.
 pub const CELL_DIGITS: usize = 8;
 
 // A number and the place at which its field ends, or none.

@@ -50,9 +50,10 @@ loop-less : tie.Need-loop-less Inv-loop μ-loop
 loop-less c = omega arith
 
 loop-again : tie.Need-loop-again Inv-loop μ-loop
-loop-again c =
-    (omega arith,
-    step-turn (c .before .before .before .before .before .before .before .before .before .before .before .args .chunk .now) (c .before .before .before .before .before .before .before .before .loop .line) (c .before .before .before .before .before .before .before .before .loop .i) (c .before .before .before .before .before .before .before .before .loop .n) (omega arith) _ _ _ (search needs) (c .before .before .keep .ensures) (c .before .before .before .before .before .before .before .before .loop .inv .1))
+loop-again c = (
+  omega arith,
+  step-turn (c .before .before .before .before .before .before .before .before .before .before .before .args .chunk .now) (c .before .before .before .before .before .before .before .before .loop .line) (c .before .before .before .before .before .before .before .before .loop .i) (c .before .before .before .before .before .before .before .before .loop .n) (omega arith) _ _ _ (search needs) (c .before .before .keep .ensures) (c .before .before .before .before .before .before .before .before .loop .inv .1),
+)
 
 same-length-2 : tie.Need-same-length-2 Inv-loop μ-loop
 same-length-2 c = omega arith
