@@ -1,8 +1,8 @@
 // Next, load, instance and counts: the calls that only read the space.
-use super::DAMAGED;
-use super::UNKNOWN;
 use super::paths::instance_paths;
 use super::paths::load_path;
+use basis::refusals::NUMBER;
+use basis::refusals::RECORDS;
 use basis::wide;
 use forms::Answer;
 use space::AnswerRead;
@@ -53,13 +53,13 @@ fn hand_out(space: &[u32], h: Head, s: usize, a: usize) -> NextAnswer
         return NextAnswer::NoMore;
     }
     let AnswerRead::Sound(y) = read_answer(space, h, a) else {
-        return NextAnswer::Refused(DAMAGED);
+        return NextAnswer::Refused(RECORDS);
     };
     let number = a as u32;
     if y.subgoal == s {
         return NextAnswer::At(number);
     }
-    NextAnswer::Refused(DAMAGED)
+    NextAnswer::Refused(RECORDS)
 }
 
 // From answer a on, or from the subgoal's first answer.
@@ -68,13 +68,13 @@ fn go_on(space: &[u32], h: Head, s: usize, a: usize) -> NextAnswer
     ensures { λ r. ⌜ says (saidNext r) ≡ onward (viewIn (now (space .entry)) h) s a ⌝ }
 {
     let SubgoalRead::Sound(g) = read_subgoal(space, h, s) else {
-        return NextAnswer::Refused(DAMAGED);
+        return NextAnswer::Refused(RECORDS);
     };
     if a == 0 {
         return hand_out(space, h, s, g.first);
     }
     let AnswerRead::Sound(y) = read_answer(space, h, a) else {
-        return NextAnswer::Refused(DAMAGED);
+        return NextAnswer::Refused(RECORDS);
     };
     hand_out(space, h, s, y.next)
 }
@@ -100,15 +100,15 @@ fn next_in(space: &[u32], h: Head, s: usize, a: usize) -> NextAnswer
     ensures { λ r. ⌜ says (saidNext r) ≡ decided (next s a) (now (space .entry)) h ⌝ }
 {
     if s == 0 {
-        return NextAnswer::Refused(UNKNOWN);
+        return NextAnswer::Refused(NUMBER);
     }
     if h.subgoals < s {
-        return NextAnswer::Refused(UNKNOWN);
+        return NextAnswer::Refused(NUMBER);
     }
     if starts(space, h, s, a) {
         return go_on(space, h, s, a);
     }
-    NextAnswer::Refused(UNKNOWN)
+    NextAnswer::Refused(NUMBER)
 }
 
 // The subgoal's first answer after a given one, or after none.
@@ -161,15 +161,15 @@ fn load_in(space: &[u32], h: Head, a: usize, out: &mut [u32]) -> Answer
         (now (out .entry)) r (now (out .exit)) ⌝ }
 {
     if a == 0 {
-        return Answer::Refused(UNKNOWN);
+        return Answer::Refused(NUMBER);
     }
     if h.answers < a {
-        return Answer::Refused(UNKNOWN);
+        return Answer::Refused(NUMBER);
     }
     if pair_sound(space, h, a) {
         return load_with(space, h, a, out);
     }
-    Answer::Refused(DAMAGED)
+    Answer::Refused(RECORDS)
 }
 
 // The terms of an answer in pair form.
@@ -216,15 +216,15 @@ fn instance_in(space: &[u32], h: Head, a: usize, out: &mut [u32]) -> Answer
         (now (out .entry)) r (now (out .exit)) ⌝ }
 {
     if a == 0 {
-        return Answer::Refused(UNKNOWN);
+        return Answer::Refused(NUMBER);
     }
     if h.answers < a {
-        return Answer::Refused(UNKNOWN);
+        return Answer::Refused(NUMBER);
     }
     if pair_sound(space, h, a) {
         return instance_with(space, h, a, out);
     }
-    Answer::Refused(DAMAGED)
+    Answer::Refused(RECORDS)
 }
 
 // The subgoal of an answer with variable i replaced by the answer's term i, in pair form.

@@ -12,7 +12,7 @@ use Rattle.basis.proofs.Cases.{by-cases}
 use Rattle.forms.specs.Compact.{same}
 use Rattle.text.specs.Fields.{Fields, fields, Number, noNumber, number, Cells, noCells, cellsOf, firstNumber, behind, onlyNumber, hexCells}
 use Rattle.text.specs.Digits.{Puts}
-use Rattle.text.proofs.DigitsLaws.{sets-append}
+use Rattle.basis.proofs.SetsLaws.{sets-append}
 use Rattle.plain.specs.Requests.{Request, Reply, call, answer, finish, next, load, instance, counts}
 use Rattle.store.specs.Calls.{spaceStep}
 use Rattle.session.specs.Lines.{Meaning, bad, asks, withCells, withNumber, oneNumber, twoNumbers, numberAndCells, noField, wordCall, wordAnswer, wordFinish, wordNext, wordLoad, wordInstance, wordCounts, wordMeans, means}

@@ -1,4 +1,5 @@
 // The line printed for what each call answers, put at the start of a text, without its newline.
+use basis::refusals::OUT;
 use forms::Answer;
 use store::AnswerAnswer;
 use store::CallAnswer;
@@ -22,9 +23,6 @@ ghost use Rattle.text.specs.Fields.{space};
 ghost use Rattle.text.specs.Digits.{numbered, Puts};
 ghost use Rattle.session.specs.Texts.{textBad, textRefused, stateText, countsText};
 ghost use Rattle.session.specs.Texts.{replyText, replyBytes, textRoom, PrintsReply};
-
-// The refusal of an out that is too short.
-const REFUSED_SHORT: u32 = 12;
 
 // For a line that means nothing.
 pub fn print_bad(text: &mut [u8]) -> usize
@@ -139,6 +137,6 @@ pub fn print_cells(answer: Answer, out: &[u32], text: &mut [u8]) -> usize
             return put_cells(out, n, text, end);
         }
         Answer::Refused(r) => return print_refused(r, text),
-        Answer::Short(_) => return print_refused(REFUSED_SHORT, text),
+        Answer::Short(_) => return print_refused(OUT, text),
     }
 }

@@ -11,6 +11,9 @@ use basis::refusals::RECORDS;
 use basis::refusals::RECORDS_LEFT;
 use basis::refusals::STATE;
 use basis::wide;
+use convert::buffers::FEW_CELLS;
+use convert::buffers::FORM_OF_FEW;
+use convert::buffers::FORM_OF_MOST;
 use convert::read_terms;
 use forms::Reading;
 use forms::is_callable;
@@ -56,13 +59,6 @@ ghost use Rattle.store.specs.Contracts.{viewIn, Does, AnswersUnder, Room
 ghost use Rattle.store.specs.Contracts.{Held, HeldLast, RefusedBy, calledFrom};
 ghost use Rattle.store.specs.Contracts.{enteredBelow, answeredFrom, answeredBy};
 ghost use Rattle.store.specs.Replies.{saidState, saidCall, saidAnswer, saidFinish};
-
-// Buffers to read terms in: a variable to a cell, and a form of half as many tokens again. Short terms get short ones.
-const SHORT_CELLS: usize = 16;
-
-const SHORT_FORM: usize = 24;
-
-const LONG_FORM: usize = 384;
 
 // ---- finish
 
@@ -251,13 +247,13 @@ pub fn call(space: &mut [u32], term: &[u32]) -> CallAnswer
     match read {
         Header::Refused(r) => return CallAnswer::Refused(r),
         Header::Sound(h) => {
-            if term.len() <= SHORT_CELLS {
-                let mut vars = [0u32; SHORT_CELLS];
-                let mut form = [0u32; SHORT_FORM];
+            if term.len() <= FEW_CELLS {
+                let mut vars = [0u32; FEW_CELLS];
+                let mut form = [0u32; FORM_OF_FEW];
                 return call_with(space, h, term, &mut vars, &mut form);
             }
             let mut vars = [0u32; MOST_CELLS];
-            let mut form = [0u32; LONG_FORM];
+            let mut form = [0u32; FORM_OF_MOST];
             return call_with(space, h, term, &mut vars, &mut form);
         }
     }
@@ -474,13 +470,13 @@ fn answer_open(space: &mut [u32], h: Head, s: usize, g: Subgoal, terms: &[u32]) 
         (saidAnswer r) (now (space .exit))
         ⌝ }
 {
-    if terms.len() <= SHORT_CELLS {
-        let mut vars = [0u32; SHORT_CELLS];
-        let mut form = [0u32; SHORT_FORM];
+    if terms.len() <= FEW_CELLS {
+        let mut vars = [0u32; FEW_CELLS];
+        let mut form = [0u32; FORM_OF_FEW];
         return answer_with(space, h, s, g, terms, &mut vars, &mut form);
     }
     let mut vars = [0u32; MOST_CELLS];
-    let mut form = [0u32; LONG_FORM];
+    let mut form = [0u32; FORM_OF_MOST];
     answer_with(space, h, s, g, terms, &mut vars, &mut form)
 }
 

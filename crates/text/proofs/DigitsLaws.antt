@@ -11,14 +11,11 @@ use lib.ListN.{length, take, drop, getD, set, length-append, length-set, length-
 use lib.Seq.{sets, length-sets, take-suc, take-all, take-length, length-take-le, drop-cons, drop-set-lt, getD-set-same}
 use borrow.Author.Tests.{eq-eqb, ne-eqb, not-true, leb-true, leb-false}
 use Rattle.basis.proofs.Cases.{by-cases}
+use Rattle.basis.proofs.SetsLaws.{sets-append}
 use Rattle.basis.proofs.Tests.{true-not-false}
 use Rattle.text.specs.Digits.{digitText, digitsBefore, digits, cellText, cellTexts, Puts}
 
 -- ---- bytes put one behind another
-
-pub sets-append : (xs ys l : List ℕ) (i : ℕ) → sets l i (xs ++ ys) ≡ sets (sets l i xs) (i + length xs) ys
-sets-append [] ys l i = rw add-zero
-sets-append (x ∷ xs) ys l i = rw (sets-append xs ys (set l i x) (suc i), suc-add, ← add-suc)
 
 pub puts-append : (xs ys t u v : List ℕ) (i j k : ℕ) → Puts i xs t j u → Puts j ys u k v → Puts i (xs ++ ys) t k v
 puts-append xs ys t u v i j k p q =

@@ -6,6 +6,7 @@
 use super::End;
 use super::Gathered;
 use super::Short;
+use basis::limits::MOST_TOKENS;
 use space::NodeRead;
 use space::records::read_node;
 ghost use mathlib.Core.Path.{_≡_};
@@ -17,11 +18,8 @@ ghost use Rattle.trie.specs.Runs.{levels, pathCells, Climbs, RunCopied, 
 // The levels of a run.
 pub const LEVELS: usize = 12;
 
-// The most tokens that a path has.
-pub const LONGEST: usize = 383;
-
 // The cells of a whole path: one more than it has tokens at most, which is a whole number of runs.
-pub const CELLS: usize = LONGEST + 1;
+pub const CELLS: usize = MOST_TOKENS + 1;
 
 // The runs above the first, and their cells.
 const HIGHER_RUNS: usize = CELLS / LEVELS - 1;
