@@ -167,7 +167,7 @@ static void prepare_forms(struct workload *workload)
         form->length = (size_t)tokens * CELL_BYTES;
         uint32_t cells = tables_expand(form->byte, form->length, back, sizeof back, EDITION);
         uint32_t same_cells = reference_expand(form->byte, form->length, back, sizeof back, EDITION);
-        if (tokens != same || TABLES_IS_REFUSED(tokens) || cells != same_cells ||
+        if (tokens != same || tables_converter_refused_by(tokens) != 0 || cells != same_cells ||
             cells * CELL_BYTES != term->length) {
             fprintf(stderr, "%s: the two sides disagree\n", workload->name);
             exit(1);

@@ -41,43 +41,136 @@ static const struct belt belts[] = {
 
 enum { BELTS = sizeof belts / sizeof *belts };
 
-/* The space: the engine owns it and lends it to every call. Functor cells are made for its edition. */
-enum { NODES = 1000, SUBGOALS = 20, ANSWERS = 200, EDITION = TABLES_EDITION_2 };
-enum { SPACE_CELLS = TABLES_SPACE_CELLS(NODES, SUBGOALS, ANSWERS) };
+/* The rule engine's own numbers. */
+enum { EDITION = TABLES_EDITION_2, REACH = 1 };
 
-static uint32_t space[SPACE_CELLS];
+/* A table and its capacities. The engine owns the cells and lends them to every call. */
+struct table {
+    uint32_t nodes, subgoals, answers;
+    size_t cells;
+    uint32_t *space;
+};
 
-/* The subgoal reach(P, X, S) of each place P that was called; 0 for the others. */
+/* Begun too small, to show what happens when it is full. */
+static struct table table = {.nodes = 40, .subgoals = 4, .answers = 10};
+
+/* The subgoal reach(P, X, S) of each place P that was called, 0 for the others; and back. */
 static uint32_t subgoal_of[PLACES];
+static enum place place_of[PLACES + 1];
+static uint32_t subgoals;
 
-/* Every result word passes here: a refusal is a fault of this program, so it ends with a message. */
+static void stop(const char *what, const char *why)
+{
+    fprintf(stderr, "%s: %s\n", what, why);
+    exit(1);
+}
+
+/* Every word passes here: a refusal that is not expected is a fault, so it ends with a message. */
 static uint64_t checked(const char *call, uint64_t word)
 {
-    static const char *const reasons[] = {
-        [TABLES_REFUSED_HEADER] = "the space has no sound header",
-        [TABLES_REFUSED_FRESH] = "the capacities do not fit the space, or no such edition",
-        [TABLES_REFUSED_TERM] = "not the terms that are due",
-        [TABLES_REFUSED_LENGTH] = "over 256 cells",
-        [TABLES_REFUSED_VARIABLES] = "over 32 variables",
-        [TABLES_REFUSED_PREDICATE] = "the term has no predicate",
-        [TABLES_REFUSED_NUMBER] = "no such subgoal or answer",
-        [TABLES_REFUSED_STATE] = "the subgoal is finished",
-        [TABLES_REFUSED_RECORDS] = "a damaged record",
-        [TABLES_REFUSED_NODES] = "no nodes left",
-        [TABLES_REFUSED_RECORDS_LEFT] = "no subgoal or answer records left",
-        [TABLES_REFUSED_OUT] = "out is too short",
-    };
-    uint32_t refusal = tables_refused_by(word);
-    if (refusal == 0)
-        return word;
-    fprintf(stderr, "%s was refused by %u: %s\n", call, (unsigned)refusal,
-            refusal < sizeof reasons / sizeof *reasons ? reasons[refusal] : "an unknown refusal");
-    exit(1);
+    if (tables_refused_by(word) != 0)
+        stop(call, tables_refusal_text(tables_refused_by(word)));
+    return word;
 }
 
 static uint32_t atom(enum place place)
 {
-    return TABLES_CELL(TABLES_ATOM, place);
+    return tables_cell(TABLES_ATOM, place);
+}
+
+/* When the table is full: a larger one, into which all that stands is entered again */
+
+static void make(struct table *made)
+{
+    made->cells = TABLES_SPACE_CELLS(made->nodes, made->subgoals, made->answers);
+    made->space = malloc(made->cells * sizeof *made->space);
+    if (made->space == NULL)
+        stop("a table", "there is no memory for it");
+    checked("tables_fresh", tables_fresh(made->space, made->cells, made->nodes, made->subgoals,
+                                         made->answers, EDITION));
+}
+
+/* Calls reach(P, X, S). The store gives no subgoal back: its term is made from the place again. */
+static uint64_t call_place(struct table *called, enum place place)
+{
+    const uint32_t term[] = {TABLES_FUNCTOR_CELL(EDITION, REACH, 3), atom(place),
+                             TABLES_CELL(TABLES_VARIABLE, 0), TABLES_CELL(TABLES_VARIABLE, 1)};
+    return tables_call(called->space, called->cells, term, sizeof term / sizeof *term);
+}
+
+/* Numbers go in order of entry: entered in the same order, everything keeps its number. */
+static void must_be_new(const char *call, uint64_t word, uint32_t number)
+{
+    if (tables_what(checked(call, word)) != TABLES_NEW || tables_value(word) != number)
+        stop(call, "a copy has another number than what was copied");
+}
+
+/* The answer of a subgoal behind another one, or behind 0; 0 if there is none. */
+static uint32_t next_answer(const struct table *read, uint32_t subgoal, uint32_t after)
+{
+    return tables_value(
+        checked("tables_next", tables_next(read->space, read->cells, subgoal, after)));
+}
+
+/* Copies one answer to the same subgoal. */
+static void copy_answer(const struct table *from, struct table *to, uint32_t subgoal,
+                        uint32_t answer)
+{
+    uint32_t terms[TABLES_TERM_CELLS];
+    uint64_t word = tables_load(from->space, from->cells, answer, terms, TABLES_TERM_CELLS);
+    size_t cells = tables_value(checked("tables_load", word));
+    word = tables_answer(to->space, to->cells, subgoal, terms, cells);
+    must_be_new("tables_answer", word, answer);
+}
+
+/* Copies all answers by their numbers: each one is the next of just one of the subgoals. */
+static void copy_answers(const struct table *from, struct table *to)
+{
+    uint32_t counts[3], due[PLACES + 1];
+    checked("tables_counts", tables_counts(from->space, from->cells, counts, 3));
+    for (uint32_t subgoal = 1; subgoal <= subgoals; subgoal++)
+        due[subgoal] = next_answer(from, subgoal, 0);
+    for (uint32_t answer = 1; answer <= counts[2]; answer++)
+        for (uint32_t subgoal = 1; subgoal <= subgoals; subgoal++)
+            if (due[subgoal] == answer) {
+                copy_answer(from, to, subgoal, answer);
+                due[subgoal] = next_answer(from, subgoal, answer);
+            }
+}
+
+/* Subgoals, then answers, then who is finished, since a finished subgoal takes no answer. */
+static void copy(struct table *from, struct table *to)
+{
+    for (uint32_t subgoal = 1; subgoal <= subgoals; subgoal++)
+        must_be_new("tables_call", call_place(to, place_of[subgoal]), subgoal);
+    copy_answers(from, to);
+    for (uint32_t subgoal = 1; subgoal <= subgoals; subgoal++) {
+        uint64_t word = checked("tables_call", call_place(from, place_of[subgoal]));
+        if (tables_what(word) == TABLES_OLD_FINISHED)
+            checked("tables_finish", tables_finish(to->space, to->cells, subgoal));
+    }
+}
+
+/*
+ * Was the call refused since the table is full? Then the table is now one of
+ * twice the capacities with all that stood in it, and the call is made again.
+ */
+static bool grown(uint64_t word)
+{
+    uint32_t refusal = tables_refused_by(word);
+    if (refusal != TABLES_REFUSED_NO_NODE && refusal != TABLES_REFUSED_NO_RECORD)
+        return false;
+    if (table.nodes > TABLES_MOST_RECORDS / 2)
+        stop("the table", tables_refusal_text(refusal));
+    struct table larger = {
+        .nodes = 2 * table.nodes, .subgoals = 2 * table.subgoals, .answers = 2 * table.answers};
+    make(&larger);
+    copy(&table, &larger);
+    free(table.space);
+    table = larger;
+    printf("%s Now %u nodes, %u subgoals, %u answers.\n", tables_refusal_text(refusal),
+           (unsigned)table.nodes, (unsigned)table.subgoals, (unsigned)table.answers);
+    return true;
 }
 
 /* Calling: the subgoals */
@@ -85,12 +178,15 @@ static uint32_t atom(enum place place)
 /* Calls reach(P, X, S), and if that is new, the subgoals that its second rule needs. */
 static void call_reach(enum place place)
 {
-    const uint32_t term[] = {TABLES_FUNCTOR_CELL(EDITION, 1, 3), atom(place),
-                             TABLES_CELL(TABLES_VARIABLE, 0), TABLES_CELL(TABLES_VARIABLE, 1)};
-    uint64_t word = checked("tables_call", tables_call(space, SPACE_CELLS, term, 4));
-    if (tables_what(word) != TABLES_NEW)
+    uint64_t word;
+    do
+        word = call_place(&table, place);
+    while (grown(word));
+    if (tables_what(checked("tables_call", word)) != TABLES_NEW)
         return;
-    subgoal_of[place] = tables_value(word);
+    subgoals = tables_value(word);
+    subgoal_of[place] = subgoals;
+    place_of[subgoals] = place;
     for (size_t i = 0; i < BELTS; i++)
         if (belts[i].from == place && !belts[i].closed)
             call_reach(belts[i].to);
@@ -110,7 +206,10 @@ static bool among(uint32_t atom_cell, const uint32_t *cells, size_t count)
 /* Answers a place's subgoal: a term for X and a term for S. Was the answer new? */
 static bool answer_reach(enum place place, const uint32_t *terms, size_t cells)
 {
-    uint64_t word = tables_answer(space, SPACE_CELLS, subgoal_of[place], terms, cells);
+    uint64_t word;
+    do
+        word = tables_answer(table.space, table.cells, subgoal_of[place], terms, cells);
+    while (grown(word));
     return tables_what(checked("tables_answer", word)) == TABLES_NEW;
 }
 
@@ -126,13 +225,9 @@ static bool apply_second_rule(const struct belt *belt)
 {
     bool any_new = false;
     uint32_t answer = 0;
-    for (;;) {
+    while ((answer = next_answer(&table, subgoal_of[belt->to], answer)) != 0) {
         uint32_t from[TABLES_TERM_CELLS], terms[TABLES_TERM_CELLS + 2];
-        uint64_t word = tables_next(space, SPACE_CELLS, subgoal_of[belt->to], answer);
-        if (tables_what(checked("tables_next", word)) == TABLES_NONE)
-            return any_new;
-        answer = tables_value(word);
-        word = tables_load(space, SPACE_CELLS, answer, from, TABLES_TERM_CELLS);
+        uint64_t word = tables_load(table.space, table.cells, answer, from, TABLES_TERM_CELLS);
         size_t cells = tables_value(checked("tables_load", word));
         if (among(atom(belt->from), from, cells))
             continue;
@@ -143,6 +238,7 @@ static bool apply_second_rule(const struct belt *belt)
             terms[2 + i] = from[i];
         any_new |= answer_reach(belt->from, terms, cells + 2);
     }
+    return any_new;
 }
 
 /* One turn over all open belts whose start was called. Was there anything new? */
@@ -160,9 +256,8 @@ static bool turn(void)
 
 static void finish_all(void)
 {
-    for (int place = 1; place < PLACES; place++)
-        if (subgoal_of[place] != 0)
-            checked("tables_finish", tables_finish(space, SPACE_CELLS, subgoal_of[place]));
+    for (uint32_t subgoal = 1; subgoal <= subgoals; subgoal++)
+        checked("tables_finish", tables_finish(table.space, table.cells, subgoal));
 }
 
 /* Reading back */
@@ -180,12 +275,11 @@ static void print_routes(enum place place)
 {
     static uint32_t cells[TABLES_INSTANCE_CELLS];
     printf("from %s\n", place_names[place]);
-    uint64_t word = checked("tables_next", tables_next(space, SPACE_CELLS, subgoal_of[place], 0));
-    while (tables_what(word) == TABLES_AT) {
-        uint32_t answer = tables_value(word);
-        word = tables_instance(space, SPACE_CELLS, answer, cells, TABLES_INSTANCE_CELLS);
+    uint32_t answer = 0;
+    while ((answer = next_answer(&table, subgoal_of[place], answer)) != 0) {
+        uint64_t word =
+            tables_instance(table.space, table.cells, answer, cells, TABLES_INSTANCE_CELLS);
         print_route(cells, tables_value(checked("tables_instance", word)));
-        word = checked("tables_next", tables_next(space, SPACE_CELLS, subgoal_of[place], answer));
     }
 }
 
@@ -199,7 +293,7 @@ static void print_closed(void)
 int main(void)
 {
     uint32_t counts[3];
-    checked("tables_fresh", tables_fresh(space, SPACE_CELLS, NODES, SUBGOALS, ANSWERS, EDITION));
+    make(&table);
     call_reach(CHECK_IN_1);
     call_reach(CHECK_IN_2);
     int turns = 1;
@@ -209,8 +303,9 @@ int main(void)
     print_closed();
     print_routes(CHECK_IN_1);
     print_routes(CHECK_IN_2);
-    checked("tables_counts", tables_counts(space, SPACE_CELLS, counts, 3));
+    checked("tables_counts", tables_counts(table.space, table.cells, counts, 3));
     printf("%d turns; %u nodes, %u subgoals, %u answers\n", turns, (unsigned)counts[0],
            (unsigned)counts[1], (unsigned)counts[2]);
+    free(table.space);
     return 0;
 }

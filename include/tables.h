@@ -1,4 +1,4 @@
-/* The C interface of the table store: the calls on a space of cells, and the two term converters. */
+/* The C interface of the table store: the calls on a space of cells, and two term converters. */
 #ifndef TABLES_H
 #define TABLES_H
 
@@ -7,6 +7,25 @@
 
 #ifdef __cplusplus
 extern "C" {
+#endif
+
+/*
+ * The version of this interface: the first number grows where a program that
+ * compiled or worked may no longer, the second where something was added, the
+ * third where neither is so. TABLES_VERSION is one number, for #if: 10203 is
+ * 1.2.3.
+ */
+#define TABLES_VERSION_MAJOR 1
+#define TABLES_VERSION_MINOR 0
+#define TABLES_VERSION_PATCH 0
+#define TABLES_VERSION \
+    (TABLES_VERSION_MAJOR * 10000 + TABLES_VERSION_MINOR * 100 + TABLES_VERSION_PATCH)
+
+/* Stands before what returns a result that must be looked at: dropping it is a warning. */
+#if defined(__GNUC__) || defined(__clang__)
+#define TABLES_MUST_CHECK __attribute__((warn_unused_result))
+#else
+#define TABLES_MUST_CHECK
 #endif
 
 /*
@@ -29,9 +48,36 @@ enum tables_kind {
     TABLES_EPAIR = 8     /* 0; compact form only: the elements are over, the tail follows */
 };
 
-#define TABLES_CELL(kind, payload) ((uint32_t)(kind) << 28 | (uint32_t)(payload))
+#define TABLES_MOST_PAYLOAD UINT32_C(0x0fffffff) /* 2^28 - 1 */
 #define TABLES_KIND(cell) ((uint32_t)(cell) >> 28)
-#define TABLES_PAYLOAD(cell) ((uint32_t)(cell) & UINT32_C(0x0fffffff))
+#define TABLES_PAYLOAD(cell) ((uint32_t)(cell) & TABLES_MOST_PAYLOAD)
+
+/*
+ * Making cells
+ *
+ * tables_cell makes the cell of a kind and a payload, tables_functor_cell
+ * (below, under editions) that of a functor. What is out of range gives 0, which
+ * is no cell of a term, so that the call to which it is given is refused by 3: a
+ * kind other than 1 to 8, a payload above 2^28 - 1, a payload other than 0 for
+ * the kinds 5 to 8. A negative number is out of range. So nothing spills into
+ * another kind or payload: atom 2^28 is 0 and not integer 0.
+ *
+ * TABLES_CELL and TABLES_FUNCTOR_CELL give the same. They are constant
+ * expressions where their arguments are, for initialisers and case labels. They
+ * may evaluate an argument more than once; elsewhere use the functions.
+ */
+#define TABLES_CELL(kind, payload) \
+    ((uint64_t)(kind) - TABLES_VARIABLE <= TABLES_EPAIR - TABLES_VARIABLE && \
+             (uint64_t)(payload) >> ((uint64_t)(kind) <= TABLES_FUNCTOR ? 28 : 0) == 0 \
+         ? (uint32_t)(kind) << 28 | (uint32_t)(payload) \
+         : UINT32_C(0))
+#define TABLES_EMPTY_LIST TABLES_CELL(TABLES_ATOM, 0)
+#define TABLES_PAIR_CELL TABLES_CELL(TABLES_PAIR, 0)
+
+static inline uint32_t tables_cell(uint64_t kind, uint64_t payload)
+{
+    return TABLES_CELL(kind, payload);
+}
 
 /*
  * Editions
@@ -55,19 +101,20 @@ enum tables_kind {
 
 /*
  * The cell of a functor. A name or an arity that is out of range, and an edition
- * that there is not, give 0, which is no cell of a term (refusal 3): they never
- * spill into another name, arity or kind. A constant expression where its
- * arguments are; it may evaluate each of them more than once.
+ * that there is not, give 0 (see 'Making cells').
  */
 #define TABLES_FUNCTOR_CELL(edition, name, arity) \
     (((edition) == TABLES_EDITION_1 || (edition) == TABLES_EDITION_2) && \
-             (uint64_t)(name) <= TABLES_MOST_NAME(edition) && (uint64_t)(arity) >= 1 && \
-             (uint64_t)(arity) <= TABLES_MOST_ARITY(edition) \
-         ? TABLES_CELL(TABLES_FUNCTOR, \
-                       (uint32_t)(name) << TABLES_ARITY_BITS(edition) | (uint32_t)(arity)) \
+             (uint64_t)(name) >> (28 - TABLES_ARITY_BITS(edition)) == 0 && (arity) != 0 && \
+             (uint64_t)(arity) >> TABLES_ARITY_BITS(edition) == 0 \
+         ? (uint32_t)TABLES_FUNCTOR << 28 | \
+               (uint32_t)(name) << TABLES_ARITY_BITS(edition) | (uint32_t)(arity) \
          : UINT32_C(0))
-#define TABLES_EMPTY_LIST TABLES_CELL(TABLES_ATOM, 0)
-#define TABLES_PAIR_CELL TABLES_CELL(TABLES_PAIR, 0)
+
+static inline uint32_t tables_functor_cell(uint64_t edition, uint64_t name, uint64_t arity)
+{
+    return TABLES_FUNCTOR_CELL(edition, name, arity);
+}
 
 /*
  * Pair form is the form in which a caller writes and reads a term: preorder, a
@@ -107,23 +154,58 @@ enum tables_kind {
  * (11), form (13), out (12).
  */
 enum tables_refusal {
-    TABLES_REFUSED_HEADER = 1,        /* the space has no sound header, or is cut short; from a
-                                         converter: an edition that there is not */
-    TABLES_REFUSED_FRESH = 2,         /* a capacity out of range, too few cells for it, or an
-                                         edition that there is not */
-    TABLES_REFUSED_TERM = 3,          /* not exactly the terms due; for a converter also a byte
-                                         count not divisible by 4 */
-    TABLES_REFUSED_LENGTH = 4,        /* over 256 cells */
-    TABLES_REFUSED_VARIABLES = 5,     /* over 32 distinct variables */
-    TABLES_REFUSED_PREDICATE = 6,     /* a called term begins with neither atom nor functor */
-    TABLES_REFUSED_NUMBER = 7,        /* no such subgoal or answer, or another subgoal's answer */
-    TABLES_REFUSED_STATE = 8,         /* an answer to a finished subgoal, even one that it holds */
-    TABLES_REFUSED_RECORDS = 9,       /* a damaged record was met */
-    TABLES_REFUSED_NODES = 10,        /* too few nodes left */
-    TABLES_REFUSED_RECORDS_LEFT = 11, /* no record left for a new subgoal or answer */
-    TABLES_REFUSED_OUT = 12,          /* out is too short */
-    TABLES_REFUSED_FORM = 13          /* no compact form of a legal term; tables_expand alone */
+    TABLES_REFUSED_HEADER = 1,     /* the space has no sound header, or is cut short; from a
+                                      converter: an edition that there is not */
+    TABLES_REFUSED_FRESH = 2,      /* a capacity out of range, too few cells for it, or an
+                                      edition that there is not */
+    TABLES_REFUSED_TERM = 3,       /* not exactly the terms due; for a converter also a byte
+                                      count not divisible by 4 */
+    TABLES_REFUSED_LENGTH = 4,     /* over 256 cells */
+    TABLES_REFUSED_VARIABLES = 5,  /* over 32 distinct variables */
+    TABLES_REFUSED_PREDICATE = 6,  /* a called term begins with neither atom nor functor */
+    TABLES_REFUSED_NUMBER = 7,     /* no such subgoal or answer, or another subgoal's answer */
+    TABLES_REFUSED_STATE = 8,      /* an answer to a finished subgoal, even one that it holds */
+    TABLES_REFUSED_DAMAGED = 9,    /* a damaged record was met */
+    TABLES_REFUSED_NO_NODE = 10,   /* full: too few nodes left */
+    TABLES_REFUSED_NO_RECORD = 11, /* full: no record left for a new subgoal or answer */
+    TABLES_REFUSED_OUT = 12,       /* out is too short */
+    TABLES_REFUSED_FORM = 13       /* no compact form of a legal term; tables_expand alone */
 };
+
+/* A refusal's number in words, for people: a sentence, also for a number that there is not. */
+static inline const char *tables_refusal_text(uint32_t refusal)
+{
+    switch (refusal) {
+    case TABLES_REFUSED_HEADER:
+        return "The space has no sound header, or is cut short, or no such edition is known.";
+    case TABLES_REFUSED_FRESH:
+        return "The capacities are out of range or need more cells, or no such edition is known.";
+    case TABLES_REFUSED_TERM:
+        return "The cells are not exactly the terms that are due.";
+    case TABLES_REFUSED_LENGTH:
+        return "The terms have more than 256 cells.";
+    case TABLES_REFUSED_VARIABLES:
+        return "The terms have more than 32 distinct variables.";
+    case TABLES_REFUSED_PREDICATE:
+        return "The term called begins with neither an atom nor a functor.";
+    case TABLES_REFUSED_NUMBER:
+        return "There is no such subgoal or answer, or it is another subgoal's answer.";
+    case TABLES_REFUSED_STATE:
+        return "The subgoal is finished and takes no more answers.";
+    case TABLES_REFUSED_DAMAGED:
+        return "A record of the space is damaged.";
+    case TABLES_REFUSED_NO_NODE:
+        return "The table is full: too few nodes are left.";
+    case TABLES_REFUSED_NO_RECORD:
+        return "The table is full: no record is left for a new subgoal or answer.";
+    case TABLES_REFUSED_OUT:
+        return "The cells lent for the result are too few.";
+    case TABLES_REFUSED_FORM:
+        return "The cells are not the compact form of a legal term.";
+    default:
+        return "There is no refusal of this number.";
+    }
+}
 
 /*
  * The space
@@ -139,10 +221,23 @@ enum tables_refusal {
  * A node is needed for each cell of compact form that no other entry of the
  * same trie shares, and one more for each subgoal, and one for the whole table.
  * The space may be longer than needed; the cells past its end are left alone.
+ *
+ * A table that is full refuses new entries (10, 11) and goes on answering all
+ * else. To go on entering, make a larger space and enter everything again;
+ * examples/engine.c does so.
  */
 #define TABLES_MOST_RECORDS 1048576 /* of each sort; at least 1 node, and 0 of the others */
 #define TABLES_SPACE_CELLS(nodes, subgoals, answers) \
     ((size_t)8 + (size_t)5 * (nodes) + (size_t)6 * (subgoals) + (size_t)3 * (answers))
+
+/*
+ * The edition of a space that was made earlier, such as one read from a file: its
+ * first cell, or 0 if it has none. Whether the space is sound is not judged.
+ */
+static inline uint32_t tables_edition(const uint32_t *space, size_t space_cells)
+{
+    return space_cells == 0 ? 0 : space[0];
+}
 
 /*
  * Lending
@@ -160,11 +255,31 @@ enum tables_refusal {
  * tables_finish) runs, no other call on the same space may run: the caller
  * serialises them.
  *
+ * The use of the stack is bounded, whatever the space holds, and modest (under
+ * 100 kilobytes).
+ */
+
+/*
+ * Damage
+ *
  * A space may be copied, stored and read back as cells; numbers in it are places
- * and not addresses. If it comes back damaged, no call goes astray: a call reads
- * what it needs, judges that, and is refused by 1 or 9 where it is not sound.
- * Damage in cells that it does not read goes unseen. The use of the stack is
- * bounded, whatever the space holds, and modest (under 100 kilobytes).
+ * and not addresses. Whatever it holds when it comes back, every call returns,
+ * and touches nothing beside the cells lent.
+ *
+ * Noticed: every call judges the whole header (refusal 1), and each record that
+ * it reads (9): whether the numbers in it lie within the counts and are above or
+ * below it as they must, whether it agrees with the record that led to it, and
+ * whether a path that is loaded is the compact form of legal terms.
+ *
+ * Not noticed: damage in cells that the call does not read; and in a cell that
+ * it reads, a wrong number that is in range and breaks no rule. Such a cell is
+ * taken as it stands and may change an answer without a refusal. A next answer
+ * that has become 0 ends the chain, and tables_next says TABLES_NONE as at the
+ * true end; a sibling that has become 0 hides the entries behind it, which then
+ * enter as new a second time; another atom in a token is another answer; a state
+ * that has become 1 is a finished subgoal; a lower count in the header gives the
+ * last records to the next entries. A caller who must know that a space is the
+ * one that was stored keeps a checksum of its cells beside it.
  */
 
 /*
@@ -175,21 +290,21 @@ enum tables_refusal {
  *
  *     uint64_t word = tables_call(space, space_cells, term, term_cells);
  *     if (tables_refused_by(word) != 0)
- *         complain(tables_refused_by(word));
+ *         complain(tables_refusal_text(tables_refused_by(word)));
  *     else
  *         subgoal = tables_value(word);
  */
 enum tables_outcome {
-    TABLES_DONE = 0,         /* value 0 */
-    TABLES_NEW = 1,          /* the new subgoal's or answer's number */
-    TABLES_OLD = 2,          /* the answer's number */
-    TABLES_OLD_OPEN = 3,     /* the subgoal's number */
-    TABLES_OLD_FINISHED = 4, /* the subgoal's number */
-    TABLES_AT = 5,           /* the next answer's number */
-    TABLES_NONE = 6,         /* value 0 */
-    TABLES_CELLS = 7,        /* the number of cells written to out */
-    TABLES_COUNTS = 8,       /* 3, the number of cells written to out */
-    TABLES_REFUSED_BY = 256  /* plus the refusal; value 0, but for 12 the cells that out needs */
+    TABLES_DONE = 0,          /* value 0 */
+    TABLES_NEW = 1,           /* the new subgoal's or answer's number */
+    TABLES_OLD = 2,           /* the answer's number */
+    TABLES_OLD_OPEN = 3,      /* the subgoal's number */
+    TABLES_OLD_FINISHED = 4,  /* the subgoal's number */
+    TABLES_AT = 5,            /* the next answer's number */
+    TABLES_NONE = 6,          /* value 0 */
+    TABLES_CELLS = 7,         /* the number of cells written to out */
+    TABLES_COUNTS = 8,        /* 3, the number of cells written to out */
+    TABLES_CALL_REFUSED = 256 /* plus the refusal's number; no value, but see tables_need */
 };
 
 static inline uint32_t tables_what(uint64_t word)
@@ -197,15 +312,22 @@ static inline uint32_t tables_what(uint64_t word)
     return (uint32_t)(word >> 32);
 }
 
-static inline uint32_t tables_value(uint64_t word)
-{
-    return (uint32_t)word;
-}
-
 /* The refusal's number, or 0 if the call was not refused. */
 static inline uint32_t tables_refused_by(uint64_t word)
 {
-    return tables_what(word) > TABLES_REFUSED_BY ? tables_what(word) - TABLES_REFUSED_BY : 0;
+    return tables_what(word) > TABLES_CALL_REFUSED ? tables_what(word) - TABLES_CALL_REFUSED : 0;
+}
+
+/* The value of a call that was not refused; 0 of one that was, so that no need is taken for it. */
+static inline uint32_t tables_value(uint64_t word)
+{
+    return tables_what(word) < TABLES_CALL_REFUSED ? (uint32_t)word : 0;
+}
+
+/* The cells of out that a call refused by 12 needs; 0 of any other. */
+static inline uint32_t tables_need(uint64_t word)
+{
+    return tables_refused_by(word) == TABLES_REFUSED_OUT ? (uint32_t)word : 0;
 }
 
 /*
@@ -213,6 +335,7 @@ static inline uint32_t tables_refused_by(uint64_t word)
  * TABLES_EDITION_2) with room for so many nodes, subgoals and answers, whatever
  * they held. TABLES_DONE. Refused by 2.
  */
+TABLES_MUST_CHECK
 uint64_t tables_fresh(uint32_t *space, size_t space_cells, uint32_t nodes, uint32_t subgoals,
                       uint32_t answers, uint32_t edition);
 
@@ -222,6 +345,7 @@ uint64_t tables_fresh(uint32_t *space, size_t space_cells, uint32_t nodes, uint3
  * TABLES_OLD_OPEN or TABLES_OLD_FINISHED, each with the subgoal's number;
  * numbers go from 1 in order of entry. Refused by 1, 4, 3, 5, 6, 9, 10, 11.
  */
+TABLES_MUST_CHECK
 uint64_t tables_call(uint32_t *space, size_t space_cells, const uint32_t *term, size_t term_cells);
 
 /*
@@ -232,6 +356,7 @@ uint64_t tables_call(uint32_t *space, size_t space_cells, const uint32_t *term, 
  * TABLES_OLD, with the answer's number; numbers go from 1 in order of entry,
  * through all subgoals. Refused by 1, 7, 9, 8, 4, 3, 5, 9, 10, 11.
  */
+TABLES_MUST_CHECK
 uint64_t tables_answer(uint32_t *space, size_t space_cells, uint32_t subgoal, const uint32_t *terms,
                        size_t terms_cells);
 
@@ -239,6 +364,7 @@ uint64_t tables_answer(uint32_t *space, size_t space_cells, uint32_t subgoal, co
  * Finishes a subgoal: it takes no more answers. TABLES_DONE, also the second
  * time. Refused by 1, 7, 9.
  */
+TABLES_MUST_CHECK
 uint64_t tables_finish(uint32_t *space, size_t space_cells, uint32_t subgoal);
 
 /*
@@ -247,6 +373,7 @@ uint64_t tables_finish(uint32_t *space, size_t space_cells, uint32_t subgoal);
  * TABLES_NONE. While the subgoal is open, an answer may follow later. Refused
  * by 1, 7, 9.
  */
+TABLES_MUST_CHECK
 uint64_t tables_next(const uint32_t *space, size_t space_cells, uint32_t subgoal, uint32_t after);
 
 /*
@@ -256,6 +383,7 @@ uint64_t tables_next(const uint32_t *space, size_t space_cells, uint32_t subgoal
  * out beyond them stays. TABLES_TERM_CELLS cells always suffice. Refused by 1,
  * 7, 9, 12.
  */
+TABLES_MUST_CHECK
 uint64_t tables_load(const uint32_t *space, size_t space_cells, uint32_t answer, uint32_t *out,
                      size_t out_cells);
 
@@ -264,10 +392,11 @@ uint64_t tables_load(const uint32_t *space, size_t space_cells, uint32_t answer,
  * answer's term for it, in pair form; variables are numbered as by tables_load.
  * TABLES_CELLS with the number of cells written; out beyond them stays. Refused
  * by 1, 7, 9, 12. An instance may be longer than a term that is called:
- * TABLES_INSTANCE_CELLS cells always suffice, or ask first with none, and 12
- * says how many.
+ * TABLES_INSTANCE_CELLS cells always suffice, or ask first with none, and
+ * tables_need says how many.
  */
 #define TABLES_INSTANCE_CELLS 65281 /* f/255 of one variable, for which 256 cells are put */
+TABLES_MUST_CHECK
 uint64_t tables_instance(const uint32_t *space, size_t space_cells, uint32_t answer, uint32_t *out,
                          size_t out_cells);
 
@@ -275,6 +404,7 @@ uint64_t tables_instance(const uint32_t *space, size_t space_cells, uint32_t ans
  * Writes the nodes, subgoals and answers used to out[0], out[1] and out[2].
  * TABLES_COUNTS. Refused by 1, 12.
  */
+TABLES_MUST_CHECK
 uint64_t tables_counts(const uint32_t *space, size_t space_cells, uint32_t *out, size_t out_cells);
 
 /*
@@ -282,16 +412,28 @@ uint64_t tables_counts(const uint32_t *space, size_t space_cells, uint32_t *out,
  *
  * They stand alone, without a space, so they are told the edition by which a
  * functor is read: TABLES_EDITION_1 or TABLES_EDITION_2. A converter returns the
- * number of cells written, at least 1, or TABLES_REFUSED plus the refusal's
- * number.
+ * number of cells written, at least 1, or TABLES_CONVERTER_REFUSED plus the
+ * refusal's number.
  *
  *     uint32_t result = tables_compact(in, in_bytes, out, out_bytes, TABLES_EDITION_2);
- *     if (TABLES_IS_REFUSED(result))
- *         complain(TABLES_REFUSAL(result));
+ *     if (tables_converter_refused_by(result) != 0)
+ *         complain(tables_refusal_text(tables_converter_refused_by(result)));
+ *     else
+ *         cells = tables_converter_cells(result);
  */
-#define TABLES_REFUSED UINT32_C(0x80000000)
-#define TABLES_IS_REFUSED(result) (((result) & TABLES_REFUSED) != 0)
-#define TABLES_REFUSAL(result) ((result) & ~TABLES_REFUSED)
+#define TABLES_CONVERTER_REFUSED UINT32_C(0x80000000)
+
+/* The refusal's number, or 0 if the converter was not refused. */
+static inline uint32_t tables_converter_refused_by(uint32_t result)
+{
+    return result > TABLES_CONVERTER_REFUSED ? result - TABLES_CONVERTER_REFUSED : 0;
+}
+
+/* The cells that a converter wrote; 0 if it was refused. */
+static inline uint32_t tables_converter_cells(uint32_t result)
+{
+    return result < TABLES_CONVERTER_REFUSED ? result : 0;
+}
 
 /*
  * in      in_bytes bytes, one term; read, never written.
@@ -322,6 +464,7 @@ uint64_t tables_counts(const uint32_t *space, size_t space_cells, uint32_t *out,
  * term (a kind other than 1 to 5, a functor of arity 0, a pair with a payload,
  * cells missing or left over); TABLES_REFUSED_VARIABLES; TABLES_REFUSED_OUT.
  */
+TABLES_MUST_CHECK
 uint32_t tables_compact(const uint8_t *in, size_t in_bytes, uint8_t *out, size_t out_bytes,
                         uint32_t edition);
 
@@ -338,6 +481,7 @@ uint32_t tables_compact(const uint8_t *in, size_t in_bytes, uint8_t *out, size_t
  * variables, or if its variables are not numbered by first meeting;
  * TABLES_REFUSED_OUT.
  */
+TABLES_MUST_CHECK
 uint32_t tables_expand(const uint8_t *in, size_t in_bytes, uint8_t *out, size_t out_bytes,
                        uint32_t edition);
 

@@ -14,7 +14,7 @@
 #define PAIR UINT32_C(0x50000000)
 
 #define SAID(what, value) ((uint64_t)(what) << 32 | (value))
-#define REFUSED(number) SAID(TABLES_REFUSED_BY + (number), 0)
+#define REFUSED(number) SAID(TABLES_CALL_REFUSED + (number), 0)
 
 enum { NODES = 2000, SUBGOALS = 8, ANSWERS = 8, MOST_CELLS = 600, MOST_FAILURES = 10 };
 enum { SPACE_CELLS = TABLES_SPACE_CELLS(NODES, SUBGOALS, ANSWERS) };
@@ -141,7 +141,7 @@ static void writes(const char *what, writer *write, uint32_t answer, const uint3
     for (size_t i = 0; i < OUT_CELLS; i++)
         out[i] = MARK;
     uint64_t word = write(space, SPACE_CELLS, answer, out, count - 1);
-    check_word(what, word, SAID(TABLES_REFUSED_BY + 12, count));
+    check_word(what, word, SAID(TABLES_CALL_REFUSED + 12, count));
     check(is_marked(0), what);
     word = write(space, SPACE_CELLS, answer, out, OUT_CELLS);
     check_word(what, word, SAID(TABLES_CELLS, count));

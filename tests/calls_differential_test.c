@@ -185,9 +185,9 @@ static void refuse_fresh(struct run *run)
         cells = TABLES_SPACE_CELLS(capacity[0], capacity[1], capacity[2]) - between(1, 9);
     }
     uint64_t word = tables_fresh(run->space, cells, capacity[0], capacity[1], capacity[2], edition);
-    if (word != (uint64_t)(TABLES_REFUSED_BY + TABLES_REFUSED_FRESH) << 32)
+    if (word != (uint64_t)(TABLES_CALL_REFUSED + TABLES_REFUSED_FRESH) << 32)
         fail(run, "fresh", "result", word,
-             (uint64_t)(TABLES_REFUSED_BY + TABLES_REFUSED_FRESH) << 32);
+             (uint64_t)(TABLES_CALL_REFUSED + TABLES_REFUSED_FRESH) << 32);
     if (!same_cells(run->space, space_before, run->space_cells))
         fail(run, "fresh", "a refused call changed the space", word, 0);
     count_result(run, FRESH, word);
@@ -256,7 +256,7 @@ static size_t draw_room(const struct run *run, const struct request *request)
 {
     size_t need = 3;
     if (request->kind == LOAD || request->kind == INSTANCE)
-        need = tables_value(ask_plain(run->plain, request, NULL, 0));
+        need = tables_need(ask_plain(run->plain, request, NULL, 0));
     switch (below(6)) {
     case 0:
         return below(need + 1);
@@ -530,7 +530,7 @@ struct published {
 };
 
 #define WORD(what, value) (((uint64_t)(what) << 32) + (value))
-#define REFUSED_WORD(number) WORD(TABLES_REFUSED_BY + (number), 0)
+#define REFUSED_WORD(number) WORD(TABLES_CALL_REFUSED + (number), 0)
 #define F2 TABLES_FUNCTOR_CELL(TABLES_EDITION_1, 1, 2)
 #define G1 TABLES_FUNCTOR_CELL(TABLES_EDITION_1, 2, 1)
 #define G2 TABLES_FUNCTOR_CELL(TABLES_EDITION_1, 2, 2)

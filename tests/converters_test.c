@@ -471,8 +471,7 @@ static void test_names(void)
     check(TABLES_CELL(TABLES_EPAIR, 0) == EPAIR, "header", "EPAIR");
     check(TABLES_KIND(F3) == TABLES_FUNCTOR && TABLES_PAYLOAD(F3) == functor(0x13, 0x103), "header",
           "kind and payload");
-    check(TABLES_IS_REFUSED(REFUSED(3)) && !TABLES_IS_REFUSED(383u), "header", "refused");
-    check(TABLES_REFUSAL(REFUSED(13)) == TABLES_REFUSED_FORM, "header", "refusal");
+    check(tables_converter_refused_by(REFUSED(13)) == TABLES_REFUSED_FORM, "header", "refusal");
 }
 
 /* All of it in one edition. */

@@ -165,7 +165,7 @@ static void damage_tokens(struct image *image)
     static const size_t payloads[] = {2, 2, 40, 300};
     for (size_t changes = between(1, 6); changes > 0; changes--)
         image->cell[8 + 5 * below(image->cell[1])] =
-            TABLES_CELL(below(10), below(payloads[below(4)]));
+            raw_cell(below(10), below(payloads[below(4)]));
 }
 
 static void draw_damaged(struct image *image)
@@ -238,7 +238,7 @@ static void check_edition(unsigned round, const struct request *request, const s
 {
     bool has_edition = image->count >= 8 && (image->cell[0] == TABLES_EDITION_1 ||
                                              image->cell[0] == TABLES_EDITION_2);
-    if (!has_edition && word != (uint64_t)(TABLES_REFUSED_BY + TABLES_REFUSED_HEADER) << 32)
+    if (!has_edition && word != (uint64_t)(TABLES_CALL_REFUSED + TABLES_REFUSED_HEADER) << 32)
         fail(round, request_names[request->kind], "not refused by 1", word);
 }
 

@@ -21,7 +21,7 @@ enum { CELL_BYTES = 4, MOST_CELLS = 1200, LONGEST_TERM = 600, ARENA_PAGES = 2, M
 #define BLIST TABLES_CELL(TABLES_BLIST, 0)
 #define ELIST TABLES_CELL(TABLES_ELIST, 0)
 #define EPAIR TABLES_CELL(TABLES_EPAIR, 0)
-#define VARIABLE(name) TABLES_CELL(TABLES_VARIABLE, name)
+#define VARIABLE(name) tables_cell(TABLES_VARIABLE, name)
 
 typedef uint32_t converter(const uint8_t *, size_t, uint8_t *, size_t, uint32_t);
 
@@ -215,7 +215,7 @@ static void write_leaf(struct sample *sample, bool tail)
     uint32_t payload = !tail && chance(20) ? 0 : random_payload();
     if (tail && kind == TABLES_ATOM && payload == 0)
         payload = 1;
-    write_cell(sample, TABLES_CELL(kind, payload));
+    write_cell(sample, tables_cell(kind, payload));
 }
 
 static void write_term(struct sample *sample, size_t size);
@@ -375,13 +375,13 @@ static uint32_t odd_cell(void)
     case 2:
         return VARIABLE(below(35));
     case 3: /* of either edition, and of arity 0 in one or in both */
-        return TABLES_CELL(TABLES_FUNCTOR, below(chance(50) ? 48 : 600));
+        return tables_cell(TABLES_FUNCTOR, below(chance(50) ? 48 : 600));
     case 4:
-        return TABLES_CELL(TABLES_INTEGER, random_payload());
+        return tables_cell(TABLES_INTEGER, random_payload());
     case 5:
-        return TABLES_CELL(below(16), below(3));
+        return raw_cell(below(16), below(3));
     case 6:
-        return TABLES_CELL(TABLES_ATOM, below(3));
+        return tables_cell(TABLES_ATOM, below(3));
     default:
         return (uint32_t)random_word();
     }
@@ -625,15 +625,15 @@ static uint32_t compare_call(const struct direction *d, const struct cells *in, 
 
 static void count_outcome(const struct direction *d, uint32_t result, size_t in_bytes)
 {
-    if (!TABLES_IS_REFUSED(result))
+    if (tables_converter_refused_by(result) == 0)
         met[d->accepted]++;
     else if (in_bytes % CELL_BYTES != 0)
         met[d->byte_count]++;
-    else if (TABLES_REFUSAL(result) == TABLES_REFUSED_OUT)
+    else if (tables_converter_refused_by(result) == TABLES_REFUSED_OUT)
         met[d->out]++;
-    else if (TABLES_REFUSAL(result) == TABLES_REFUSED_LENGTH)
+    else if (tables_converter_refused_by(result) == TABLES_REFUSED_LENGTH)
         met[COMPACT_LENGTH]++;
-    else if (TABLES_REFUSAL(result) == TABLES_REFUSED_VARIABLES)
+    else if (tables_converter_refused_by(result) == TABLES_REFUSED_VARIABLES)
         met[COMPACT_VARIABLES]++;
     else
         met[d->wrong]++;
@@ -699,7 +699,7 @@ static uint32_t compare_input(const struct direction *d, const struct cells *in,
 {
     to_bytes(raw, in);
     uint32_t need = ample_result(d, in, edition);
-    bool legal = !TABLES_IS_REFUSED(need);
+    bool legal = tables_converter_refused_by(need) == 0;
     if (!legal)
         need = 1 + (uint32_t)below(TABLES_COMPACT_CELLS);
     size_t in_bytes = random_bytes(in, 5);
@@ -715,7 +715,8 @@ static void compare_no_edition(const struct direction *d, const struct cells *in
 {
     uint32_t none = chance(50) ? no_editions[below(NO_EDITIONS)] : (uint32_t)random_word() | 4;
     size_t in_bytes = random_bytes(in, 30), room = random_room(1 + (uint32_t)below(300));
-    if (compare_call(d, in, in_bytes, room, none) != TABLES_REFUSED + TABLES_REFUSED_HEADER)
+    if (tables_converter_refused_by(compare_call(d, in, in_bytes, room, none)) !=
+        TABLES_REFUSED_HEADER)
         fail("no edition", in, in_bytes, room);
     met[d == &compacting ? COMPACT_EDITION : EXPAND_EDITION]++;
     met[EDITION_AND_BYTE_COUNT] += in_bytes % CELL_BYTES != 0;
@@ -735,8 +736,8 @@ static bool has_arity(const struct cells *in, uint32_t edition, uint32_t least, 
 /* Counts what the editions say of the same cells, with ample room. */
 static void count_editions(const struct direction *d, const struct cells *in)
 {
-    bool in_1 = !TABLES_IS_REFUSED(ample_result(d, in, TABLES_EDITION_1));
-    bool in_2 = !TABLES_IS_REFUSED(ample_result(d, in, TABLES_EDITION_2));
+    bool in_1 = tables_converter_refused_by(ample_result(d, in, TABLES_EDITION_1)) == 0;
+    bool in_2 = tables_converter_refused_by(ample_result(d, in, TABLES_EDITION_2)) == 0;
     met[ACCEPTED_IN_1] += in_1;
     met[ACCEPTED_IN_2] += in_2;
     met[ARITY_40] += in_2 && has_arity(in, TABLES_EDITION_2, 40, 40);
@@ -797,8 +798,8 @@ static void check_reference(const struct sample *sample)
 /* Counts the samples that lie at a limit. */
 static void count_limits(const struct direction *d, const struct sample *sample, uint32_t result)
 {
-    bool accepted = !TABLES_IS_REFUSED(result);
-    uint32_t refusal = accepted ? 0 : TABLES_REFUSAL(result);
+    bool accepted = tables_converter_refused_by(result) == 0;
+    uint32_t refusal = tables_converter_refused_by(result);
     size_t cells = sample->term.count;
     if (d == &compacting) {
         met[TERM_256] += accepted && cells == 256;

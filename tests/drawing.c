@@ -141,9 +141,9 @@ static uint32_t draw_leaf(const struct style *style, size_t *met)
 {
     if (chance(style->variable_chance)) {
         bool fresh = *met < style->distinct && (*met == 0 || chance(60));
-        return TABLES_CELL(TABLES_VARIABLE, fresh ? (*met)++ : below(*met));
+        return tables_cell(TABLES_VARIABLE, fresh ? (*met)++ : below(*met));
     }
-    return TABLES_CELL(chance(60) ? TABLES_ATOM : TABLES_INTEGER, draw_name(style));
+    return tables_cell(chance(60) ? TABLES_ATOM : TABLES_INTEGER, draw_name(style));
 }
 
 /* From 1 to `most`. */
@@ -183,7 +183,7 @@ static size_t arguments_of(uint32_t edition, uint32_t cell)
 static uint32_t draw_predicate(const struct style *style, size_t most)
 {
     if (most == 0)
-        return TABLES_CELL(TABLES_ATOM, draw_name(style));
+        return tables_cell(TABLES_ATOM, draw_name(style));
     return draw_functor(style, most);
 }
 
@@ -233,7 +233,7 @@ static uint32_t odd_functor(uint32_t edition)
 static void spoil(uint32_t edition, struct argument *argument)
 {
     static const uint32_t kinds[] = {0, 6, 7, 8, 9, 15};
-    uint32_t illegal = TABLES_CELL(kinds[below(6)], below(2));
+    uint32_t illegal = raw_cell(kinds[below(6)], below(2));
     size_t place = argument->count == 0 ? 0 : below(argument->count);
     unsigned way = (unsigned)below(7);
     if (argument->count == 0 || way == 0)

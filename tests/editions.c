@@ -4,6 +4,11 @@
 /* Kind = cell divided by 2^28; a functor's is 4. */
 static const uint32_t kind_unit = UINT32_C(1) << 28;
 
+uint32_t raw_cell(size_t kind, size_t payload)
+{
+    return (uint32_t)kind * kind_unit + (uint32_t)payload;
+}
+
 uint32_t other_edition(uint32_t edition)
 {
     return edition == 1 ? 2 : 1;

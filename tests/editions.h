@@ -2,12 +2,16 @@
 #ifndef EDITIONS_H
 #define EDITIONS_H
 
+#include <stddef.h>
 #include <stdint.h>
 
 /* The editions are 1 to this. */
 enum { LAST_EDITION = 2 };
 
 uint32_t other_edition(uint32_t edition);
+
+/* A cell of any kind, 0 to 15, and any payload, legal or not. */
+uint32_t raw_cell(size_t kind, size_t payload);
 
 /* The arity of a functor cell as an edition reads it; 0 is none. */
 uint32_t arity_in(uint32_t edition, uint32_t functor);

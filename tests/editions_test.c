@@ -16,7 +16,7 @@
 #define BLIST UINT32_C(0x60000000)
 
 #define SAID(what, value) ((uint64_t)(what) << 32 | (value))
-#define REFUSED(number) SAID(TABLES_REFUSED_BY + (number), 0)
+#define REFUSED(number) SAID(TABLES_CALL_REFUSED + (number), 0)
 #define CONVERTER_REFUSED(number) (UINT32_C(0x80000000) + (number))
 
 enum { NODES = 600, SUBGOALS = 4, ANSWERS = 4, SWEEP = 4000, MOST_FAILURES = 10, CELL_BYTES = 4 };

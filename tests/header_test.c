@@ -1,0 +1,176 @@
+/* Checks what the header gives besides the calls: cells, words, texts and the version. C11 and C++17 alike. */
+#include <tables.h>
+
+#include <stdio.h>
+#include <string.h>
+
+#if TABLES_VERSION < 10000
+#error "the version is 1.0.0 or later"
+#endif
+
+static int checks, failures;
+
+static void check(int right, const char *what)
+{
+    checks++;
+    failures += !right;
+    if (!right)
+        printf("header_test: %s\n", what);
+}
+
+/* Where a constant expression is due. */
+enum { PAIR = TABLES_CELL(TABLES_PAIR, 0), SPACE_CELLS = TABLES_SPACE_CELLS(10, 2, 2) };
+static const uint32_t constant[] = {
+    TABLES_FUNCTOR_CELL(TABLES_EDITION_2, 1, 40), TABLES_CELL(TABLES_ATOM, 7), TABLES_EMPTY_LIST,
+    TABLES_CELL(TABLES_ATOM, TABLES_MOST_PAYLOAD + 1), TABLES_CELL(TABLES_INTEGER, -1)};
+
+static void test_constants(void)
+{
+    check(PAIR == 0x50000000, "a pair");
+    check(constant[0] == 0x40000128 && constant[1] == 0x20000007, "constants in range");
+    check(constant[2] == 0x20000000, "the empty list");
+    check(constant[3] == 0 && constant[4] == 0, "constants out of range");
+    switch (constant[1]) {
+    case TABLES_CELL(TABLES_ATOM, 7):
+        break;
+    default:
+        check(0, "a case label");
+    }
+}
+
+/* The cell of a kind and a payload by the function and by the macro. */
+static void check_cell(uint64_t kind, uint64_t payload, uint64_t expected)
+{
+    check(tables_cell(kind, payload) == expected, "tables_cell");
+    check(TABLES_CELL(kind, payload) == expected, "TABLES_CELL");
+}
+
+static void test_cells(void)
+{
+    static const uint64_t far[] = {1, 15, 16, 255, 256, 0x0fffffff};
+    static const uint64_t outside[] = {0x10000000, 0x20000000, 0xffffffff, UINT64_C(1) << 32,
+                                       UINT64_MAX};
+    for (uint64_t kind = 0; kind < 20; kind++) {
+        int known = kind >= 1 && kind <= 8, marks = kind > 4;
+        check_cell(kind, 0, known ? kind << 28 : 0);
+        for (size_t i = 0; i < sizeof far / sizeof *far; i++)
+            check_cell(kind, far[i], known && !marks ? kind << 28 | far[i] : 0);
+        for (size_t i = 0; i < sizeof outside / sizeof *outside; i++)
+            check_cell(kind, outside[i], 0);
+    }
+    check_cell(UINT64_C(1) << 32 | 2, 7, 0);
+    check_cell(UINT64_MAX, 7, 0);
+    check_cell(TABLES_INTEGER, (uint64_t)-1, 0);
+}
+
+/* The functions take each argument once; a narrow one makes no warning in the macros. */
+static void test_arguments(void)
+{
+    uint8_t byte = 7;
+    uint32_t number = 7;
+    check(TABLES_CELL(TABLES_ATOM, byte) == 0x20000007, "a byte for a payload");
+    check(TABLES_CELL(byte, 0) == 0x70000000, "a byte for a kind");
+    check(TABLES_FUNCTOR_CELL(TABLES_EDITION_2, byte, byte) == 0x40000707, "a byte for a name");
+    check(tables_cell(TABLES_ATOM, number++) == 0x20000007 && number == 8, "evaluated once");
+    check(tables_functor_cell(TABLES_EDITION_1, number++, 3) == 0x40000083 && number == 9,
+          "a functor's evaluated once");
+}
+
+static void check_functor(uint64_t edition, uint64_t name, uint64_t arity, uint64_t expected)
+{
+    check(tables_functor_cell(edition, name, arity) == expected, "tables_functor_cell");
+    check(TABLES_FUNCTOR_CELL(edition, name, arity) == expected, "TABLES_FUNCTOR_CELL");
+}
+
+static void test_functors(void)
+{
+    check_functor(1, 1, 2, 0x40000012);
+    check_functor(1, 16777215, 15, 0x4fffffff);
+    check_functor(1, 16777216, 15, 0);
+    check_functor(1, 1, 16, 0);
+    check_functor(1, 1, 17, 0);
+    check_functor(2, 1, 17, 0x40000111);
+    check_functor(2, 1048575, 255, 0x4fffffff);
+    check_functor(2, 1048576, 1, 0);
+    check_functor(2, 1, 256, 0);
+    check_functor(2, 1, 0, 0);
+    check_functor(2, UINT64_MAX, 1, 0);
+    check_functor(2, UINT64_C(1) << 32, 1, 0);
+    check_functor(0, 1, 2, 0);
+    check_functor(3, 1, 2, 0);
+    check_functor(UINT64_C(1) << 32 | 1, 1, 2, 0);
+}
+
+static uint64_t word(uint64_t what, uint32_t value)
+{
+    return what << 32 | value;
+}
+
+static void test_words(void)
+{
+    check(tables_value(word(TABLES_CELLS, 5)) == 5, "a value");
+    check(tables_refused_by(word(TABLES_CELLS, 5)) == 0, "not refused");
+    check(tables_need(word(TABLES_CELLS, 12)) == 0, "no need of an accepted call");
+    for (uint32_t refusal = 1; refusal <= 13; refusal++) {
+        uint64_t refused = word(TABLES_CALL_REFUSED + refusal, 9);
+        check(tables_refused_by(refused) == refusal, "refused by its number");
+        check(tables_value(refused) == 0, "no value of a refused call");
+        check(tables_need(refused) == (refusal == TABLES_REFUSED_OUT ? 9u : 0u), "the need");
+        check(tables_converter_refused_by(TABLES_CONVERTER_REFUSED + refusal) == refusal,
+              "a converter's refusal");
+        check(tables_converter_cells(TABLES_CONVERTER_REFUSED + refusal) == 0, "no cells");
+    }
+    check(tables_converter_refused_by(383) == 0, "a converter not refused");
+    check(tables_converter_cells(383) == 383, "a converter's cells");
+}
+
+/* A sentence for each number, none twice, and one for all others. */
+static void test_texts(void)
+{
+    for (uint32_t i = 0; i <= 14; i++) {
+        const char *text = tables_refusal_text(i);
+        size_t length = strlen(text);
+        check(length > 10 && text[length - 1] == '.', "a sentence");
+        for (uint32_t j = 1; j < i && i <= 13; j++)
+            check(strcmp(text, tables_refusal_text(j)) != 0, "a sentence of its own");
+    }
+    check(strcmp(tables_refusal_text(0), tables_refusal_text(14)) == 0, "no refusal");
+    check(strcmp(tables_refusal_text(14), tables_refusal_text(UINT32_MAX)) == 0, "unknown");
+    check(strcmp(tables_refusal_text(13), tables_refusal_text(14)) != 0, "13 is known");
+}
+
+/* Cells out of range are refused by 3, the need is the need, and a space knows its edition. */
+static void test_space(void)
+{
+    static uint32_t space[SPACE_CELLS];
+    uint32_t out[4] = {0, 0, 0, 0};
+    const uint32_t goal[] = {tables_functor_cell(TABLES_EDITION_2, 1, 1),
+                             tables_cell(TABLES_VARIABLE, 0)};
+    const uint32_t spilled = tables_cell(TABLES_ATOM, UINT64_C(1) << 28);
+    const uint32_t atom = tables_cell(TABLES_ATOM, 3);
+    check(tables_fresh(space, SPACE_CELLS, 10, 2, 2, TABLES_EDITION_2) == 0, "fresh");
+    check(tables_edition(space, SPACE_CELLS) == TABLES_EDITION_2, "the edition");
+    check(tables_edition(NULL, 0) == 0, "no edition");
+    check(tables_value(tables_call(space, SPACE_CELLS, goal, 2)) == 1, "a subgoal");
+    check(tables_refused_by(tables_answer(space, SPACE_CELLS, 1, &spilled, 1)) ==
+              TABLES_REFUSED_TERM,
+          "a spilled atom is refused");
+    check(tables_value(tables_answer(space, SPACE_CELLS, 1, &atom, 1)) == 1, "an answer");
+    check(tables_need(tables_instance(space, SPACE_CELLS, 1, out, 1)) == 2, "an instance's need");
+    check(tables_value(tables_instance(space, SPACE_CELLS, 1, out, 1)) == 0, "and no value");
+    check(tables_value(tables_instance(space, SPACE_CELLS, 1, out, 4)) == 2, "an instance");
+    check(out[0] == goal[0] && out[1] == atom && out[2] == 0, "its cells");
+}
+
+int main(void)
+{
+    test_constants();
+    test_cells();
+    test_arguments();
+    test_functors();
+    test_words();
+    test_texts();
+    test_space();
+    printf("header_test: %d checks, %d failed\n", checks, failures);
+    return failures != 0;
+}

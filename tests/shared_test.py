@@ -1,0 +1,101 @@
+"""Makes every call of the store from Python, through a shared object that the first argument names."""
+import ctypes
+import sys
+
+NEW, OLD, OLD_OPEN, OLD_FINISHED, AT, NONE, CELLS, COUNTS, REFUSED = 1, 2, 3, 4, 5, 6, 7, 8, 256
+EDITION_2 = 2
+F2, X, Y, A, B, PAIR, EMPTY = 0x40000102, 0x10000007, 0x10000009, 0x20000001, 0x20000002, 0x50000000, 0x20000000
+BLIST, ELIST = 0x60000000, 0x70000000
+
+CELL, SIZE, WORD, BYTE = ctypes.c_uint32, ctypes.c_size_t, ctypes.c_uint64, ctypes.c_uint8
+SPACE = [ctypes.POINTER(CELL), SIZE]
+BYTES = [ctypes.POINTER(BYTE), SIZE]
+ARGUMENTS = {
+    "fresh": SPACE + [CELL] * 4,
+    "call": SPACE + SPACE,
+    "answer": SPACE + [CELL] + SPACE,
+    "finish": SPACE + [CELL],
+    "next": SPACE + [CELL, CELL],
+    "load": SPACE + [CELL] + SPACE,
+    "instance": SPACE + [CELL] + SPACE,
+    "counts": SPACE + SPACE,
+    "compact": BYTES + BYTES + [CELL],
+    "expand": BYTES + BYTES + [CELL],
+}
+
+
+def exports(path):
+    """The ten exports by their names."""
+    library = ctypes.CDLL(path)
+    found = {}
+    for name, arguments in ARGUMENTS.items():
+        function = getattr(library, "tables_" + name)
+        function.argtypes = arguments
+        function.restype = CELL if arguments[:2] == BYTES else WORD
+        found[name] = function
+    return found
+
+
+def cells(values):
+    """An array of cells and its length."""
+    return (CELL * max(len(values), 1))(*values), len(values)
+
+
+def data(values):
+    """Cells as bytes, the lowest first, and their number."""
+    raw = b"".join(value.to_bytes(4, "little") for value in values)
+    return (BYTE * len(raw))(*raw), len(raw)
+
+
+def expect(what, got, due):
+    """Ends the program unless what came is what was due."""
+    if got != due:
+        sys.exit(f"shared_test: {what}: {got}, not {due}")
+
+
+def try_table(call):
+    """A table from fresh to a refusal."""
+    space, out = cells([0] * (8 + 5 * 20 + 6 * 2 + 3 * 3)), cells([0] * 8)
+
+    def said(what, name, value, *arguments):
+        expect(name, divmod(call[name](*space, *arguments), 2**32), (what, value))
+
+    said(0, "fresh", 0, 20, 2, 3, EDITION_2)
+    said(NEW, "call", 1, *cells([F2, X, Y]))
+    said(OLD_OPEN, "call", 1, *cells([F2, Y, X]))
+    said(NEW, "answer", 1, 1, *cells([A, PAIR, B, EMPTY]))
+    said(OLD, "answer", 1, 1, *cells([A, PAIR, B, EMPTY]))
+    said(REFUSED + 3, "answer", 0, 1, *cells([]))
+    said(AT, "next", 1, 1, 0)
+    said(NONE, "next", 0, 1, 1)
+    said(CELLS, "load", 4, 1, *out)
+    expect("loaded", list(out[0][:5]), [A, PAIR, B, EMPTY, 0])
+    said(CELLS, "instance", 5, 1, *out)
+    expect("instance", list(out[0][:6]), [F2, A, PAIR, B, EMPTY, 0])
+    said(REFUSED + 12, "instance", 5, 1, out[0], 4)
+    said(COUNTS, "counts", 3, *out)
+    expect("counts", list(out[0][:3]), [9, 1, 1])
+    said(0, "finish", 0, 1)
+    said(OLD_FINISHED, "call", 1, *cells([F2, X, Y]))
+    said(REFUSED + 8, "answer", 0, 1, *cells([A, A]))
+
+
+def try_converters(call):
+    """[A, B] to its compact form and back."""
+    term, form, out = [PAIR, A, PAIR, B, EMPTY], [BLIST, A, ELIST, B], data([0] * 8)
+    expect("compact", call["compact"](*data(term), *out, EDITION_2), len(form))
+    expect("compacted", bytes(out[0])[:16], bytes(data(form)[0]))
+    expect("expand", call["expand"](*data(form), *out, EDITION_2), len(term))
+    expect("expanded", bytes(out[0])[:20], bytes(data(term)[0]))
+    expect("refused", call["expand"](*data(term), *out, EDITION_2), 2**31 + 13)
+
+
+def main():
+    """Tries all exports."""
+    call = exports(sys.argv[1])
+    try_table(call)
+    try_converters(call)
+    print("shared_test: as expected")
+
+
+main()
