@@ -469,8 +469,10 @@ static void write_chain(uint32_t tokens)
 {
     const uint32_t term[] = {recoded(edition, G1), VAR(0)};
     size_t cells = sizeof chain_space / sizeof *chain_space;
-    tables_fresh(chain_space, cells, LONGEST_PATH + 4, 1, 1, edition);
-    tables_call(chain_space, cells, term, 2);
+    uint64_t word = tables_fresh(chain_space, cells, LONGEST_PATH + 4, 1, 1, edition);
+    check(word == TABLES_DONE, "a long path", "fresh");
+    word = tables_call(chain_space, cells, term, 2);
+    check(word == SAID(TABLES_NEW, 1), "a long path", "call");
     for (uint32_t i = 0; i < tokens; i++) {
         uint32_t node[5] = {chain_tokens[i], i + 1 < tokens ? i + 5 : 0, 0, i + 3,
                             i + 1 < tokens ? 0 : 1};
@@ -530,9 +532,11 @@ static void check_lengths(void)
         for (uint32_t i = 0; i < tokens; i++) /* so that no two are alike */
             chain_tokens[i] = i + 1 < tokens ? TABLES_FUNCTOR_CELL(edition, i + 1, 1) : B;
         write_chain(tokens);
-        tables_load(chain_space, cells, 1, out, 300);
+        uint64_t word = tables_load(chain_space, cells, 1, out, 300);
+        check(word == SAID(TABLES_CELLS, tokens), rule, "load");
         check(memcmp(out, chain_tokens, tokens * sizeof *out) == 0, rule, "cells loaded");
-        tables_instance(chain_space, cells, 1, out, 300);
+        word = tables_instance(chain_space, cells, 1, out, 300);
+        check(word == SAID(TABLES_CELLS, tokens + 1), rule, "instance");
         check(memcmp(out + 1, chain_tokens, tokens * sizeof *out) == 0, rule, "cells of instance");
     }
 }
@@ -595,7 +599,9 @@ static void check_functor_paths(void)
         check_chain(rule, tokens, load, instance);
         if (cells == 0)
             continue;
-        tables_load(chain_space, sizeof chain_space / sizeof *chain_space, 1, out, 300);
+        uint64_t word =
+            tables_load(chain_space, sizeof chain_space / sizeof *chain_space, 1, out, 300);
+        check(word == load, rule, "load again");
         check(memcmp(out, chain_tokens, cells * sizeof *out) == 0, rule, "cells loaded");
     }
 }

@@ -64,7 +64,10 @@ static void draw_sound(struct image *image)
     image->count = TABLES_SPACE_CELLS(nodes, subgoals, answers) + below(3);
     memset(&known, 0, sizeof known);
     open_drawer(&drawer, image->edition, nodes > 100 ? 20 : 2, 5, chance(50) ? 4 : 8);
-    tables_fresh(image->cell, image->count, nodes, subgoals, answers, image->edition);
+    uint64_t made =
+        tables_fresh(image->cell, image->count, nodes, subgoals, answers, image->edition);
+    if (made != TABLES_DONE)
+        fail(0, "fresh", "no space to damage", made);
     for (size_t calls = between(3, 40); calls > 0; calls--) {
         static const enum request_kind kinds[] = {CALL,   CALL,   CALL,   ANSWER,
                                                   ANSWER, ANSWER, ANSWER, ANSWER};

@@ -243,7 +243,7 @@ static void check_as_answer(uint32_t edition, const struct term *term, uint32_t 
 {
     static const uint32_t subgoal[] = {FUNCTOR(1), VAR(0)};
     check_word("fresh", make_fresh(&space, edition), TABLES_DONE);
-    tables_call(space.cell, SPACE_CELLS, subgoal, 2);
+    check_word("call", tables_call(space.cell, SPACE_CELLS, subgoal, 2), SAID(TABLES_NEW, 1));
     keep();
     check_word("answer", tables_answer(space.cell, SPACE_CELLS, 1, term->cell, term->count),
                refusal == 0 ? SAID(TABLES_NEW, 1) : REFUSED(refusal));
