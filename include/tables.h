@@ -266,10 +266,10 @@ static inline uint32_t tables_edition(const uint32_t *space, size_t space_cells)
  * and not addresses. Whatever it holds when it comes back, every call returns,
  * and touches nothing beside the cells lent.
  *
- * Noticed: every call judges the whole header (refusal 1), and each record that
- * it reads (9): whether the numbers in it lie within the counts and are above or
- * below it as they must, whether it agrees with the record that led to it, and
- * whether a path that is loaded is the compact form of legal terms.
+ * Noticed: every call but tables_fresh judges the header (refusal 1), and each
+ * record that it reads (9): whether the numbers in it lie within the counts and
+ * are above or below it as they must, whether it agrees with the record that led
+ * to it, and whether a path that is loaded is the compact form of legal terms.
  *
  * Not noticed: damage in cells that the call does not read; and in a cell that
  * it reads, a wrong number that is in range and breaks no rule. Such a cell is

@@ -1,4 +1,4 @@
-/* Checks what the header gives besides the calls: cells, words, texts and the version. C11 and C++17 alike. */
+/* Checks the cells, words, texts and version that the header gives. C11 and C++17 alike. */
 #include <tables.h>
 
 #include <stdio.h>
