@@ -6,6 +6,8 @@ use lib.Dec.{eqb}
 use lib.ListN.{length}
 use Rattle.basis.specs.Choice.{pick}
 use Rattle.forms.specs.Cells.{arityOf}
+use Rattle.forms.specs.declared.Reading.{Reading}
+use Rattle.forms.specs.declared.Reading.the-variants.{Form, Refusal}
 use Rattle.plain.specs.Coding.{codingOf, judged, compacted}
 use Rattle.plain.specs.Requests.{Request, Reply}
 use Rattle.space.specs.Layout.{sizesOf}
@@ -39,6 +41,11 @@ AnswersUnder before h q r after =
 abbrev pub RoomForForm : List ℕ → List ℕ → List ℕ → Type 0
 RoomForForm terms vars form =
     length terms ≤ 256 → (length terms ≤ length vars) × (3 * length terms ≤ 2 * length form)
+
+-- the number by which the reader of terms refused; 0 where it did not
+abbrev pub refusalOf : Reading → ℕ
+refusalOf (Refusal r) = r
+refusalOf (Form n m) = 0
 
 -- a path stopped below `parent`, behind `last`; the term has m variables
 abbrev pub StoppedAt : List ℕ → Head → ℕ → ℕ → ℕ → Type 0

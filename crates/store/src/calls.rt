@@ -56,9 +56,19 @@ ghost use Rattle.store.specs.Decisions.{soundLast, answeredNew, answered
 ghost use Rattle.store.specs.Changes.{chained, subgoalEntered, answerEntered};
 ghost use Rattle.store.specs.Calls.{reply, Answers};
 ghost use Rattle.store.specs.Contracts.{viewIn, Does, AnswersUnder, RoomForForm, StoppedAt};
-ghost use Rattle.store.specs.Contracts.{Held, HeldLast, RefusedBy, calledFrom};
+ghost use Rattle.store.specs.Contracts.{Held, HeldLast, RefusedBy, refusalOf, calledFrom};
 ghost use Rattle.store.specs.Contracts.{enteredBelow, answeredFrom, answeredBy};
 ghost use Rattle.store.specs.Replies.{saidState, saidCall, saidAnswer, saidFinish};
+
+// The number by which the reader of terms refused; 0 where it did not.
+fn refused_by(read: Reading) -> u32
+    ensures { λ r. ⌜ r ≡ refusalOf read ⌝ }
+{
+    match read {
+        Reading::Refusal(r) => return r,
+        Reading::Form(_, _) => return 0,
+    }
+}
 
 // ---- finish
 
@@ -226,10 +236,7 @@ fn call_with(
 {
     let read = read_terms(term, 1, vars, form, h.edition);
     let Reading::Form(n, m) = read else {
-        match read {
-            Reading::Refusal(r) => return CallAnswer::Refused(r),
-            Reading::Form(_, _) => return CallAnswer::Refused(0),
-        }
+        return CallAnswer::Refused(refused_by(read));
     };
     if is_callable(term[0]) {
         return call_at(space, h, &form[..n], m);
@@ -454,10 +461,7 @@ fn answer_with(
 {
     let read = read_terms(terms, g.variables, vars, form, h.edition);
     let Reading::Form(n, _) = read else {
-        match read {
-            Reading::Refusal(r) => return AnswerAnswer::Refused(r),
-            Reading::Form(_, _) => return AnswerAnswer::Refused(0),
-        }
+        return AnswerAnswer::Refused(refused_by(read));
     };
     answer_at(space, h, s, g, &form[..n])
 }
