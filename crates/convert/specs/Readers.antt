@@ -58,6 +58,10 @@ ListRan arity s at vars count out to vars′ out′ Malformed = length (termsAt 
 abbrev pub Ranks : (vars : List ℕ) (count c r : ℕ) (vars′ : List ℕ) → Type 0
 Ranks vars count c r vars′ = (r ≡ rank (take count vars) c) × (vars′ ≡ set vars count c)
 
+-- a place by its numbers
+abbrev pub placed : (at to count : ℕ) → Place
+placed at to count = record { at = at; to = to; count = count }
+
 -- room for what is left to be read: a variable for each cell, and three tokens for two cells
 abbrev pub PairRoom : (s : List ℕ) (from : Place) (vars out : List ℕ) → Type 0
 PairRoom s from vars out =

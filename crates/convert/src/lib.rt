@@ -70,12 +70,7 @@ pub fn read_terms(s: &[u32], m: usize, vars: &mut [u32], form: &mut [u32], editi
     if n < m {
         return Reading::Refusal(TERM);
     }
-    let start = Place {
-        at: 0,
-        to: 0,
-        count: 0,
-    };
-    let Step::Done(next, end, variables) = pair_reader::terms(s, start, m, vars, form, edition)
+    let Step::Done(next, end, variables) = pair_reader::terms(s, 0, m, vars, 0, form, 0, edition)
     else {
         return Reading::Refusal(TERM);
     };

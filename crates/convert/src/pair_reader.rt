@@ -1,5 +1,4 @@
 // The readers of pair form, which write compact form and number variables as they read.
-use crate::Place;
 use crate::Step;
 ghost use mathlib.Core.Path.{_≡_};
 ghost use mathlib.Core.Bool.{true};
@@ -9,7 +8,7 @@ ghost use lib.ListN.{length, take, drop, set};
 ghost use lib.Seq.{sets};
 ghost use lib.Dec.{ltb};
 ghost use Rattle.basis.specs.Choice.{pick};
-ghost use Rattle.convert.specs.Readers.{Ranks, PairRoom, ReadsTerms, ReadsList};
+ghost use Rattle.convert.specs.Readers.{placed, Ranks, PairRoom, ReadsTerms, ReadsList};
 
 // The rank of the variable c among the first `count` cells of vars, or count. Puts c behind them,
 // so that the search always ends at it.
@@ -52,23 +51,26 @@ fn insert(out: &mut [u32], to: usize, end: usize, x: u32)
     out[i] = moved;
 }
 
-// Reads n terms and writes their compact forms.
+// Reads n terms from `from` on and writes their compact forms from `start` on. The places are numbers, and not one
+// struct as in the form reader: handed over in memory, an element of a list took a quarter longer.
 pub fn terms(
     s: &[u32],
-    from: Place,
+    from: usize,
     n: usize,
     vars: &mut [u32],
+    known: usize,
     out: &mut [u32],
+    start: usize,
     edition: u32,
 ) -> Step
-    requires { ⌜ PairRoom (now s) from (now vars) (now out) × (n ≤ 256 + 256 * from .at) ⌝ }
-    ensures { λ r. ⌜ ReadsTerms edition (now (s .entry)) from n (now (vars .entry)) (now (out .entry))
+    requires { ⌜ PairRoom (now s) (placed from start known) (now vars) (now out) × (n ≤ 256 + 256 * from) ⌝ }
+    ensures { λ r. ⌜ ReadsTerms edition (now (s .entry)) (placed from start known) n (now (vars .entry)) (now (out .entry))
         (now (vars .exit)) (now (out .exit)) r ⌝ }
 {
-    let mut at = from.at;
+    let mut at = from;
     let mut due = n;
-    let mut count = from.count;
-    let mut to = from.to;
+    let mut count = known;
+    let mut to = start;
     while 0 < due {
         if s.len() <= at {
             return Step::Malformed;
@@ -92,12 +94,8 @@ pub fn terms(
             }
             forms::Shape::Pair => {
                 out[to] = forms::BLIST;
-                let elements = Place {
-                    at: at + 1,
-                    to: to + 1,
-                    count: count,
-                };
-                let Step::Done(next, end, met) = list(s, elements, vars, out, edition) else {
+                let Step::Done(next, end, met) = list(s, at + 1, vars, count, out, to + 1, edition)
+                else {
                     return Step::Malformed;
                 };
                 at = next;
@@ -111,22 +109,25 @@ pub fn terms(
     Step::Done(at, to, count)
 }
 
-// Reads a list's element and its tail, and writes the list's elements.
-fn list(s: &[u32], from: Place, vars: &mut [u32], out: &mut [u32], edition: u32) -> Step
-    requires { ⌜ PairRoom (now s) from (now vars) (now out) × (2 * from .to + 1 ≤ 3 * from .at) ⌝ }
-    ensures { λ r. ⌜ ReadsList edition (now (s .entry)) from (now (vars .entry)) (now (out .entry))
+// Reads a list's element and its tail from `from` on, and writes the list's elements from `start` on.
+fn list(
+    s: &[u32],
+    from: usize,
+    vars: &mut [u32],
+    known: usize,
+    out: &mut [u32],
+    start: usize,
+    edition: u32,
+) -> Step
+    requires { ⌜ PairRoom (now s) (placed from start known) (now vars) (now out) × (2 * start + 1 ≤ 3 * from) ⌝ }
+    ensures { λ r. ⌜ ReadsList edition (now (s .entry)) (placed from start known) (now (vars .entry)) (now (out .entry))
         (now (vars .exit)) (now (out .exit)) r ⌝ }
 {
-    let mut at = from.at;
-    let mut count = from.count;
-    let mut to = from.to;
+    let mut at = from;
+    let mut count = known;
+    let mut to = start;
     loop {
-        let first = Place {
-            at: at,
-            to: to,
-            count: count,
-        };
-        let Step::Done(next, end, met) = element(s, first, vars, out, edition) else {
+        let Step::Done(next, end, met) = element(s, at, vars, count, out, to, edition) else {
             return Step::Malformed;
         };
         if s.len() <= next {
@@ -139,12 +140,7 @@ fn list(s: &[u32], from: Place, vars: &mut [u32], out: &mut [u32], edition: u32)
         }
         if c != forms::PAIR {
             out[end] = forms::EPAIR;
-            let tail = Place {
-                at: next,
-                to: end + 1,
-                count: met,
-            };
-            return terms(s, tail, 1, vars, out, edition);
+            return terms(s, next, 1, vars, met, out, end + 1, edition);
         }
         at = next + 1;
         to = end;
@@ -153,19 +149,25 @@ fn list(s: &[u32], from: Place, vars: &mut [u32], out: &mut [u32], edition: u32)
 }
 
 // Reads one element of a list. Most are constants, and take no call of the term reader.
-fn element(s: &[u32], from: Place, vars: &mut [u32], out: &mut [u32], edition: u32) -> Step
-    requires { ⌜ PairRoom (now s) from (now vars) (now out) ⌝ }
-    ensures { λ r. ⌜ ReadsTerms edition (now (s .entry)) from 1 (now (vars .entry)) (now (out .entry))
+fn element(
+    s: &[u32],
+    at: usize,
+    vars: &mut [u32],
+    count: usize,
+    out: &mut [u32],
+    to: usize,
+    edition: u32,
+) -> Step
+    requires { ⌜ PairRoom (now s) (placed at to count) (now vars) (now out) ⌝ }
+    ensures { λ r. ⌜ ReadsTerms edition (now (s .entry)) (placed at to count) 1 (now (vars .entry)) (now (out .entry))
         (now (vars .exit)) (now (out .exit)) r ⌝ }
 {
-    let at = from.at;
     if at < s.len() {
         let c = s[at];
         if forms::is_constant(c) {
-            let to = from.to;
             out[to] = c;
-            return Step::Done(at + 1, to + 1, from.count);
+            return Step::Done(at + 1, to + 1, count);
         }
     }
-    terms(s, from, 1, vars, out, edition)
+    terms(s, at, 1, vars, count, out, to, edition)
 }

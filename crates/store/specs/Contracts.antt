@@ -37,11 +37,6 @@ AnswersUnder before h q r after =
     (r ≡ under (sizesOf (h .edition)) (codingOf (h .edition)) before q (header.Sound h) .reply)
     × (after ≡ under (sizesOf (h .edition)) (codingOf (h .edition)) before q (header.Sound h) .state)
 
--- buffers in which any legal terms can be read: a variable to a cell, and a form of half as many tokens again
-abbrev pub RoomForForm : List ℕ → List ℕ → List ℕ → Type 0
-RoomForForm terms vars form =
-    length terms ≤ 256 → (length terms ≤ length vars) × (3 * length terms ≤ 2 * length form)
-
 -- the number by which the reader of terms refused; 0 where it did not
 abbrev pub refusalOf : Reading → ℕ
 refusalOf (Refusal r) = r
