@@ -51,7 +51,7 @@ outcomeIn e o out = pick (converterEdition e) o (outcome (2 ^ 31 + 1) out)
 
 -- ---- contracts
 
--- room for the n cells of input, for their variables and for their form, which is no longer than that of the longest term
+-- room for the n cells of input, for their variables and for their form, which is no longer than the longest
 abbrev pub CompactRoom : (n : ℕ) (input cells vars form : List ℕ) → Type 0
 CompactRoom n input cells vars form =
     (4 * n ≡ length input)
@@ -60,7 +60,7 @@ CompactRoom n input cells vars form =
     × (3 * n ≤ 2 * length form)
     × (length form ≤ 384)
 
--- room for the n tokens of input and for their terms, which are no longer than those of the longest form
+-- room for the n tokens of input and for their terms, which are no longer than the longest
 abbrev pub ExpandRoom : (n : ℕ) (input form cells : List ℕ) → Type 0
 ExpandRoom n input form cells =
     (4 * n ≡ length input) × (n ≤ length form) × (2 * n ≤ length cells) × (length cells ≤ 766)

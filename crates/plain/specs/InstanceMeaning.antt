@@ -41,8 +41,8 @@ module _ (arity : ℕ → ℕ) where
   abbrev c : Coding
   c = compactCoding arity
 
-  -- In a table left by any list of calls: where a term was called and is subgoal s, and terms answered s and are answer b,
-  -- in either order and among any other calls, instance writes the one with the others in it.
+  -- In a table left by any list of calls: where a term was called and is subgoal s, and terms answered s and are answer
+  -- b, in either order and among any other calls, instance writes the one with the others in it.
   abbrev pub Instancing : Type 0
   Instancing = (n f a : ℕ) → 0 < n → (calls : List Request) (term terms : List ℕ) (s b : ℕ) (out : List ℕ)
       → Got c n f a calls (call term) s → Got c n f a calls (answer s terms) b
