@@ -1,5 +1,7 @@
 // The session program: reads calls from standard input, a line each, and prints a line for each. It reads, calls
 // `take_line` and `respond`, and writes; crates/session/specs/Program.antt says what these calls come to.
+mod usage;
+
 use libc::STDERR_FILENO;
 use libc::STDIN_FILENO;
 use libc::STDOUT_FILENO;
@@ -12,6 +14,7 @@ use session::start::start;
 use space::FreshAnswer;
 use text::Taking;
 use text::lines::take_line;
+use usage::say_usage;
 ghost use Prim.Native.Nat.{_≤_};
 ghost use lib.ListN.{length};
 ghost use Rattle.tables.specs.Progress.{Within};
@@ -105,7 +108,7 @@ fn run(read: &mut [u8], line: &mut [u8], space: &mut [u32], out: &mut [u32], tex
 
 // A table in a space of this length is never refused (`Started` in crates/session/specs/Program.antt); what `start`
 // answers is looked at all the same.
-fn main() {
+fn serve() {
     let mut space = new_space();
     let FreshAnswer::Done = start(&mut space) else {
         io::write_all(STDERR_FILENO, b"no table could be made\n");
@@ -116,4 +119,13 @@ fn main() {
     let mut line = new_line();
     let mut read = io::large_buffer();
     run(&mut read, &mut line, &mut space, &mut out, &mut text);
+}
+
+// The program's own name is the first argument.
+fn main() {
+    if os::arg_count() > 1 {
+        say_usage();
+        return;
+    }
+    serve();
 }
