@@ -19,7 +19,7 @@
 #include <time.h>
 #include <unistd.h>
 
-enum { SECONDS = 10, CLOSED = -1, MOST_BYTES = 200000 };
+enum { SECONDS = 10, CLOSED = -1, MOST_BYTES = 200000, MOST_FAILURES = 2 };
 
 static const char usage[] = "usage: tables < CALLS (no arguments)\n"
                             "reads calls, a line each, and prints a line for each\n"
@@ -49,6 +49,16 @@ static void hold(bool condition, const char *what)
 }
 
 /* Descriptors, none of which the program gets but as its first three */
+
+/* Nothing opened later stands in the way of these three. */
+static void take_first_three(void)
+{
+    int file = open("/dev/null", O_RDWR);
+    while (file >= 0 && file <= STDERR_FILENO)
+        file = open("/dev/null", O_RDWR);
+    hold(file >= 0, "/dev/null");
+    close(file);
+}
 
 static int opened(const char *name, int flags)
 {
@@ -357,19 +367,19 @@ static void test_no_messages(void)
 static void test_limited_file(void)
 {
     struct run run = new_run("standard output full in the second reply");
-    char name[] = "/tmp/tables-XXXXXX", held[80] = "";
-    int file = mkstemp(name);
-    hold(file >= 0, name);
-    unlink(name);
-    write_to(&run.printed, dup(file));
+    char held[80] = "";
+    FILE *file = tmpfile();
+    hold(file != NULL, "a file");
+    write_to(&run.printed, fcntl(fileno(file), F_DUPFD_CLOEXEC, 0));
     run.most_bytes = 20;
     put(run.feed, "counts\ncounts\ncounts\n");
     expect_said(&run, "", "standard output: File too large\n");
-    if (pread(file, held, sizeof held - 1, 0) < 0 || strcmp(held, "counts 1 0 0\ncounts ") != 0) {
+    if (pread(fileno(file), held, sizeof held - 1, 0) < 0 ||
+        strcmp(held, "counts 1 0 0\ncounts ") != 0) {
         failures++;
         printf("failed: the replies in a file of 20 bytes: %s\n", held);
     }
-    close(file);
+    fclose(file);
 }
 
 static void test_outputs(void)
@@ -510,13 +520,13 @@ static void test_inputs(void)
 
 int main(int count, char **arguments)
 {
+    static void (*const tests[])(void) = {test_usage, test_outputs, test_readers, test_inputs};
     path = count > 1 ? arguments[1] : "target/bin/tables";
     signal(SIGPIPE, SIG_IGN);
+    take_first_three();
     hold(access(path, X_OK) == 0, path);
-    test_usage();
-    test_outputs();
-    test_readers();
-    test_inputs();
+    for (size_t i = 0; i < sizeof tests / sizeof *tests && failures < MOST_FAILURES; i++)
+        tests[i]();
     printf("session failures test: %u runs, %s\n", runs, failures == 0 ? "passed" : "FAILED");
     return failures == 0 ? 0 : 1;
 }
