@@ -1,7 +1,11 @@
-/* Makes every call over random damaged spaces of both editions, against guard pages: a refusal changes nothing. */
+/*
+ * Makes every call over random damaged spaces of both editions, against guard pages, and compares the word, every cell of the
+ * space and every cell of out with another implementation of the calls (cells_model.c).
+ */
 #define _DEFAULT_SOURCE
 
 #include "../include/tables.h"
+#include "cells_model.h"
 #include "drawing.h"
 #include "editions.h"
 #include "lending.h"
@@ -14,7 +18,7 @@
 #include <string.h>
 #include <unistd.h>
 
-enum { ROUNDS = 80000, MOST_FAILURES = 10, SPACE_CELLS = 4000, OUT_CELLS = 2000, SECONDS = 20 };
+enum { ROUNDS = 90000, MOST_FAILURES = 10, SPACE_CELLS = 4000, OUT_CELLS = 2000, SECONDS = 20 };
 
 static uint64_t seed = 1;
 static unsigned rounds = ROUNDS;
@@ -162,6 +166,45 @@ static void randomise(struct image *image)
         image->cell[i] = small ? (uint32_t)below(bound) : (uint32_t)random_word();
 }
 
+/* Some pairs of cells exchanged. */
+static void exchange_cells(struct image *image)
+{
+    struct image sound = *image;
+    for (size_t changes = between(1, 3); changes > 0; changes--) {
+        size_t one = draw_place(&sound), other = draw_place(&sound);
+        uint32_t moved = image->cell[one];
+        image->cell[one] = image->cell[other];
+        image->cell[other] = moved;
+    }
+}
+
+/* A node, subgoal or answer in use, whole: small numbers that may name records, or any. */
+static void damage_record(struct image *image)
+{
+    const uint32_t *header = image->cell;
+    static const size_t sizes[] = {5, 6, 3};
+    const size_t from[] = {8, header[5], header[6]};
+    size_t sort = below(3), used = header[1 + sort];
+    bool small = chance(70);
+    if (used == 0)
+        return;
+    size_t record = from[sort] + sizes[sort] * below(used);
+    for (size_t i = 0; i < sizes[sort]; i++)
+        image->cell[record + i] = small ? edge_value(image) : (uint32_t)random_word();
+}
+
+/* Records beyond the counts hold anything, and are in order all the same. */
+static void fill_beyond(struct image *image)
+{
+    const uint32_t *header = image->cell;
+    const size_t starts[] = {8 + 5 * (size_t)header[1], header[5] + 6 * (size_t)header[2],
+                             header[6] + 3 * (size_t)header[3]};
+    const size_t ends[] = {header[5], header[6], image->count};
+    for (size_t sort = 0; sort < 3; sort++)
+        for (size_t i = starts[sort]; i < ends[sort]; i++)
+            image->cell[i] = (uint32_t)random_word();
+}
+
 /* Sound records, and tokens that may or may not make terms. */
 static void damage_tokens(struct image *image)
 {
@@ -174,7 +217,7 @@ static void damage_tokens(struct image *image)
 static void draw_damaged(struct image *image)
 {
     draw_sound(image);
-    switch (below(10)) {
+    switch (below(14)) {
     case 0:
         randomise(image);
         break;
@@ -191,6 +234,17 @@ static void draw_damaged(struct image *image)
         damage_edition(image);
         break;
     case 5: /* sound as it is */
+        break;
+    case 6:
+        exchange_cells(image);
+        break;
+    case 7:
+        damage_record(image);
+        break;
+    case 8:
+        fill_beyond(image);
+        if (chance(50))
+            damage_cells(image);
         break;
     default:
         damage_cells(image);
@@ -267,6 +321,51 @@ static void check_written(unsigned round, const struct request *request, const s
         fail(round, name, "old changed the space", word);
 }
 
+/* The same request of the other implementation. */
+static uint64_t ask_model(const struct request *request, uint32_t *space, size_t space_cells,
+                          uint32_t *out, size_t out_cells)
+{
+    const uint32_t *cells = request->argument.cell;
+    size_t count = request->argument.count;
+    switch (request->kind) {
+    case CALL:
+        return cells_model_call(space, space_cells, cells, count);
+    case ANSWER:
+        return cells_model_answer(space, space_cells, request->number, cells, count);
+    case FINISH:
+        return cells_model_finish(space, space_cells, request->number);
+    case NEXT:
+        return cells_model_next(space, space_cells, request->number, request->after);
+    case LOAD:
+        return cells_model_load(space, space_cells, request->number, out, out_cells);
+    case INSTANCE:
+        return cells_model_instance(space, space_cells, request->number, out, out_cells);
+    default:
+        return cells_model_counts(space, space_cells, out, out_cells);
+    }
+}
+
+static uint32_t model_space[SPACE_CELLS], model_out[OUT_CELLS];
+static unsigned long compared;
+
+/* The other implementation answers the same, and leaves the same cells. */
+static void check_model(unsigned round, const struct request *request, const struct loan *loan,
+                        uint64_t word)
+{
+    size_t count = loan->image->count;
+    const char *name = request_names[request->kind];
+    memcpy(model_space, loan->image->cell, count * sizeof *model_space);
+    memcpy(model_out, out_before, loan->room * sizeof *model_out);
+    uint64_t expected = ask_model(request, model_space, count, model_out, loan->room);
+    compared++;
+    if (word != expected)
+        fail(round, name, "another result than the model's", word);
+    if (!same_cells(loan->space, model_space, count))
+        fail(round, name, "another space than the model's", word);
+    if (!same_cells(loan->out, model_out, loan->room))
+        fail(round, name, "another out than the model's", word);
+}
+
 /* Each of the three lies against its upper or its lower guard page, by a bit of `sides`. */
 static void check_request(unsigned round, const struct image *image, const struct request *request,
                           unsigned sides)
@@ -287,6 +386,7 @@ static void check_request(unsigned round, const struct image *image, const struc
     check_edition(round, request, image, word);
     check_cells(round, request, &loan, word);
     check_written(round, request, &loan, word);
+    check_model(round, request, &loan, word);
 }
 
 /* Fresh asks nothing of what the cells hold; it fits them or it does not, and the edition is one or none. */
@@ -303,8 +403,11 @@ static void check_fresh(unsigned round, const struct image *image, bool at_end)
     uint64_t word = tables_fresh(space, image->count, nodes, subgoals, answers, edition);
     if (!tally_result(possible, image->edition, FRESH, word) || fits != (word == TABLES_DONE))
         fail(round, "fresh", "result", word);
-    if (fits && space[0] != edition)
-        fail(round, "fresh", "edition", word);
+    memcpy(model_space, image->cell, image->count * sizeof *model_space);
+    if (word != cells_model_fresh(model_space, image->count, nodes, subgoals, answers, edition) ||
+        !same_cells(space, model_space, image->count))
+        fail(round, "fresh", "another result or space than the model's", word);
+    compared++;
     size_t kept = fits ? end : 0;
     if (!same_cells(space + kept, image->cell + kept, image->count - kept))
         fail(round, "fresh", "cells past the end were changed", word);
@@ -346,7 +449,7 @@ int main(int argc, char **argv)
     }
     if (failures == 0) /* each in each edition, one round in 2,000 at least */
         failures += check_tally(possible, rounds / 2000);
-    printf("damaged_spaces_test: seed %" PRIu64 ", %u spaces, %u failures\n", seed, rounds,
-           failures);
+    printf("damaged_spaces_test: seed %" PRIu64 ", %u spaces, %lu calls compared, %u failures\n", seed,
+           rounds, compared, failures);
     return failures == 0 ? 0 : 1;
 }

@@ -1,0 +1,898 @@
+/*
+ * The calls on the cells of a space, sound or damaged: the tests' second opinion.
+ *
+ * Written from the request alone and for reading beside it. "01" is the request, "Q-7" the later
+ * one on editions, "OP 9" the ninth open point; words in quotation marks are theirs. Only the
+ * result words (TABLES_...) come from tables.h.
+ *
+ * Every call reads and judges first, in the order of 01's table of refusals, and writes only when
+ * nothing is left to refuse: so "a refusal changes nothing". The parts, from top to bottom: the
+ * numbers of the request; pair form to compact form; compact form to pair form; the header and the
+ * records; judging a record; the walk down a trie and the path up; writing; the calls.
+ */
+#include "cells_model.h"
+
+#include "../include/tables.h"
+
+#include <stdbool.h>
+
+/* ---- The numbers of the request ------------------------------------------------------------- */
+
+/* 01, "Cells and terms", and the limits of "The space". */
+enum kind { VARIABLE = 1, ATOM, INTEGER, FUNCTOR, PAIR, BLIST, ELIST, EPAIR };
+enum { PAYLOAD_BITS = 28, ARITIES_1 = 16, ARITIES_2 = 256 };
+enum { MOST_TERM_CELLS = 256, MOST_VARIABLES = 32, MOST_COMPACT_CELLS = 383 };
+enum { LEAST_NODES = 1, MOST_RECORDS = 1048576 };
+
+/* 01, "Where each refusal is checked". 13 is the converters' alone: when loaded it is 9 (OP 21). */
+enum refusal {
+    ACCEPTED = 0, BAD_HEADER = 1, BAD_FRESH = 2, BAD_TERM = 3, TOO_LONG = 4,
+    TOO_MANY_VARIABLES = 5, BAD_PREDICATE = 6, BAD_NUMBER = 7, FINISHED_ALREADY = 8,
+    DAMAGED = 9, NO_NODES_LEFT = 10, NO_RECORD_LEFT = 11, OUT_TOO_SHORT = 12
+};
+
+/* 01, "The space": the fields of the header and of each record, in order, and their number. */
+enum header_field {
+    EDITION, NODES_USED, SUBGOALS_USED, ANSWERS_USED,
+    NODE_OFFSET, SUBGOAL_OFFSET, ANSWER_OFFSET, END, HEADER_CELLS
+};
+enum node_field { TOKEN, FIRST_CHILD, NEXT_SIBLING, PARENT, LINK, NODE_CELLS };
+enum subgoal_field { GOAL_LEAF, ANSWER_ROOT, M, STATE, FIRST_ANSWER, LAST_ANSWER, SUBGOAL_CELLS };
+enum answer_field { ANSWER_LEAF, ANSWER_SUBGOAL, NEXT_ANSWER, ANSWER_CELLS };
+
+enum { NONE = 0, SUBGOAL_ROOT = 0, ROOT_TOKEN = 0 };
+enum state { OPEN = 0, FINISHED = 1 };
+
+#define CELL(kind, payload) ((uint32_t)(kind) << PAYLOAD_BITS | (uint32_t)(payload))
+#define EMPTY_LIST CELL(ATOM, 0)
+
+static uint32_t kind_of(uint32_t cell)
+{
+    return cell >> PAYLOAD_BITS;
+}
+
+static uint32_t payload_of(uint32_t cell)
+{
+    return cell & ((UINT32_C(1) << PAYLOAD_BITS) - 1);
+}
+
+static bool is_edition(uint32_t edition)
+{
+    return edition == 1 || edition == 2;
+}
+
+/* 01: "name x 16 + arity"; Q-7: "Edition 2 spaces read a functor payload as name x 256 + arity". */
+static uint32_t arity_of(uint32_t edition, uint32_t functor)
+{
+    return payload_of(functor) % (edition == 1 ? ARITIES_1 : ARITIES_2);
+}
+
+/* ---- Pair form to compact form -------------------------------------------------------------- */
+
+/* Terms in pair form, with the number of their distinct variables. */
+struct terms {
+    uint32_t cells[MOST_TERM_CELLS];
+    size_t count;
+    uint32_t variables;
+};
+
+/* The same in compact form. */
+struct form {
+    uint32_t cells[MOST_COMPACT_CELLS];
+    size_t count;
+    uint32_t variables;
+};
+
+/*
+ * How many terms follow a cell: "a functor followed by its arguments, a pair by head and tail".
+ * NOT_LEGAL by refusal 3: "a kind other than 1 to 5, arity 0, a pair payload not 0".
+ */
+enum { NOT_LEGAL = -1 };
+
+static int terms_after(uint32_t edition, uint32_t cell)
+{
+    switch (kind_of(cell)) {
+    case VARIABLE:
+    case ATOM:
+    case INTEGER:
+        return 0;
+    case FUNCTOR:
+        return arity_of(edition, cell) != 0 ? (int)arity_of(edition, cell) : NOT_LEGAL;
+    case PAIR:
+        return payload_of(cell) == 0 ? 2 : NOT_LEGAL;
+    default:
+        return NOT_LEGAL;
+    }
+}
+
+/* The cells that so many terms take at the start of the cells; false: a bad cell, or too few. */
+static bool measure(uint32_t edition, uint32_t terms, const uint32_t *cells, size_t count,
+                    size_t *taken)
+{
+    uint32_t due = terms;
+    size_t at = 0;
+    for (; due != 0; at++) {
+        if (at == count || terms_after(edition, cells[at]) == NOT_LEGAL)
+            return false;
+        due = due - 1 + (uint32_t)terms_after(edition, cells[at]);
+    }
+    *taken = at;
+    return true;
+}
+
+/* "Each variable's payload is its rank, from 0, by first meeting". False: over 32 distinct. */
+static bool number_variables(const uint32_t *cells, size_t count, struct terms *numbered)
+{
+    uint32_t met[MOST_VARIABLES];
+    uint32_t variables = 0;
+    for (size_t i = 0; i < count; i++) {
+        numbered->cells[i] = cells[i];
+        if (kind_of(cells[i]) != VARIABLE)
+            continue;
+        uint32_t rank = 0;
+        while (rank < variables && met[rank] != cells[i])
+            rank++;
+        if (rank == MOST_VARIABLES)
+            return false;
+        if (rank == variables)
+            met[variables++] = cells[i];
+        numbered->cells[i] = CELL(VARIABLE, rank);
+    }
+    numbered->count = count;
+    numbered->variables = variables;
+    return true;
+}
+
+/* Numbered terms, read from `at` on, and the form that is written behind its count. */
+struct compacting {
+    uint32_t edition;
+    const struct terms *from;
+    size_t at;
+    struct form *to;
+};
+
+static void put_token(struct compacting *c, uint32_t token)
+{
+    c->to->cells[c->to->count++] = token;
+}
+
+static void compact_list(struct compacting *c);
+
+static void compact_term(struct compacting *c)
+{
+    uint32_t cell = c->from->cells[c->at];
+    if (kind_of(cell) == PAIR) {
+        compact_list(c);
+        return;
+    }
+    c->at++;
+    put_token(c, cell);
+    for (int due = terms_after(c->edition, cell); due > 0; due--)
+        compact_term(c);
+}
+
+/* The first cell of the tail of the pair that stands next. */
+static uint32_t tail_of_pair(const struct compacting *c)
+{
+    size_t head = c->at + 1;
+    size_t head_cells = 0;
+    (void)measure(c->edition, 1, c->from->cells + head, c->from->count - head, &head_cells);
+    return c->from->cells[head + head_cells];
+}
+
+/*
+ * "Elements e1 to en ending in []: BLIST, e1 to e(n-1), ELIST, en. Elements e1 to en ending in t,
+ * which is neither [] nor a pair: BLIST, e1 to en, EPAIR, t." A pair stands next.
+ */
+static void compact_list(struct compacting *c)
+{
+    uint32_t tail;
+    put_token(c, CELL(BLIST, 0));
+    do {
+        tail = tail_of_pair(c);
+        c->at++;
+        if (tail == EMPTY_LIST)
+            put_token(c, CELL(ELIST, 0));
+        compact_term(c);
+    } while (kind_of(tail) == PAIR);
+    if (tail == EMPTY_LIST) {
+        c->at++;
+    } else {
+        put_token(c, CELL(EPAIR, 0));
+        compact_term(c);
+    }
+}
+
+/* The compact form of exactly so many terms. "4 looks at the whole argument first" (OP 18). */
+static enum refusal compact(uint32_t edition, uint32_t terms, const uint32_t *cells, size_t count,
+                            struct form *form)
+{
+    struct terms numbered;
+    size_t taken;
+    if (count > MOST_TERM_CELLS)
+        return TOO_LONG;
+    if (!measure(edition, terms, cells, count, &taken) || taken != count)
+        return BAD_TERM;
+    if (!number_variables(cells, count, &numbered))
+        return TOO_MANY_VARIABLES;
+    struct compacting c = {edition, &numbered, 0, form};
+    form->count = 0;
+    form->variables = numbered.variables;
+    for (uint32_t i = 0; i < terms; i++)
+        compact_term(&c);
+    return ACCEPTED;
+}
+
+/* ---- Compact form to pair form -------------------------------------------------------------- */
+
+/* A form, read from `at` on, and the terms that are written behind their count. */
+struct expanding {
+    uint32_t edition;
+    const uint32_t *tokens;
+    size_t count;
+    size_t at;
+    struct terms *to;
+};
+
+/* False: the terms would have more than 256 cells. */
+static bool put_cell(struct expanding *e, uint32_t cell)
+{
+    if (e->to->count == MOST_TERM_CELLS)
+        return false;
+    e->to->cells[e->to->count++] = cell;
+    return true;
+}
+
+/* False: over 32 variables, or not numbered by first meeting. */
+static bool expand_variable(struct expanding *e, uint32_t token)
+{
+    uint32_t rank = payload_of(token);
+    if (rank > e->to->variables || rank >= MOST_VARIABLES)
+        return false;
+    if (rank == e->to->variables)
+        e->to->variables++;
+    return put_cell(e, token);
+}
+
+static bool expand_list(struct expanding *e);
+
+/* One term; false wherever the tokens are no legal compact form (here and in the two below). */
+static bool expand_term(struct expanding *e)
+{
+    if (e->at == e->count)
+        return false;
+    uint32_t token = e->tokens[e->at++];
+    switch (kind_of(token)) {
+    case VARIABLE:
+        return expand_variable(e, token);
+    case ATOM:
+    case INTEGER:
+        return put_cell(e, token);
+    case FUNCTOR:
+        if (arity_of(e->edition, token) == 0 || !put_cell(e, token))
+            return false;
+        for (uint32_t due = arity_of(e->edition, token); due != 0; due--)
+            if (!expand_term(e))
+                return false;
+        return true;
+    case BLIST:
+        return payload_of(token) == 0 && expand_list(e);
+    default:
+        return false;
+    }
+}
+
+/* Behind EPAIR: a term "which is neither [] nor a pair", so in compact form no list. */
+static bool expand_tail(struct expanding *e)
+{
+    if (e->at == e->count)
+        return false;
+    uint32_t token = e->tokens[e->at];
+    return token != EMPTY_LIST && kind_of(token) != BLIST && expand_term(e);
+}
+
+/* Behind BLIST. A mark with a payload is no mark (OP 20): expand_term turns it down. */
+static bool expand_list(struct expanding *e)
+{
+    for (size_t elements = 0; e->at != e->count; elements++) {
+        uint32_t token = e->tokens[e->at];
+        if (token == CELL(EPAIR, 0)) {
+            e->at++;
+            return elements != 0 && expand_tail(e);
+        }
+        if (!put_cell(e, CELL(PAIR, 0)))
+            return false;
+        if (token == CELL(ELIST, 0)) {
+            e->at++;
+            return expand_term(e) && put_cell(e, EMPTY_LIST);
+        }
+        if (!expand_term(e))
+            return false;
+    }
+    return false;
+}
+
+/* "Loading accepts exactly the compact forms of legal terms": so many, legal together. */
+static bool expand(uint32_t edition, uint32_t terms, const uint32_t *tokens, size_t count,
+                   struct terms *to)
+{
+    struct expanding e = {edition, tokens, count, 0, to};
+    to->count = 0;
+    to->variables = 0;
+    for (uint32_t i = 0; i < terms; i++)
+        if (!expand_term(&e))
+            return false;
+    return e.at == count;
+}
+
+/* ---- The header and the records ------------------------------------------------------------- */
+
+/* A space whose header is sound: its cells, edition, counts used and capacities. */
+struct space {
+    const uint32_t *cells;
+    uint32_t edition;
+    uint32_t nodes, subgoals, answers;
+    uint32_t node_room, subgoal_room, answer_room;
+};
+
+/* "A capacity by the offsets not whole or out of range"; falling offsets too (OP 16). */
+static bool read_capacity(uint32_t from, uint32_t to, uint32_t record_cells, uint32_t least,
+                          uint32_t *room)
+{
+    if (to < from || (to - from) % record_cells != 0)
+        return false;
+    *room = (to - from) / record_cells;
+    return least <= *room && *room <= MOST_RECORDS;
+}
+
+/* False: refusal 1. */
+static bool read_header(const uint32_t *cells, size_t length, struct space *s)
+{
+    if (length < HEADER_CELLS)
+        return false;
+    *s = (struct space){.cells = cells, .edition = cells[EDITION], .nodes = cells[NODES_USED],
+                        .subgoals = cells[SUBGOALS_USED], .answers = cells[ANSWERS_USED]};
+    return is_edition(s->edition) && cells[NODE_OFFSET] == HEADER_CELLS &&
+           read_capacity(cells[NODE_OFFSET], cells[SUBGOAL_OFFSET], NODE_CELLS, LEAST_NODES,
+                         &s->node_room) &&
+           read_capacity(cells[SUBGOAL_OFFSET], cells[ANSWER_OFFSET], SUBGOAL_CELLS, 0,
+                         &s->subgoal_room) &&
+           read_capacity(cells[ANSWER_OFFSET], cells[END], ANSWER_CELLS, 0, &s->answer_room) &&
+           cells[END] <= length && s->nodes != 0 && s->nodes <= s->node_room &&
+           s->subgoals <= s->subgoal_room && s->answers <= s->answer_room;
+}
+
+/* The places of a field: nodes are "numbered from 0", subgoals and answers "from 1". */
+static size_t node_at(uint32_t node, enum node_field field)
+{
+    return HEADER_CELLS + (size_t)NODE_CELLS * node + (size_t)field;
+}
+
+static size_t subgoal_at(const struct space *s, uint32_t subgoal, enum subgoal_field field)
+{
+    return s->cells[SUBGOAL_OFFSET] + (size_t)SUBGOAL_CELLS * (subgoal - 1) + (size_t)field;
+}
+
+static size_t answer_at(const struct space *s, uint32_t answer, enum answer_field field)
+{
+    return s->cells[ANSWER_OFFSET] + (size_t)ANSWER_CELLS * (answer - 1) + (size_t)field;
+}
+
+static uint32_t of_node(const struct space *s, uint32_t node, enum node_field field)
+{
+    return s->cells[node_at(node, field)];
+}
+
+static uint32_t of_subgoal(const struct space *s, uint32_t subgoal, enum subgoal_field field)
+{
+    return s->cells[subgoal_at(s, subgoal, field)];
+}
+
+static uint32_t of_answer(const struct space *s, uint32_t answer, enum answer_field field)
+{
+    return s->cells[answer_at(s, answer, field)];
+}
+
+/* ---- Judging a record ----------------------------------------------------------------------- */
+
+/*
+ * "A record read is judged whole: a field that names another by its range, the other when it is
+ * itself read." These judge a record's own fields; a number given to them is in range already.
+ * What a record must be in its place (its expected parent, the same subgoal, that leaf) is asked
+ * where it is read.
+ */
+
+static bool is_node(const struct space *s, uint32_t number)
+{
+    return number < s->nodes;
+}
+
+static bool is_subgoal(const struct space *s, uint32_t number)
+{
+    return 1 <= number && number <= s->subgoals;
+}
+
+static bool is_answer(const struct space *s, uint32_t number)
+{
+    return 1 <= number && number <= s->answers;
+}
+
+/*
+ * Which trie a walk is in: said by the root that it starts from or ends at (OP 11), so by what the
+ * walk is for. A damaged subgoal may name node 0 as its answer root (OP 4): from there too, answer
+ * and load walk in an answer trie.
+ */
+enum trie { SUBGOAL_TRIE, ANSWER_TRIE };
+
+/* "A link is held to the subgoals in the subgoal trie, to the answers in an answer trie, its root
+ * included". */
+static bool is_sound_link(const struct space *s, enum trie trie, uint32_t link)
+{
+    return link == NONE || (trie == SUBGOAL_TRIE ? is_subgoal(s, link) : is_answer(s, link));
+}
+
+/* "Child and sibling numbers must be above the node they come from, below the nodes used". */
+static bool is_sound_step(const struct space *s, uint32_t node, uint32_t to)
+{
+    return to == NONE || (to > node && is_node(s, to));
+}
+
+/* "Parents must be lower, or the node itself at a root". The token is not judged (OP 1). */
+static bool is_sound_node(const struct space *s, enum trie trie, uint32_t node)
+{
+    return is_sound_step(s, node, of_node(s, node, FIRST_CHILD)) &&
+           is_sound_step(s, node, of_node(s, node, NEXT_SIBLING)) &&
+           of_node(s, node, PARENT) <= node && is_sound_link(s, trie, of_node(s, node, LINK));
+}
+
+/* A node read as a root has itself as parent (OP 2). */
+static bool is_sound_root(const struct space *s, enum trie trie, uint32_t node)
+{
+    return is_sound_node(s, trie, node) && of_node(s, node, PARENT) == node;
+}
+
+/* Leaf and answer root may be 0 (OP 4). */
+static bool is_sound_subgoal(const struct space *s, uint32_t subgoal)
+{
+    uint32_t state = of_subgoal(s, subgoal, STATE);
+    uint32_t first = of_subgoal(s, subgoal, FIRST_ANSWER);
+    uint32_t last = of_subgoal(s, subgoal, LAST_ANSWER);
+    return is_node(s, of_subgoal(s, subgoal, GOAL_LEAF)) &&
+           is_node(s, of_subgoal(s, subgoal, ANSWER_ROOT)) &&
+           of_subgoal(s, subgoal, M) <= MOST_VARIABLES && (state == OPEN || state == FINISHED) &&
+           ((first == NONE && last == NONE) || (is_answer(s, first) && is_answer(s, last)));
+}
+
+/* "0 means none" for its next answer, not for its subgoal. */
+static bool is_sound_answer(const struct space *s, uint32_t answer)
+{
+    uint32_t next = of_answer(s, answer, NEXT_ANSWER);
+    return is_node(s, of_answer(s, answer, ANSWER_LEAF)) &&
+           is_subgoal(s, of_answer(s, answer, ANSWER_SUBGOAL)) &&
+           (next == NONE || (next > answer && is_answer(s, next)));
+}
+
+/* "A first, last or next one must name the same subgoal". */
+static bool is_sound_answer_of(const struct space *s, uint32_t answer, uint32_t subgoal)
+{
+    return is_sound_answer(s, answer) && of_answer(s, answer, ANSWER_SUBGOAL) == subgoal;
+}
+
+/* ---- The walk down a trie and the path up --------------------------------------------------- */
+
+/* How far a form is in a trie: its first `matched` tokens lead from the root to `node`. */
+struct walk {
+    size_t matched;
+    uint32_t node;
+    uint32_t last_child; /* where the form is not whole: the node's last child, or none */
+    uint32_t link;       /* where the form is whole: the node's link; else none */
+};
+
+/*
+ * The child of a node with a token, or none and the last child. "The search among siblings ends
+ * with the child found, or with the last sibling." Each child is judged whole before its token is
+ * compared (OP 9); the range of its number was judged with the record that it comes from, as the
+ * node itself. False: damaged.
+ */
+static bool find_child(const struct space *s, enum trie trie, uint32_t node, uint32_t token,
+                       uint32_t *found, uint32_t *last)
+{
+    uint32_t child = of_node(s, node, FIRST_CHILD);
+    *found = NONE;
+    *last = NONE;
+    while (child != NONE) {
+        if (!is_sound_node(s, trie, child) || of_node(s, child, PARENT) != node)
+            return false;
+        if (of_node(s, child, TOKEN) == token) {
+            *found = child;
+            return true;
+        }
+        *last = child;
+        child = of_node(s, child, NEXT_SIBLING);
+    }
+    return true;
+}
+
+/* Searches a form from a root that has been judged. False: damaged. */
+static bool walk_down(const struct space *s, enum trie trie, uint32_t root,
+                      const struct form *form, struct walk *walk)
+{
+    uint32_t child;
+    *walk = (struct walk){.matched = 0, .node = root, .last_child = NONE, .link = NONE};
+    while (walk->matched < form->count) {
+        if (!find_child(s, trie, walk->node, form->cells[walk->matched], &child,
+                        &walk->last_child))
+            return false;
+        if (child == NONE)
+            return true;
+        walk->node = child;
+        walk->matched++;
+    }
+    walk->link = of_node(s, walk->node, LINK);
+    /* "A non-empty path found whole must end in a non-zero link." */
+    return form->count == 0 || walk->link != NONE;
+}
+
+/*
+ * The tokens from a root down to a leaf. "Tokens are gathered from the leaf up to the root", each
+ * node judged by its own fields, the root too (OP 7, 10); the leaf's link need not lead back
+ * (OP 6). False: damaged, "over 383 tokens, or ends at the wrong root".
+ */
+static bool gather(const struct space *s, enum trie trie, uint32_t leaf, uint32_t root,
+                   struct form *path)
+{
+    uint32_t upward[MOST_COMPACT_CELLS];
+    uint32_t node = leaf;
+    size_t count = 0;
+    while (!is_sound_root(s, trie, node)) {
+        if (!is_sound_node(s, trie, node) || count == MOST_COMPACT_CELLS)
+            return false;
+        upward[count++] = of_node(s, node, TOKEN);
+        node = of_node(s, node, PARENT);
+    }
+    if (node != root)
+        return false;
+    for (size_t i = 0; i < count; i++)
+        path->cells[i] = upward[count - 1 - i];
+    path->count = count;
+    return true;
+}
+
+/* "By load, the answer, its subgoal and the path": the answer's m terms. False: 9. */
+static bool read_answer(const struct space *s, uint32_t answer, struct terms *terms)
+{
+    struct form path;
+    if (!is_sound_answer(s, answer))
+        return false;
+    uint32_t subgoal = of_answer(s, answer, ANSWER_SUBGOAL);
+    return is_sound_subgoal(s, subgoal) &&
+           gather(s, ANSWER_TRIE, of_answer(s, answer, ANSWER_LEAF),
+                  of_subgoal(s, subgoal, ANSWER_ROOT), &path) &&
+           expand(s->edition, of_subgoal(s, subgoal, M), path.cells, path.count, terms);
+}
+
+/* "By instance, the subgoal's path too": one term of m distinct variables (OP 8). False: 9. */
+static bool read_goal(const struct space *s, uint32_t subgoal, struct terms *goal)
+{
+    struct form path;
+    return gather(s, SUBGOAL_TRIE, of_subgoal(s, subgoal, GOAL_LEAF), SUBGOAL_ROOT, &path) &&
+           expand(s->edition, 1, path.cells, path.count, goal) &&
+           goal->variables == of_subgoal(s, subgoal, M);
+}
+
+/* ---- Writing: after the last refusal -------------------------------------------------------- */
+
+/* "A new record is written whole" (OP 15). */
+static void write_node(uint32_t *cells, uint32_t node, uint32_t token, uint32_t child,
+                       uint32_t parent, uint32_t link)
+{
+    cells[node_at(node, TOKEN)] = token;
+    cells[node_at(node, FIRST_CHILD)] = child;
+    cells[node_at(node, NEXT_SIBLING)] = NONE;
+    cells[node_at(node, PARENT)] = parent;
+    cells[node_at(node, LINK)] = link;
+}
+
+/*
+ * Writes the nodes of a form that a walk did not find, and the link of its leaf; the leaf. "A new
+ * child goes after the last sibling. New nodes take the next numbers in path order". For an empty
+ * form there is no new node and the root is the leaf.
+ */
+static uint32_t write_path(uint32_t *cells, const struct space *s, const struct form *form,
+                           const struct walk *walk, uint32_t link)
+{
+    uint32_t leaf = walk->node;
+    uint32_t node = s->nodes;
+    if (walk->matched == form->count)
+        cells[node_at(leaf, LINK)] = link;
+    else if (walk->last_child == NONE)
+        cells[node_at(walk->node, FIRST_CHILD)] = node;
+    else
+        cells[node_at(walk->last_child, NEXT_SIBLING)] = node;
+    for (size_t i = walk->matched; i < form->count; i++, node++) {
+        bool ends = i + 1 == form->count;
+        write_node(cells, node, form->cells[i], ends ? NONE : node + 1, leaf, ends ? link : NONE);
+        leaf = node;
+    }
+    cells[NODES_USED] = node;
+    return leaf;
+}
+
+/* "A new subgoal's answer root follows its leaf." */
+static void write_subgoal(uint32_t *cells, const struct space *s, const struct form *form,
+                          const struct walk *walk)
+{
+    uint32_t number = s->subgoals + 1;
+    uint32_t leaf = write_path(cells, s, form, walk, number);
+    uint32_t root = leaf + 1;
+    write_node(cells, root, ROOT_TOKEN, NONE, root, NONE);
+    cells[NODES_USED] = root + 1;
+    cells[subgoal_at(s, number, GOAL_LEAF)] = leaf;
+    cells[subgoal_at(s, number, ANSWER_ROOT)] = root;
+    cells[subgoal_at(s, number, M)] = form->variables;
+    cells[subgoal_at(s, number, STATE)] = OPEN;
+    cells[subgoal_at(s, number, FIRST_ANSWER)] = NONE;
+    cells[subgoal_at(s, number, LAST_ANSWER)] = NONE;
+    cells[SUBGOALS_USED] = number;
+}
+
+/* The new answer is its subgoal's last, and its first if it had none. */
+static void write_answer(uint32_t *cells, const struct space *s, uint32_t subgoal,
+                         const struct form *form, const struct walk *walk)
+{
+    uint32_t number = s->answers + 1;
+    uint32_t leaf = write_path(cells, s, form, walk, number);
+    uint32_t before = of_subgoal(s, subgoal, LAST_ANSWER);
+    cells[answer_at(s, number, ANSWER_LEAF)] = leaf;
+    cells[answer_at(s, number, ANSWER_SUBGOAL)] = subgoal;
+    cells[answer_at(s, number, NEXT_ANSWER)] = NONE;
+    if (before == NONE)
+        cells[subgoal_at(s, subgoal, FIRST_ANSWER)] = number;
+    else
+        cells[answer_at(s, before, NEXT_ANSWER)] = number;
+    cells[subgoal_at(s, subgoal, LAST_ANSWER)] = number;
+    cells[ANSWERS_USED] = number;
+}
+
+/* The two checks for room, 10 before 11 (OP 23). */
+static enum refusal room_for(const struct space *s, size_t new_nodes, uint32_t records,
+                             uint32_t record_room)
+{
+    if (s->node_room - s->nodes < new_nodes)
+        return NO_NODES_LEFT;
+    if (records == record_room)
+        return NO_RECORD_LEFT;
+    return ACCEPTED;
+}
+
+/* ---- The calls ------------------------------------------------------------------------------ */
+
+static uint64_t result(uint32_t what, uint32_t value)
+{
+    return (uint64_t)what << 32 | value;
+}
+
+static uint64_t refused(enum refusal number)
+{
+    return result((uint32_t)TABLES_CALL_REFUSED + number, 0);
+}
+
+/* "12: also the need". */
+static uint64_t too_short(size_t need)
+{
+    return result((uint32_t)TABLES_CALL_REFUSED + OUT_TOO_SHORT, (uint32_t)need);
+}
+
+/* "Fresh writes the header with one node used and zeros up to the end": node 0 is a root so. */
+uint64_t cells_model_fresh(uint32_t *space, size_t space_cells, uint32_t nodes, uint32_t subgoals,
+                           uint32_t answers, uint32_t edition)
+{
+    if (!is_edition(edition) || nodes < LEAST_NODES || nodes > MOST_RECORDS ||
+        subgoals > MOST_RECORDS || answers > MOST_RECORDS)
+        return refused(BAD_FRESH);
+    uint32_t subgoal_offset = HEADER_CELLS + NODE_CELLS * nodes;
+    uint32_t answer_offset = subgoal_offset + SUBGOAL_CELLS * subgoals;
+    uint32_t end = answer_offset + ANSWER_CELLS * answers;
+    if (end > space_cells)
+        return refused(BAD_FRESH);
+    for (uint32_t i = 0; i < end; i++)
+        space[i] = 0;
+    space[EDITION] = edition;
+    space[NODES_USED] = 1;
+    space[NODE_OFFSET] = HEADER_CELLS;
+    space[SUBGOAL_OFFSET] = subgoal_offset;
+    space[ANSWER_OFFSET] = answer_offset;
+    space[END] = end;
+    return result(TABLES_DONE, 0);
+}
+
+uint64_t cells_model_call(uint32_t *space, size_t space_cells, const uint32_t *term,
+                          size_t term_cells)
+{
+    struct space s;
+    struct form form;
+    struct walk walk;
+    if (!read_header(space, space_cells, &s))
+        return refused(BAD_HEADER);
+    enum refusal refusal = compact(s.edition, 1, term, term_cells, &form);
+    if (refusal != ACCEPTED)
+        return refused(refusal);
+    if (kind_of(term[0]) != ATOM && kind_of(term[0]) != FUNCTOR)
+        return refused(BAD_PREDICATE);
+    if (!is_sound_root(&s, SUBGOAL_TRIE, SUBGOAL_ROOT) ||
+        !walk_down(&s, SUBGOAL_TRIE, SUBGOAL_ROOT, &form, &walk))
+        return refused(DAMAGED);
+    if (walk.link != NONE) {
+        /* "A record found by a link names that leaf." Nothing else, not even m, is compared. */
+        if (!is_sound_subgoal(&s, walk.link) || of_subgoal(&s, walk.link, GOAL_LEAF) != walk.node)
+            return refused(DAMAGED);
+        bool open = of_subgoal(&s, walk.link, STATE) == OPEN;
+        return result(open ? TABLES_OLD_OPEN : TABLES_OLD_FINISHED, walk.link);
+    }
+    /* "Fewer free than the new ones, a new subgoal's answer root included". */
+    refusal = room_for(&s, form.count - walk.matched + 1, s.subgoals, s.subgoal_room);
+    if (refusal != ACCEPTED)
+        return refused(refusal);
+    write_subgoal(space, &s, &form, &walk);
+    return result(TABLES_NEW, s.subgoals + 1);
+}
+
+/* "If new, the last answer, whose next must be 0"; before 10 and 11 (OP 14). */
+static uint64_t new_answer(uint32_t *space, const struct space *s, uint32_t subgoal,
+                           const struct form *form, const struct walk *walk)
+{
+    uint32_t last = of_subgoal(s, subgoal, LAST_ANSWER);
+    if (last != NONE && (!is_sound_answer_of(s, last, subgoal) ||
+                         of_answer(s, last, NEXT_ANSWER) != NONE))
+        return refused(DAMAGED);
+    enum refusal refusal = room_for(s, form->count - walk->matched, s->answers, s->answer_room);
+    if (refusal != ACCEPTED)
+        return refused(refusal);
+    write_answer(space, s, subgoal, form, walk);
+    return result(TABLES_NEW, s->answers + 1);
+}
+
+uint64_t cells_model_answer(uint32_t *space, size_t space_cells, uint32_t subgoal,
+                            const uint32_t *terms, size_t terms_cells)
+{
+    struct space s;
+    struct form form;
+    struct walk walk;
+    if (!read_header(space, space_cells, &s))
+        return refused(BAD_HEADER);
+    if (!is_subgoal(&s, subgoal))
+        return refused(BAD_NUMBER);
+    /* "The records named by the number are judged (9) straight after 7" (OP 3). */
+    uint32_t root = of_subgoal(&s, subgoal, ANSWER_ROOT);
+    if (!is_sound_subgoal(&s, subgoal) || !is_sound_root(&s, ANSWER_TRIE, root))
+        return refused(DAMAGED);
+    if (of_subgoal(&s, subgoal, STATE) == FINISHED)
+        return refused(FINISHED_ALREADY);
+    enum refusal refusal =
+        compact(s.edition, of_subgoal(&s, subgoal, M), terms, terms_cells, &form);
+    if (refusal != ACCEPTED)
+        return refused(refusal);
+    if (!walk_down(&s, ANSWER_TRIE, root, &form, &walk))
+        return refused(DAMAGED);
+    if (walk.link != NONE) {
+        /* "A record found by a link names that leaf"; its subgoal is not compared (OP 5). */
+        if (!is_sound_answer(&s, walk.link) || of_answer(&s, walk.link, ANSWER_LEAF) != walk.node)
+            return refused(DAMAGED);
+        return result(TABLES_OLD, walk.link);
+    }
+    return new_answer(space, &s, subgoal, &form, &walk);
+}
+
+uint64_t cells_model_finish(uint32_t *space, size_t space_cells, uint32_t subgoal)
+{
+    struct space s;
+    if (!read_header(space, space_cells, &s))
+        return refused(BAD_HEADER);
+    if (!is_subgoal(&s, subgoal))
+        return refused(BAD_NUMBER);
+    if (!is_sound_subgoal(&s, subgoal))
+        return refused(DAMAGED);
+    space[subgoal_at(&s, subgoal, STATE)] = FINISHED;
+    return result(TABLES_DONE, 0);
+}
+
+/* 7 reads the subgoal field of `after` as it stands, before any record is judged (OP 13). */
+uint64_t cells_model_next(const uint32_t *space, size_t space_cells, uint32_t subgoal,
+                          uint32_t after)
+{
+    struct space s;
+    if (!read_header(space, space_cells, &s))
+        return refused(BAD_HEADER);
+    if (!is_subgoal(&s, subgoal) ||
+        (after != NONE &&
+         (!is_answer(&s, after) || of_answer(&s, after, ANSWER_SUBGOAL) != subgoal)))
+        return refused(BAD_NUMBER);
+    if (!is_sound_subgoal(&s, subgoal) || (after != NONE && !is_sound_answer(&s, after)))
+        return refused(DAMAGED);
+    uint32_t next = after == NONE ? of_subgoal(&s, subgoal, FIRST_ANSWER)
+                                  : of_answer(&s, after, NEXT_ANSWER);
+    if (next == NONE)
+        return result(TABLES_NONE, 0);
+    if (!is_sound_answer_of(&s, next, subgoal))
+        return refused(DAMAGED);
+    return result(TABLES_AT, next);
+}
+
+uint64_t cells_model_load(const uint32_t *space, size_t space_cells, uint32_t answer, uint32_t *out,
+                          size_t out_cells)
+{
+    struct space s;
+    struct terms terms;
+    if (!read_header(space, space_cells, &s))
+        return refused(BAD_HEADER);
+    if (!is_answer(&s, answer))
+        return refused(BAD_NUMBER);
+    if (!read_answer(&s, answer, &terms))
+        return refused(DAMAGED);
+    if (out_cells < terms.count)
+        return too_short(terms.count);
+    for (size_t i = 0; i < terms.count; i++)
+        out[i] = terms.cells[i];
+    return result(TABLES_CELLS, (uint32_t)terms.count);
+}
+
+/* "The subgoal with variable i replaced by term i": its cells; with out NULL they are counted. */
+static size_t write_instance(uint32_t edition, const struct terms *goal,
+                             const struct terms *answer, uint32_t *out)
+{
+    size_t begin[MOST_VARIABLES + 1] = {0};
+    size_t written = 0;
+    for (uint32_t i = 0; i < goal->variables; i++) {
+        size_t taken = 0;
+        (void)measure(edition, 1, answer->cells + begin[i], answer->count - begin[i], &taken);
+        begin[i + 1] = begin[i] + taken;
+    }
+    for (size_t i = 0; i < goal->count; i++) {
+        const uint32_t *from = &goal->cells[i];
+        size_t cells = 1;
+        if (kind_of(*from) == VARIABLE) {
+            uint32_t rank = payload_of(*from);
+            from = &answer->cells[begin[rank]];
+            cells = begin[rank + 1] - begin[rank];
+        }
+        for (size_t j = 0; j < cells && out != NULL; j++)
+            out[written + j] = from[j];
+        written += cells;
+    }
+    return written;
+}
+
+uint64_t cells_model_instance(const uint32_t *space, size_t space_cells, uint32_t answer,
+                              uint32_t *out, size_t out_cells)
+{
+    struct space s;
+    struct terms goal, terms;
+    if (!read_header(space, space_cells, &s))
+        return refused(BAD_HEADER);
+    if (!is_answer(&s, answer))
+        return refused(BAD_NUMBER);
+    if (!read_answer(&s, answer, &terms) ||
+        !read_goal(&s, of_answer(&s, answer, ANSWER_SUBGOAL), &goal))
+        return refused(DAMAGED);
+    size_t need = write_instance(s.edition, &goal, &terms, NULL);
+    if (out_cells < need)
+        return too_short(need);
+    write_instance(s.edition, &goal, &terms, out);
+    return result(TABLES_CELLS, (uint32_t)need);
+}
+
+/* "Nodes, subgoals and answers used": the header alone is read (OP 16). */
+uint64_t cells_model_counts(const uint32_t *space, size_t space_cells, uint32_t *out,
+                            size_t out_cells)
+{
+    enum { COUNTS = 3 };
+    struct space s;
+    if (!read_header(space, space_cells, &s))
+        return refused(BAD_HEADER);
+    if (out_cells < COUNTS)
+        return too_short(COUNTS);
+    out[0] = s.nodes;
+    out[1] = s.subgoals;
+    out[2] = s.answers;
+    return result(TABLES_COUNTS, COUNTS);
+}
