@@ -5,9 +5,6 @@ the cells of the small space. It follows the text of the document and shares not
 import sys
 
 LONGEST = 383
-
-# the last tokens of a path that is longer than a run
-RUN = [7] * 12
 NONE = None
 
 
@@ -216,12 +213,11 @@ def readings(cells):
         for links in counts:
             for root in range(h[0]):
                 tallies[4].take(walk(cells, h, links, root, tokens))
-    for behind in ([], RUN):
-        for links in counts:
-            for root in range(h[0]):
-                for n in range(h[0]):
-                    path = gather(cells, h, links, root, n, LONGEST - len(behind))
-                    tallies[5].take(path if path is NONE else [len(path + behind)] + path + behind)
+    for links in counts:
+        for root in range(h[0]):
+            for n in range(h[0]):
+                path = gather(cells, h, links, root, n, LONGEST)
+                tallies[5].take(path if path is NONE else [len(path)] + path)
     return ''.join(tally.shown() for tally in tallies)
 
 

@@ -20,9 +20,11 @@ use trie::paths::LEVELS;
 use trie::paths::long_path;
 use trie::paths::short_path;
 use trie::walks::walk_tokens;
+ghost use mathlib.Core.Path.{_≡_};
 ghost use Prim.Native.Nat.{_<_};
+ghost use lib.ListN.{length};
 ghost use Rattle.space.specs.Sound.{Bounds, NodesIn};
-ghost use Rattle.trie.specs.Runs.{Ends};
+ghost use Rattle.trie.specs.Runs.{levels, Ends};
 
 // How many answers were damage, and a sum over all answers in order.
 struct Tally {
@@ -348,80 +350,55 @@ fn all_walks(space: &[u32], h: Head) -> Tally
     walks_both(space, h, &f, x)
 }
 
-// The path to an end, which is short in so small a space.
-fn first_path(space: &[u32], end: End, t: Tally) -> Tally
+// The path to an end that goes on from node n above its last tokens.
+fn long_tokens(space: &[u32], end: End, n: usize, last: &[u32; LEVELS], t: Tally) -> Tally
+    requires { ⌜ NodesIn (now space) (end .nodes) × (n < end .nodes) × (length (now last) ≡ levels) ⌝ }
+{
+    let mut path = [0u32; CELLS];
+    let Gathered::Tokens(k) = long_path(space, end, n, last, &mut path) else {
+        return with_damage(t);
+    };
+    with_tokens(t, &path[k..])
+}
+
+// The path to an end.
+fn one_path(space: &[u32], end: End, t: Tally) -> Tally
     requires { ⌜ Ends (now space) end ⌝ }
 {
     let mut cells = [0u32; LEVELS];
     let short = short_path(space, end, &mut cells);
     match short {
         Short::Whole(k) => with_tokens(t, &cells[k..]),
-        Short::Longer(n) => with_sum(t, mixed_index(t.sum, n)),
+        Short::Longer(n) => long_tokens(space, end, n, &cells, t),
         Short::Damaged => with_damage(t),
     }
 }
 
-// The path to an end with further tokens behind it.
-fn other_path(space: &[u32], end: End, t: Tally) -> Tally
-    requires { ⌜ Ends (now space) end ⌝ }
-{
-    let last = [7u32; LEVELS];
-    let mut path = [0u32; CELLS];
-    let Gathered::Tokens(k) = long_path(space, end, end.leaf, &last, &mut path) else {
-        return with_damage(t);
-    };
-    with_tokens(t, &path[k..])
-}
-
-fn one_path(
-    space: &[u32],
-    nodes: usize,
-    links: usize,
-    root: usize,
-    n: usize,
-    first: bool,
-    t: Tally,
-) -> Tally
-    requires { ⌜ NodesIn (now space) nodes × (n < nodes) ⌝ }
-{
-    let end = End {
-        nodes: nodes,
-        links: links,
-        root: root,
-        leaf: n,
-    };
-    if first {
-        return first_path(space, end, t);
-    }
-    other_path(space, end, t)
-}
-
-fn paths_to(
-    space: &[u32],
-    nodes: usize,
-    links: usize,
-    root: usize,
-    first: bool,
-    start: Tally,
-) -> Tally
+fn paths_to(space: &[u32], nodes: usize, links: usize, root: usize, start: Tally) -> Tally
     requires { ⌜ NodesIn (now space) nodes ⌝ }
 {
     let mut t = start;
     let mut n = 0;
     while n < nodes {
-        t = one_path(space, nodes, links, root, n, first, t);
+        let end = End {
+            nodes: nodes,
+            links: links,
+            root: root,
+            leaf: n,
+        };
+        t = one_path(space, end, t);
         n += 1;
     }
     t
 }
 
-fn paths_of(space: &[u32], nodes: usize, links: usize, first: bool, start: Tally) -> Tally
+fn paths_of(space: &[u32], nodes: usize, links: usize, start: Tally) -> Tally
     requires { ⌜ NodesIn (now space) nodes ⌝ }
 {
     let mut t = start;
     let mut root = 0;
     while root < nodes {
-        t = paths_to(space, nodes, links, root, first, t);
+        t = paths_to(space, nodes, links, root, t);
         root += 1;
     }
     t
@@ -430,10 +407,8 @@ fn paths_of(space: &[u32], nodes: usize, links: usize, first: bool, start: Tally
 fn all_paths(space: &[u32], h: Head) -> Tally
     requires { ⌜ Bounds (now space) h ⌝ }
 {
-    let t = paths_of(space, h.nodes, h.subgoals, true, started());
-    let u = paths_of(space, h.nodes, h.answers, true, t);
-    let v = paths_of(space, h.nodes, h.subgoals, false, u);
-    paths_of(space, h.nodes, h.answers, false, v)
+    let t = paths_of(space, h.nodes, h.subgoals, started());
+    paths_of(space, h.nodes, h.answers, t)
 }
 
 fn show(t: Tally) {

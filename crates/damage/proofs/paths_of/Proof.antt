@@ -6,10 +6,10 @@ use Rattle.damage.proofs.paths_of.Statement.{statement}
 use Rattle.damage.proofs.paths_of.Tie as tie
 
 abbrev Inv-loop : tie.InvT-loop
-Inv-loop space nodes links first t₀ root₀ t root = root ≤ nodes
+Inv-loop space nodes links t₀ root₀ t root = root ≤ nodes
 
 abbrev μ-loop : tie.MeasureT-loop
-μ-loop space nodes links first t₀ root₀ t root = nodes - root
+μ-loop space nodes links t₀ root₀ t root = nodes - root
 
 loop-holds : tie.Need-loop-holds Inv-loop μ-loop
 loop-holds c = omega arith

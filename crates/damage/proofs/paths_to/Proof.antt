@@ -6,10 +6,10 @@ use Rattle.damage.proofs.paths_to.Statement.{statement}
 use Rattle.damage.proofs.paths_to.Tie as tie
 
 abbrev Inv-loop : tie.InvT-loop
-Inv-loop space nodes links root first t₀ n₀ t n = n ≤ nodes
+Inv-loop space nodes links root t₀ n₀ t n = n ≤ nodes
 
 abbrev μ-loop : tie.MeasureT-loop
-μ-loop space nodes links root first t₀ n₀ t n = nodes - n
+μ-loop space nodes links root t₀ n₀ t n = nodes - n
 
 loop-holds : tie.Need-loop-holds Inv-loop μ-loop
 loop-holds c = omega arith

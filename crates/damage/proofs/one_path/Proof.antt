@@ -1,8 +1,8 @@
--- `damage::first_path` meets its contract.
+-- `damage::one_path` meets its contract.
 use native.Mathlib.Omega.{arith}
 use borrow.Author.Needs.{needs}
-use Rattle.damage.proofs.first_path.Statement.{statement}
-use Rattle.damage.proofs.first_path.Tie as tie
+use Rattle.damage.proofs.one_path.Statement.{statement}
+use Rattle.damage.proofs.one_path.Tie as tie
 
 short-path-requires : tie.Need-short-path-requires
 short-path-requires c κs = search needs
@@ -28,11 +28,8 @@ with-tokens-requires c κs = search needs
 enum-known-short-2 : tie.Need-enum-known-short-2
 enum-known-short-2 c = search needs
 
-mixed-index-requires : tie.Need-mixed-index-requires
-mixed-index-requires c κs = search needs
-
-with-sum-requires : tie.Need-with-sum-requires
-with-sum-requires c κs = search needs
+long-tokens-requires : tie.Need-long-tokens-requires
+long-tokens-requires c κs = let f = rw (c .before .before .short2 .given .1) at (c .before .before .before .before .short-path .ensures .0) in (search needs, f .0, c .before .before .before .before .short-path .ensures .1)
 
 enum-told : tie.Need-enum-told
 enum-told c = search needs
@@ -49,8 +46,8 @@ returns-2 c = search needs
 returns-3 : tie.Need-returns-3
 returns-3 c = search needs
 
-pub first-path-spec : {M : Type 1} → statement M
-first-path-spec =
+pub one-path-spec : {M : Type 1} → statement M
+one-path-spec =
     tie.close
     (tie.spec
     short-path-requires
@@ -61,8 +58,7 @@ first-path-spec =
     part-with-tokens-end
     with-tokens-requires
     enum-known-short-2
-    mixed-index-requires
-    with-sum-requires
+    long-tokens-requires
     enum-told
     with-damage-requires
     returns

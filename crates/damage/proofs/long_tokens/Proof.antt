@@ -1,8 +1,8 @@
--- `damage::other_path` meets its contract.
+-- `damage::long_tokens` meets its contract.
 use native.Mathlib.Omega.{arith}
 use borrow.Author.Needs.{needs}
-use Rattle.damage.proofs.other_path.Statement.{statement}
-use Rattle.damage.proofs.other_path.Tie as tie
+use Rattle.damage.proofs.long_tokens.Statement.{statement}
+use Rattle.damage.proofs.long_tokens.Tie as tie
 
 slice-aggregate-long-path : tie.Need-slice-aggregate-long-path
 slice-aggregate-long-path c = search needs
@@ -40,8 +40,8 @@ with-tokens-requires c κs = search needs
 returns-2 : tie.Need-returns-2
 returns-2 c = search needs
 
-pub other-path-spec : {M : Type 1} → statement M
-other-path-spec =
+pub long-tokens-spec : {M : Type 1} → statement M
+long-tokens-spec =
     tie.close
     (tie.spec
     slice-aggregate-long-path
