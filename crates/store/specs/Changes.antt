@@ -10,7 +10,6 @@ use Rattle.space.specs.Layout.{Sizes, nodesCell, subgoalsCell, answersCell, nod
 use Rattle.space.specs.Layout.{stateCell, firstCell, lastCell, nextCell, nodeTo, subgoalTo, answerTo, subgoalIn}
 use Rattle.space.specs.declared.Head.{Head}
 use Rattle.space.specs.declared.Subgoal.{Subgoal}
-use Rattle.space.specs.declared.Answer.{Answer}
 use Rattle.trie.specs.Append.{newRoot, appendPath}
 use Rattle.store.specs.Decisions.{Decision, says, gives, entersSubgoal, entersAnswer, entersEmpty, finishes}
 
@@ -30,12 +29,11 @@ subgoalEntered z cs h parent last left m =
     ++ (put nodesCell (root + 1) ∷ put subgoalsCell s ∷ []))))
     (appendPath z cs (h .nodes) parent last left)
 
--- the first answer is set where there was none; the last is followed by the new one where there was one
-abbrev pub chained : Sizes → Head → ℕ → Subgoal → ℕ → List Write
-chained z h s g a =
-    pick (eqb (g .last) 0)
-    (put (firstCell z (h .«subgoal_offset») s) a ∷ [])
-    (put (nextCell z (h .«answer_offset») (g .last)) a ∷ [])
+-- subgoals and answers begin at two offsets; the first answer of s is set where there was none, and the last is
+-- followed by the new one where there was one
+abbrev pub chained : Sizes → (subgoals answers : ℕ) → (s last a : ℕ) → List Write
+chained z subgoals answers s last a =
+    pick (eqb last 0) (put (firstCell z subgoals s) a ∷ []) (put (nextCell z answers last) a ∷ [])
 
 -- the leaf linked to the answer, the chain, the record, the subgoal's last answer, the counts
 unfoldable pub answerEntered : Sizes → List ℕ → Head → ℕ → Subgoal → ℕ → ℕ → List ℕ
@@ -43,7 +41,7 @@ answerEntered z cs h s g leaf nodes =
     let a = h .answers + 1 in
     writes
     (put (linkCell z leaf) a
-    ∷ (chained z h s g a
+    ∷ (chained z (h .«subgoal_offset») (h .«answer_offset») s (g .last) a
     ++ (answerTo (answerAt z (h .«answer_offset») a) (record { leaf = leaf; subgoal = s; next = 0 })
     ++ (put (lastCell z (h .«subgoal_offset») s) a ∷ put nodesCell nodes ∷ put answersCell a ∷ []))))
     cs

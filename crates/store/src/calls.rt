@@ -45,12 +45,12 @@ use trie::appends::append_path;
 use trie::walks::walk_tokens;
 ghost use mathlib.Core.Path.{_≡_};
 ghost use mathlib.Core.List.{[]};
-ghost use Prim.Native.Nat.{_+_, _<_, _≤_};
+ghost use Prim.Native.Nat.{_+_, _<_, _≤_, _^_};
 ghost use lib.ListN.{length};
 ghost use Rattle.basis.specs.Writes.{writes};
 ghost use Rattle.plain.specs.Requests as request;
-ghost use Rattle.space.specs.Layout.{sizesOf};
-ghost use Rattle.space.specs.Sound.{Bounds, subgoalUnder};
+ghost use Rattle.space.specs.Layout.{sizesOf, answersEnd};
+ghost use Rattle.space.specs.Sound.{Bounds, SubgoalRoom, subgoalUnder};
 ghost use Rattle.store.specs.Decisions.{stateOf, calledOld, calledNew};
 ghost use Rattle.store.specs.Decisions.{soundLast, answeredNew, answeredOld, entersEmpty};
 ghost use Rattle.store.specs.Changes.{chained, subgoalEntered, answerEntered};
@@ -89,7 +89,7 @@ fn finish_in(space: &mut [u32], h: Head, s: usize) -> FinishAnswer
     let SubgoalRead::Sound(_) = read_subgoal(space, h, s) else {
         return FinishAnswer::Refused(RECORDS);
     };
-    write_state(space, h, s, 1);
+    write_state(space, h.edition, h.subgoal_offset, s, 1);
     FinishAnswer::Done
 }
 
@@ -169,7 +169,7 @@ fn enter_subgoal(space: &mut [u32], h: Head, parent: usize, last: usize, tokens:
         first: 0,
         last: 0,
     };
-    write_subgoal(space, h, s, record);
+    write_subgoal(space, h.edition, h.subgoal_offset, s, record);
     write_subgoal_counts(space, (root + 1) as u32, s as u32);
 }
 
@@ -306,20 +306,28 @@ fn refusal(space: &[u32], h: Head, s: usize, g: Subgoal, more: usize) -> u32
     RECORDS
 }
 
-// The new answer a becomes the subgoal's first, or the next of its last.
-fn chain(space: &mut [u32], h: Head, s: usize, g: Subgoal, a: usize)
-    requires { ⌜ HeldLast (now space) h s g ⌝ }
-    requires { ⌜ a ≤ h .«answer_capacity» ⌝ }
+// The new answer a becomes the first of subgoal s, or the next of its last.
+fn chain(
+    space: &mut [u32],
+    edition: u32,
+    subgoal_offset: usize,
+    answer_offset: usize,
+    s: usize,
+    last: usize,
+    a: usize,
+)
+    requires { ⌜ SubgoalRoom (now space) edition «subgoal_offset» s ⌝ }
+    requires { ⌜ (answersEnd edition «answer_offset» last ≤ length (now space)) × (a < 2 ^ 32) ⌝ }
     ensures { λ r. ⌜
-        now (space .exit) ≡ writes (chained (sizesOf (h .edition)) h s g a) (now (space .entry))
+        now (space .exit)
+        ≡ writes (chained (sizesOf edition) «subgoal_offset» «answer_offset» s last a) (now (space .entry))
         ⌝ }
 {
-    let last = g.last;
     if last == 0 {
-        write_first(space, h, s, a as u32);
+        write_first(space, edition, subgoal_offset, s, a as u32);
         return;
     }
-    write_next(space, h, last, a as u32);
+    write_next(space, edition, answer_offset, last, a as u32);
 }
 
 // The leaf linked to the answer, the chain, the record, the subgoal's last answer, the counts.
@@ -334,14 +342,22 @@ fn enter_answer(space: &mut [u32], h: Head, s: usize, g: Subgoal, leaf: usize, n
 {
     let a = h.answers + 1;
     write_link(space, h.node_capacity, leaf, a as u32);
-    chain(space, h, s, g, a);
+    chain(
+        space,
+        h.edition,
+        h.subgoal_offset,
+        h.answer_offset,
+        s,
+        g.last,
+        a,
+    );
     let record = Answer {
         leaf: leaf,
         subgoal: s,
         next: 0,
     };
-    write_answer(space, h, a, record);
-    write_last(space, h, s, a as u32);
+    write_answer(space, h.edition, h.answer_offset, a, record);
+    write_last(space, h.edition, h.subgoal_offset, s, a as u32);
     write_answer_counts(space, nodes as u32, a as u32);
 }
 

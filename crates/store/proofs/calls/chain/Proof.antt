@@ -14,7 +14,7 @@ same-length : tie.Need-same-length
 same-length c = search needs
 
 returns : tie.Need-returns
-returns c = chain-first (c .before .before .before .before .before .before .args .space .now) (c .before .before .before .before .before .before .args .h) (c .before .before .before .before .before .before .args .s) (c .before .before .before .before .before .before .args .g) (c .before .before .before .before .before .before .args .a) _ (search needs) (c .before .before .write-first .ensures)
+returns c = chain-first _ _ _ (c .before .before .before .before .before .before .args .answer-offset) (c .before .before .before .before .before .before .args .s) (c .before .before .before .before .before .before .args .last) _ _ (search needs) (c .before .before .write-first .ensures)
 
 cast-write-next : tie.Need-cast-write-next
 cast-write-next c = search needs
@@ -26,7 +26,7 @@ same-length-2 : tie.Need-same-length-2
 same-length-2 c = search needs
 
 returns-2 : tie.Need-returns-2
-returns-2 c = chain-next (c .before .before .before .before .before .before .args .space .now) (c .before .before .before .before .before .before .args .h) (c .before .before .before .before .before .before .args .s) (c .before .before .before .before .before .before .args .g) (c .before .before .before .before .before .before .args .a) _ (search needs) (c .before .before .write-next .ensures)
+returns-2 c = chain-next _ _ (c .before .before .before .before .before .before .args .subgoal-offset) _ (c .before .before .before .before .before .before .args .s) (c .before .before .before .before .before .before .args .last) _ _ (search needs) (c .before .before .write-next .ensures)
 
 pub chain-spec : {M : Type 1} → statement M
 chain-spec =

@@ -1,22 +1,24 @@
 -- `store::calls::enter_answer` meets its contract.
-use Prim.Native.Nat.{_+_}
+use Prim.Native.Nat.{_+_, _≤_}
 use native.Mathlib.Omega.{arith}
-use Rattle.space.specs.Sound.{Bounds}
-use Rattle.store.proofs.CallsRecords.{bounds-linked, bounds-answer}
-use Rattle.store.proofs.CallsAnswers.{bounds-chained, answer-entered}
+use lib.ListN.{length}
+use Rattle.space.specs.Layout.{subgoalsEnd, answersEnd}
+use Rattle.space.proofs.WidthLaws.{subgoals-stand, answers-stand}
+use Rattle.store.proofs.CallsAnswers.{answer-entered}
 use borrow.Author.Needs.{needs}
 use Rattle.store.proofs.calls.enter_answer.Statement.{statement}
 use Rattle.store.proofs.calls.enter_answer.Tie as tie
 
--- the bounds after the leaf is linked, after the chain and after the record
-linked : (x : tie.After-write-link) → Bounds (x .write-link .last .0) (x .before .before .before .before .args .h)
-linked x = bounds-linked _ _ _ (x .before .before .before .before .pre .0 .0) _ _ (x .write-link .ensures)
+-- the subgoal, its last answer and the new one stand in the cells
+module _ (x : tie.Start) where
+  subgoal-stands : subgoalsEnd (x .args .h .edition) (x .args .h .«subgoal_offset») (x .args .s) ≤ length (x .args .space .now)
+  subgoal-stands = subgoals-stand _ _ (x .pre .0 .0) _ (search needs)
 
-in-chain : (x : tie.After-chain) → Bounds (x .chain .last .0) (x .before .before .before .before .before .before .before .before .args .h)
-in-chain x = bounds-chained (x .before .before .before .before .write-link .last .0) (x .before .before .before .before .before .before .before .before .args .h) (x .before .before .before .before .before .before .before .before .args .s) (x .before .before .before .before .before .before .before .before .args .g) (x .before .before .before .before .before .before .before .before .args .h .answers + 1) (x .chain .last .0) (linked (x .before .before .before .before)) (x .chain .ensures)
+  last-stands : answersEnd (x .args .h .edition) (x .args .h .«answer_offset») (x .args .g .last) ≤ length (x .args .space .now)
+  last-stands = answers-stand _ _ (x .pre .0 .0) _ (search needs)
 
-recorded : (x : tie.After-write-answer) → Bounds (x .write-answer .last .0) (x .before .before .before .before .before .before .before .before .before .before .before .before .args .h)
-recorded x = bounds-answer _ _ _ (in-chain (x .before .before .before .before)) (x .before .before .before .before .before .before .before .before .before .before .before .before .args .h .answers + 1) _ (x .write-answer .ensures)
+  new-stands : answersEnd (x .args .h .edition) (x .args .h .«answer_offset») (x .args .h .answers + 1) ≤ length (x .args .space .now)
+  new-stands = answers-stand _ _ (x .pre .0 .0) _ (omega (arith, x .pre .1 .2))
 
 add-a : tie.Need-add-a
 add-a c = search needs
@@ -28,16 +30,16 @@ write-link-requires : tie.Need-write-link-requires
 write-link-requires c κs = search needs
 
 chain-requires : tie.Need-chain-requires
-chain-requires c κs = ((linked (c .before .before .before), search needs, search needs, search needs), omega (arith, c .before .before .before .before .before .before .before .pre .1 .2))
+chain-requires c κs = ((search needs, omega (arith, subgoal-stands (c .before .before .before .before .before .before .before))), (omega (arith, last-stands (c .before .before .before .before .before .before .before)), omega arith))
 
 write-answer-requires : tie.Need-write-answer-requires
-write-answer-requires c κs = (in-chain (c .before .before .before), omega arith, omega (arith, c .before .before .before .before .before .before .before .before .before .before .before .pre .1 .2), record { leaf-fits = omega arith; subgoal-fits = omega arith; next-fits = omega arith })
+write-answer-requires c κs = (omega arith, omega (arith, new-stands (c .before .before .before .before .before .before .before .before .before .before .before)), record { leaf-fits = omega arith; subgoal-fits = omega arith; next-fits = omega arith })
 
 cast-write-last : tie.Need-cast-write-last
 cast-write-last c = search needs
 
 write-last-requires : tie.Need-write-last-requires
-write-last-requires c κs = (recorded (c .before .before .before), search needs, search needs)
+write-last-requires c κs = (search needs, omega (arith, subgoal-stands (c .before .before .before .before .before .before .before .before .before .before .before .before .before .before .before)))
 
 cast-write-answer-counts : tie.Need-cast-write-answer-counts
 cast-write-answer-counts c = search needs

@@ -1,20 +1,17 @@
 -- `store::calls::enter_subgoal` meets its contract.
+use Prim.Native.Nat.{_+_, _≤_}
 use native.Mathlib.Omega.{arith}
-use Rattle.space.specs.Sound.{Bounds}
-use Rattle.store.proofs.CallsRecords.{bounds-appended, bounds-linked, bounds-node}
+use lib.ListN.{length}
+use Rattle.space.specs.Layout.{subgoalsEnd}
+use Rattle.space.proofs.WidthLaws.{subgoals-stand}
 use Rattle.store.proofs.CallsCases.{subgoal-entered}
 use borrow.Author.Needs.{needs}
 use Rattle.store.proofs.calls.enter_subgoal.Statement.{statement}
 use Rattle.store.proofs.calls.enter_subgoal.Tie as tie
 
--- the bounds after the answer root is written
-bounds : (c : tie.After-write-subgoal-arg) → Bounds (c .before .before .before .write-node .last .0) (c .before .before .before .before .before .before .before .before .before .before .before .before .before .before .before .before .before .args .h)
-bounds c =
-    bounds-node _ _ _
-    (bounds-linked _ _ _
-    (bounds-appended _ _ _ (c .before .before .before .before .before .before .before .before .before .before .before .before .before .before .before .before .before .pre .0 .0) _ _ _ (search needs) (search needs) (c .before .before .before .before .before .before .before .before .before .before .before .append-path .ensures))
-    _ _ (c .before .before .before .before .before .before .before .write-link .ensures))
-    _ _ (c .before .before .before .write-node .ensures)
+-- the new record stands in the cells
+stands : (x : tie.Start) → subgoalsEnd (x .args .h .edition) (x .args .h .«subgoal_offset») (x .args .h .subgoals + 1) ≤ length (x .args .space .now)
+stands x = subgoals-stand _ _ (x .pre .0 .0) _ (search needs)
 
 add-root : tie.Need-add-root
 add-root c = search needs
@@ -38,7 +35,7 @@ write-node-requires : tie.Need-write-node-requires
 write-node-requires c κs = search needs
 
 write-subgoal-requires : tie.Need-write-subgoal-requires
-write-subgoal-requires c κs = (bounds c, search needs, search needs, record { leaf-fits = omega arith; root-fits = omega arith; variables-fit = omega arith; state-fits = omega arith; first-fits = omega arith; last-fits = omega arith })
+write-subgoal-requires c κs = (search needs, omega (arith, stands (c .before .before .before .before .before .before .before .before .before .before .before .before .before .before .before .before .before)), record { leaf-fits = omega arith; root-fits = omega arith; variables-fit = omega arith; state-fits = omega arith; first-fits = omega arith; last-fits = omega arith })
 
 add-write-subgoal-counts : tie.Need-add-write-subgoal-counts
 add-write-subgoal-counts c = search needs

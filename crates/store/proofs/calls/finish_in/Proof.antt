@@ -1,5 +1,7 @@
 -- `store::calls::finish_in` meets its contract.
+use native.Mathlib.Omega.{arith}
 use Rattle.basis.proofs.Tests.{told}
+use Rattle.space.proofs.WidthLaws.{subgoals-stand}
 use Rattle.store.proofs.CallsCases.{finish-zero, finish-above, finish-damaged, finish-done}
 use mathlib.Core.Path.{sym, _∙_}
 use borrow.Author.Needs.{needs}
@@ -28,7 +30,7 @@ returns-3 : tie.Need-returns-3
 returns-3 c = finish-damaged _ _ _ (search needs) (search needs) (told (c .enum-told2 .given .1) (c .before .before .read-subgoal .ensures))
 
 write-state-requires : tie.Need-write-state-requires
-write-state-requires c κs = search needs
+write-state-requires c κs = (omega arith, omega (arith, subgoals-stand _ _ (c .before .before .before .before .before .before .before .before .before .pre) (c .before .before .before .before .before .before .before .before .before .args .s) (search needs)))
 
 same-length-2 : tie.Need-same-length-2
 same-length-2 c = search needs
