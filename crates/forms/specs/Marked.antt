@@ -8,7 +8,8 @@ use Rattle.forms.specs.declared.Answer.the-variants.{Cells, Refused, Sho
 use Rattle.forms.specs.Cells.{tag, nil, PAIR, BLIST, ELIST, EPAIR, shapeOf, symbolic, tokenOf, arityOf}
 use Rattle.forms.specs.Terms.{Term, pairs, every, applied, paired, begun, reads, areTerms}
 use Rattle.forms.specs.Numbering.{rank, seen, met, renamed, numbered}
-use Rattle.forms.specs.Compact.{compact, elements, compactForm, filled, lastOf, tailOf, inside, into, collected, whole, entered, items, front, formTerms, pairForm, same, areForms, legalForm}
+use Rattle.forms.specs.Compact.{compact, elements, compactForm, filled, lastOf, tailOf, inside, into, collected}
+use Rattle.forms.specs.Compact.{whole, entered, items, front, formTerms, pairForm, same, areForms, legalForm}
 use Rattle.forms.specs.Converting.{reading, loading, fitting, fittingForm, fittingTerms, compacting, expanding, written}
 
 abbrev var : ℕ → ℕ
@@ -47,7 +48,9 @@ MarkedTerms =
     × (expanding (arityOf 1) 1 (BLIST ∷ int 1 ∷ EPAIR ∷ nil ∷ []) 256 ≡ Refused 13)
 
 pub marked : MarkedTerms
-unfolding compactForm reading loading fittingForm fittingTerms compacting expanding legalForm areTerms areForms fitting pairForm formTerms front symbolic tokenOf items entered filled lastOf tailOf into inside collected whole reads begun applied paired shapeOf arityOf every compact elements pairs numbered renamed met seen rank same
+unfolding compactForm reading loading fittingForm fittingTerms compacting expanding legalForm areTerms areForms
+    fitting pairForm formTerms front symbolic tokenOf items entered filled lastOf tailOf into inside collected whole
+    reads begun applied paired shapeOf arityOf every compact elements pairs numbered renamed met seen rank same
 marked = (refl, refl, refl, refl, refl, refl, refl, refl, refl, refl, refl)
 
 -- ---- edition 2
@@ -66,7 +69,9 @@ MarkedWide =
     × (expanding (arityOf 1) 1 (wideTerm 0 1) 41 ≡ Refused 13)
 
 pub marked-wide : MarkedWide
-unfolding compactForm reading loading fittingForm fittingTerms compacting expanding legalForm areTerms areForms fitting pairForm formTerms front symbolic tokenOf items entered filled lastOf tailOf into inside collected whole reads begun applied paired shapeOf arityOf every compact elements pairs numbered renamed met seen rank same
+unfolding compactForm reading loading fittingForm fittingTerms compacting expanding legalForm areTerms areForms
+    fitting pairForm formTerms front symbolic tokenOf items entered filled lastOf tailOf into inside collected whole
+    reads begun applied paired shapeOf arityOf every compact elements pairs numbered renamed met seen rank same
 marked-wide = (refl, refl, refl, refl, refl)
 
 -- ---- what is in out afterwards
@@ -93,5 +98,8 @@ MarkedOut =
     × (expandedInto pair12 (9 ∷ 9 ∷ 9 ∷ 7 ∷ []) ≡ 9 ∷ 9 ∷ 9 ∷ 7 ∷ [])
 
 pub marked-out : MarkedOut
-unfolding written reading loading fittingForm fittingTerms compacting expanding compactForm legalForm areTerms areForms fitting pairForm formTerms front symbolic tokenOf items entered filled lastOf tailOf into inside collected whole reads begun applied paired shapeOf arityOf every compact elements pairs numbered renamed met seen rank same
+unfolding written reading loading fittingForm fittingTerms compacting expanding compactForm legalForm areTerms
+    areForms fitting pairForm formTerms front symbolic tokenOf items entered filled lastOf tailOf into inside
+    collected whole reads begun applied paired shapeOf arityOf every compact elements pairs numbered renamed met seen
+    rank same
 marked-out = (refl, refl, refl, refl)

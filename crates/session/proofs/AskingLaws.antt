@@ -18,7 +18,8 @@ use Rattle.store.specs.Calls.{spaceStep}
 use Rattle.session.specs.Lines.{Meaning, bad, asks, withCells, withNumber, oneNumber, twoNumbers, numberAndCells, noField, wordCall, wordAnswer, wordFinish, wordNext, wordLoad, wordInstance, wordCounts, wordMeans, means}
 use Rattle.text.specs.Cutting.{newline}
 use Rattle.session.specs.Texts.{textBad, replyText, textRoom}
-use Rattle.session.specs.Session.{Said, outLeft, says, Prints, response, responding}
+use Rattle.session.specs.Session.{Said, outLeft, says, Response, response, responding}
+use Rattle.session.specs.Asking.{Prints}
 
 -- ---- meanings
 
@@ -74,6 +75,10 @@ module _ (space out : List ℕ) (m : Meaning) where
 pub leaves-alike : (space out text after space′ : List ℕ) (end : ℕ) (m n : Meaning) → m ≡ n
     → Prints (says spaceStep n space out) text end after space′ → Prints (says spaceStep m space out) text end after space′
 leaves-alike space out text after space′ end m n e p = rw e p
+
+-- what is printed and the space, and out: one after another
+pub flat : {A B C : Type 0} → (A × B) × C → A × (B × C)
+flat p = (p .0 .0, (p .0 .1, p .1))
 
 -- ---- the calls that leave out
 
@@ -198,6 +203,11 @@ module _ (line text space out after : List ℕ) (end : ℕ) where
       → response (end + 1) (set after end newline) space′ out′ ≡ responding line text space out
   unfolding responding
   response-line space′ out′ h l o = rw (le-leb _ _ h, line-put (answered .text) (l .0) .0, line-put (answered .text) (l .0) .1, l .1, o)
+
+pub response-parts : (n : ℕ) (text space out : List ℕ) (r : Response) → response n text space out ≡ r
+    → (n ≡ r .printed) × (text ≡ r .text) × (space ≡ r .space) × (out ≡ r .out)
+response-parts n text space out r e =
+    (ap (λ (x : Response). x .printed) e, ap (λ (x : Response). x .text) e, ap (λ (x : Response). x .space) e, ap (λ (x : Response). x .out) e)
 
 -- ---- room
 

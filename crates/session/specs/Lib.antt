@@ -2,5 +2,6 @@ pub mod Lines
 pub mod Texts
 pub mod Numbers
 pub mod Session
+pub mod Asking
 pub mod Program
 pub mod Examples

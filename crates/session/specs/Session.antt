@@ -12,7 +12,6 @@ use Rattle.space.specs.Fresh.{freshAnswerIn, freshSpaceIn}
 use Rattle.space.specs.declared.FreshAnswer.the-variants.{Done}
 use Rattle.store.specs.Calls.{spaceStep}
 use Rattle.text.specs.Cutting.{newline}
-use Rattle.text.specs.Digits.{Puts}
 use Rattle.session.specs.Lines.{Meaning, bad, asks, means}
 use Rattle.session.specs.Texts.{textBad, replyText, textRoom}
 use Rattle.session.specs.Numbers.{sessionEdition}
@@ -48,20 +47,6 @@ session calls (line ∷ lines) s out =
     r .text ++ (newline ∷ session calls lines (r .state) (r .out))
 
 -- ---- the function that answers a line
-
--- a line is printed at the start of the text: the text before, the place behind the line, the text and the space after
-abbrev pub Prints : Said (List ℕ) → List ℕ → ℕ → List ℕ → List ℕ → Type 0
-Prints r text end text′ space′ = Puts 0 (r .text) text end text′ × (space′ ≡ r .state)
-
--- what a line's meaning asks for is done and printed, whatever out holds: the space and the text before, the place
--- behind what is printed, the text and the space after
-abbrev pub Asked : Meaning → List ℕ → List ℕ → ℕ → List ℕ → List ℕ → Type 0
-Asked m space text end text′ space′ = (out : List ℕ) → Prints (says spaceStep m space out) text end text′ space′
-
--- the same where out may be written: the space, out and the text before; the place; the text, the space and out after
-abbrev pub AskedOut : Meaning → List ℕ → List ℕ → List ℕ → ℕ → List ℕ → List ℕ → List ℕ → Type 0
-AskedOut m space out text end text′ space′ out′ =
-    Prints (says spaceStep m space out) text end text′ space′ × (out′ ≡ says spaceStep m space out .out)
 
 -- how many bytes of the text are to be printed, and the text, the space and out after it
 pub record Response : Type 0 where

@@ -18,13 +18,14 @@ use text::Numeral;
 use text::fields::first_number;
 use text::fields::only_number;
 use text::fields::read_cells;
+ghost use mathlib.Core.Path.{_≡_};
 ghost use Prim.Native.Nat.{_≤_};
 ghost use lib.ListN.{length};
-ghost use Rattle.text.specs.Places.{restAt, Ends};
-ghost use Rattle.session.specs.Lines.{longestLine, meansCall, meansAnswer, meansFinish, meansNext};
-ghost use Rattle.session.specs.Lines.{meansLoad, meansInstance, meansCounts};
+ghost use Rattle.text.specs.Places.{Ends};
+ghost use Rattle.session.specs.Lines.{longestLine};
 ghost use Rattle.session.specs.Texts.{replyBytes, textRoom};
-ghost use Rattle.session.specs.Session.{Asked, AskedOut};
+ghost use Rattle.session.specs.Asking.{Asks, AsksReading, callAt, answerAt, finishAt, nextAt, countsAt};
+ghost use Rattle.session.specs.Asking.{loadSaid, instanceSaid, LoadPrints, InstancePrints};
 
 // Cells for all that a line of 4,096 bytes has room for: 9 bytes each.
 const LINE_CELLS: usize = 456;
@@ -32,8 +33,10 @@ const LINE_CELLS: usize = 456;
 // call, with cells.
 pub fn ask_call(line: &[u8], at: usize, space: &mut [u32], text: &mut [u8]) -> usize
     requires { ⌜ Ends (now line) at × (length (now line) ≤ longestLine) × (replyBytes ≤ length (now text)) ⌝ }
-    ensures { λ r. ⌜ Asked (meansCall (restAt (now (line .entry)) at)) (now (space .entry))
-        (now (text .entry)) r (now (text .exit)) (now (space .exit)) ⌝ }
+    ensures { λ r. ⌜
+        Asks (callAt (now (line .entry)) at) (now (space .entry))
+        (now (text .entry)) r (now (text .exit)) (now (space .exit))
+        ⌝ }
 {
     let mut cells = [0u32; LINE_CELLS];
     let CellsRead::Cells(n) = read_cells(line, at, &mut cells) else {
@@ -46,8 +49,10 @@ pub fn ask_call(line: &[u8], at: usize, space: &mut [u32], text: &mut [u8]) -> u
 // answer, with a number and cells.
 pub fn ask_answer(line: &[u8], at: usize, space: &mut [u32], text: &mut [u8]) -> usize
     requires { ⌜ Ends (now line) at × (length (now line) ≤ longestLine) × (replyBytes ≤ length (now text)) ⌝ }
-    ensures { λ r. ⌜ Asked (meansAnswer (restAt (now (line .entry)) at)) (now (space .entry))
-        (now (text .entry)) r (now (text .exit)) (now (space .exit)) ⌝ }
+    ensures { λ r. ⌜
+        Asks (answerAt (now (line .entry)) at) (now (space .entry))
+        (now (text .entry)) r (now (text .exit)) (now (space .exit))
+        ⌝ }
 {
     let Numeral::Value(subgoal, end) = first_number(line, at) else {
         return print_bad(text);
@@ -63,8 +68,10 @@ pub fn ask_answer(line: &[u8], at: usize, space: &mut [u32], text: &mut [u8]) ->
 // finish, with a number.
 pub fn ask_finish(line: &[u8], at: usize, space: &mut [u32], text: &mut [u8]) -> usize
     requires { ⌜ Ends (now line) at × (replyBytes ≤ length (now text)) ⌝ }
-    ensures { λ r. ⌜ Asked (meansFinish (restAt (now (line .entry)) at)) (now (space .entry))
-        (now (text .entry)) r (now (text .exit)) (now (space .exit)) ⌝ }
+    ensures { λ r. ⌜
+        Asks (finishAt (now (line .entry)) at) (now (space .entry))
+        (now (text .entry)) r (now (text .exit)) (now (space .exit))
+        ⌝ }
 {
     let Numeral::Value(subgoal, _) = only_number(line, at) else {
         return print_bad(text);
@@ -76,8 +83,9 @@ pub fn ask_finish(line: &[u8], at: usize, space: &mut [u32], text: &mut [u8]) ->
 // next, with two numbers.
 pub fn ask_next(line: &[u8], at: usize, space: &[u32], text: &mut [u8]) -> usize
     requires { ⌜ Ends (now line) at × (replyBytes ≤ length (now text)) ⌝ }
-    ensures { λ r. ⌜ Asked (meansNext (restAt (now (line .entry)) at)) (now (space .entry))
-        (now (text .entry)) r (now (text .exit)) (now (space .entry)) ⌝ }
+    ensures { λ r. ⌜
+        AsksReading (nextAt (now (line .entry)) at) (now (space .entry)) (now (text .entry)) r (now (text .exit))
+        ⌝ }
 {
     let Numeral::Value(subgoal, end) = first_number(line, at) else {
         return print_bad(text);
@@ -92,9 +100,13 @@ pub fn ask_next(line: &[u8], at: usize, space: &[u32], text: &mut [u8]) -> usize
 // load, with a number. What was written to out is printed.
 pub fn ask_load(line: &[u8], at: usize, space: &[u32], out: &mut [u32], text: &mut [u8]) -> usize
     requires { ⌜ Ends (now line) at × (textRoom (length (now out)) ≤ length (now text)) ⌝ }
-    ensures { λ r. ⌜ AskedOut (meansLoad (restAt (now (line .entry)) at) (now (out .entry)))
-        (now (space .entry)) (now (out .entry)) (now (text .entry)) r
-        (now (text .exit)) (now (space .entry)) (now (out .exit)) ⌝ }
+    ensures { λ r. ⌜
+        LoadPrints (now (line .entry)) at (now (space .entry)) (now (out .entry))
+        (now (text .entry)) r (now (text .exit))
+        ⌝ }
+    ensures { λ r. ⌜
+        now (out .exit) ≡ loadSaid (now (line .entry)) at (now (space .entry)) (now (out .entry)) .out
+        ⌝ }
 {
     let Numeral::Value(number, _) = only_number(line, at) else {
         return print_bad(text);
@@ -112,9 +124,13 @@ pub fn ask_instance(
     text: &mut [u8],
 ) -> usize
     requires { ⌜ Ends (now line) at × (textRoom (length (now out)) ≤ length (now text)) ⌝ }
-    ensures { λ r. ⌜ AskedOut (meansInstance (restAt (now (line .entry)) at) (now (out .entry)))
-        (now (space .entry)) (now (out .entry)) (now (text .entry)) r
-        (now (text .exit)) (now (space .entry)) (now (out .exit)) ⌝ }
+    ensures { λ r. ⌜
+        InstancePrints (now (line .entry)) at (now (space .entry)) (now (out .entry))
+        (now (text .entry)) r (now (text .exit))
+        ⌝ }
+    ensures { λ r. ⌜
+        now (out .exit) ≡ instanceSaid (now (line .entry)) at (now (space .entry)) (now (out .entry)) .out
+        ⌝ }
 {
     let Numeral::Value(number, _) = only_number(line, at) else {
         return print_bad(text);
@@ -126,8 +142,9 @@ pub fn ask_instance(
 // counts, with no field: the line ends behind the word.
 pub fn ask_counts(line: &[u8], at: usize, space: &[u32], text: &mut [u8]) -> usize
     requires { ⌜ Ends (now line) at × (replyBytes ≤ length (now text)) ⌝ }
-    ensures { λ r. ⌜ Asked (meansCounts (restAt (now (line .entry)) at)) (now (space .entry))
-        (now (text .entry)) r (now (text .exit)) (now (space .entry)) ⌝ }
+    ensures { λ r. ⌜
+        AsksReading (countsAt (now (line .entry)) at) (now (space .entry)) (now (text .entry)) r (now (text .exit))
+        ⌝ }
 {
     if at < line.len() {
         return print_bad(text);

@@ -18,10 +18,10 @@ ghost use mathlib.Core.Path.{_≡_};
 ghost use Prim.Native.Nat.{_≤_};
 ghost use lib.Dec.{leb};
 ghost use lib.ListN.{length};
-ghost use Rattle.text.specs.Fields.{fields};
-ghost use Rattle.session.specs.Lines.{longestLine, wordMeans, means};
+ghost use Rattle.session.specs.Lines.{longestLine};
 ghost use Rattle.session.specs.Texts.{textRoom};
-ghost use Rattle.session.specs.Session.{AskedOut, response, responding};
+ghost use Rattle.session.specs.Asking.{wordSaid, lineSaid, WordPuts, LinePuts};
+ghost use Rattle.session.specs.Session.{responding};
 
 // A line that means something has at most so many bytes, its newline not counted.
 pub const LONGEST_LINE: usize = 4096;
@@ -35,9 +35,13 @@ pub const REPLY_BYTES: usize = 64;
 // The reply to a line that is not too long, by its first word; without the newline.
 fn reply(line: &[u8], space: &mut [u32], out: &mut [u32], text: &mut [u8]) -> usize
     requires { ⌜ (length (now line) ≤ longestLine) × (textRoom (length (now out)) ≤ length (now text)) ⌝ }
-    ensures { λ r. ⌜ AskedOut (wordMeans (fields (now (line .entry))) (now (out .entry)))
-        (now (space .entry)) (now (out .entry)) (now (text .entry)) r
-        (now (text .exit)) (now (space .exit)) (now (out .exit)) ⌝ }
+    ensures { λ r. ⌜
+        WordPuts (now (line .entry)) (now (space .entry)) (now (out .entry)) (now (text .entry)) r (now (text .exit))
+        ⌝ }
+    ensures { λ r. ⌜
+        now (space .exit) ≡ wordSaid (now (line .entry)) (now (space .entry)) (now (out .entry)) .state
+        ⌝ }
+    ensures { λ r. ⌜ now (out .exit) ≡ wordSaid (now (line .entry)) (now (space .entry)) (now (out .entry)) .out ⌝ }
 {
     let at = first_end(line);
     if is_word(&line[..at], b"call") {
@@ -67,9 +71,13 @@ fn reply(line: &[u8], space: &mut [u32], out: &mut [u32], text: &mut [u8]) -> us
 // The same of a line of any length: one that is too long is not read.
 fn reply_or_bad(line: &[u8], space: &mut [u32], out: &mut [u32], text: &mut [u8]) -> usize
     requires { ⌜ textRoom (length (now out)) ≤ length (now text) ⌝ }
-    ensures { λ r. ⌜ AskedOut (means (now (line .entry)) (now (out .entry)))
-        (now (space .entry)) (now (out .entry)) (now (text .entry)) r
-        (now (text .exit)) (now (space .exit)) (now (out .exit)) ⌝ }
+    ensures { λ r. ⌜
+        LinePuts (now (line .entry)) (now (space .entry)) (now (out .entry)) (now (text .entry)) r (now (text .exit))
+        ⌝ }
+    ensures { λ r. ⌜
+        now (space .exit) ≡ lineSaid (now (line .entry)) (now (space .entry)) (now (out .entry)) .state
+        ⌝ }
+    ensures { λ r. ⌜ now (out .exit) ≡ lineSaid (now (line .entry)) (now (space .entry)) (now (out .entry)) .out ⌝ }
 {
     if line.len() <= LONGEST_LINE {
         return reply(line, space, out, text);
@@ -90,8 +98,18 @@ fn has_room(out: &[u32], text: &[u8]) -> bool
 // Answers a line: what is to be printed stands at the start of text, with its newline, and its length
 // is returned. A text without room for any reply gets none.
 pub fn respond(line: &[u8], space: &mut [u32], out: &mut [u32], text: &mut [u8]) -> usize
-    ensures { λ r. ⌜ response r (now (text .exit)) (now (space .exit)) (now (out .exit))
-        ≡ responding (now (line .entry)) (now (text .entry)) (now (space .entry)) (now (out .entry)) ⌝ }
+    ensures { λ r. ⌜
+        r ≡ responding (now (line .entry)) (now (text .entry)) (now (space .entry)) (now (out .entry)) .printed
+        ⌝ }
+    ensures { λ r. ⌜
+        now (text .exit) ≡ responding (now (line .entry)) (now (text .entry)) (now (space .entry)) (now (out .entry)) .text
+        ⌝ }
+    ensures { λ r. ⌜
+        now (space .exit) ≡ responding (now (line .entry)) (now (text .entry)) (now (space .entry)) (now (out .entry)) .space
+        ⌝ }
+    ensures { λ r. ⌜
+        now (out .exit) ≡ responding (now (line .entry)) (now (text .entry)) (now (space .entry)) (now (out .entry)) .out
+        ⌝ }
     ensures { λ r. ⌜ r ≤ length (now (text .exit)) ⌝ }
 {
     if has_room(out, text) {

@@ -33,15 +33,21 @@ use Rattle.store.specs.Calls.{reply, outAfter, under, underAny, spaceSte
 abbrev space : ℕ → ℕ → ℕ → List ℕ
 space n f a = freshCells sizes n f a []
 
+abbrev traced : List ℕ → List Request → List Seen
+traced cs qs = cellTrace sizes (codingOf 1) cs qs
+
 abbrev replies : List ℕ → List Request → List Reply
-replies cs qs = map (λ s. s .reply) (cellTrace sizes (codingOf 1) cs qs)
+replies cs qs = map (λ s. s .reply) (traced cs qs)
 
 abbrev pub Tables : Type 0
 Tables =
-    (cellTrace sizes (codingOf 1) (space 11 3 0) three ≡ saw (new 1) (count 5 1 0) ∷ saw (new 2) (count 9 2 0) ∷ saw (new 3) (count 11 3 0) ∷ [])
-    × (cellTrace sizes (codingOf 1) (space 10 3 0) three ≡ saw (new 1) (count 5 1 0) ∷ saw (new 2) (count 9 2 0) ∷ saw (refused 10) (count 9 2 0) ∷ [])
-    × (cellTrace sizes (codingOf 1) (space 4 1 1) (call (fun 1 1 ∷ atom 1 ∷ []) ∷ answer 1 [] ∷ answer 1 [] ∷ []) ≡ saw (new 1) (count 4 1 0) ∷ saw (new 1) (count 4 1 1) ∷ saw (oldAnswer 1) (count 4 1 1) ∷ [])
-    × (cellTrace sizes (codingOf 1) (space 11 1 2) sessionCalls ≡ sessionSeen)
+    (traced (space 11 3 0) three
+    ≡ saw (new 1) (count 5 1 0) ∷ saw (new 2) (count 9 2 0) ∷ saw (new 3) (count 11 3 0) ∷ [])
+    × (traced (space 10 3 0) three
+    ≡ saw (new 1) (count 5 1 0) ∷ saw (new 2) (count 9 2 0) ∷ saw (refused 10) (count 9 2 0) ∷ [])
+    × (traced (space 4 1 1) (call (fun 1 1 ∷ atom 1 ∷ []) ∷ answer 1 [] ∷ answer 1 [] ∷ [])
+    ≡ saw (new 1) (count 4 1 0) ∷ saw (new 1) (count 4 1 1) ∷ saw (oldAnswer 1) (count 4 1 1) ∷ [])
+    × (traced (space 11 1 2) sessionCalls ≡ sessionSeen)
     × (replies (space 12 2 1) numberCalls ≡ numberReplies)
 
 -- a node, a link and a header that are damaged
@@ -67,5 +73,12 @@ Editions =
     × (repliesIn 256 (applying 18 2 ∷ counts ∷ []) ≡ refused 1 ∷ refused 1 ∷ [])
 
 pub examples : Tables × Damage × Editions
-unfolding trace lent inRange capacity counted knownEdition headerOf spaceHeader subgoalWidth answerWidth freshCells follows nodeSound bothOrNeither subgoalSound answerSound searchSiblings searchChildren walkFrom walk gather leadCell appendNode appendPath calledOld calledNew calledAt called answeredNew answeredOld answeredAt answered starting handed onward onPath loaded instanced decide subgoalEntered answerEntered change reply outAfter under underAny spaceStep cellStep areForms legalForm judged handedOn reading callable predicate compacted substituted compactForm areTerms pairForm formTerms front symbolic tokenOf items entered filled lastOf tailOf into inside collected reads begun applied paired shapeOf arityOf every compact elements pairs numbered renamed met seen rank same whole
+unfolding trace lent inRange capacity counted knownEdition headerOf spaceHeader subgoalWidth answerWidth freshCells
+    follows nodeSound bothOrNeither subgoalSound answerSound searchSiblings searchChildren walkFrom walk gather
+    leadCell appendNode appendPath calledOld calledNew calledAt called answeredNew answeredOld answeredAt answered
+    starting handed onward onPath loaded instanced decide subgoalEntered answerEntered change reply outAfter under
+    underAny spaceStep cellStep areForms legalForm judged handedOn reading callable predicate compacted substituted
+    compactForm areTerms pairForm formTerms front symbolic tokenOf items entered filled lastOf tailOf into inside
+    collected reads begun applied paired shapeOf arityOf every compact elements pairs numbered renamed met seen rank
+    same whole
 examples = ((refl, refl, refl, refl, refl), (refl, refl), (refl, refl, refl, refl))

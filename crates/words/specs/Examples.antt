@@ -39,7 +39,8 @@ pub calls :
     -- no subgoal has number 1 yet; no space has no cells
     × (word (spaceStep space (finish 1) .reply) ≡ 263 * 2 ^ 32)
     × (word (spaceStep [] (next 1 0) .reply) ≡ 257 * 2 ^ 32)
-unfolding word freshAnswerIn freshAnswer freshFits freshCells inRange capacity whole counted knownEdition headerOf spaceHeader subgoalWidth answerWidth decide reply under underAny spaceStep
+unfolding word freshAnswerIn freshAnswer freshFits freshCells inRange capacity whole counted knownEdition headerOf
+    spaceHeader subgoalWidth answerWidth decide reply under underAny spaceStep
 calls = (refl, refl, refl, refl, refl)
 
 pub counts :
@@ -52,5 +53,6 @@ pub counts :
     -- the header is refused first, whether or not out is long enough
     × (word (countsReply (countsOf []) (9 ∷ 9 ∷ [])) ≡ 257 * 2 ^ 32)
     × (countsOut (countsOf []) (9 ∷ 9 ∷ 9 ∷ []) ≡ 9 ∷ 9 ∷ 9 ∷ [])
-unfolding word countsReply countsOut counting freshCells inRange capacity whole counted knownEdition headerOf spaceHeader subgoalWidth answerWidth decide reply under underAny spaceStep
+unfolding word countsReply countsOut counting freshCells inRange capacity whole counted knownEdition headerOf
+    spaceHeader subgoalWidth answerWidth decide reply under underAny spaceStep
 counts = (refl, refl, refl, refl, refl, refl)

@@ -5,7 +5,8 @@ use mathlib.Core.Path.{_≡_}
 use lib.Dec.{leb}
 use lib.ListN.{length, drop}
 use Rattle.basis.specs.Choice.{pick}
-use Rattle.plain.specs.Requests.{Open, Finished, Request, counts, Counts, Reply, new, oldSubgoal, oldAnswer, done, at, none, cells, used, refused, short}
+use Rattle.plain.specs.Requests.{Open, Finished, Request, counts, Counts, Reply, new, oldSubgoal, oldAnswer, done, at}
+use Rattle.plain.specs.Requests.{none, cells, used, refused, short}
 use Rattle.space.specs.declared.FreshAnswer.{FreshAnswer}
 use Rattle.space.specs.declared.FreshAnswer.the-variants as fresh
 use Rattle.space.specs.Fresh.{freshAnswerIn, freshSpaceIn}

@@ -11,7 +11,7 @@ use Rattle.plain.specs.Requests as request
 use Rattle.store.specs.Calls.{spaceStep}
 use Rattle.session.specs.Lines.{Meaning, withCells, oneNumber, twoNumbers, numberAndCells, noField, wordMeans}
 use Rattle.session.specs.Session.{says}
-use Rattle.session.proofs.AskingLaws.{bad-leaves, bad-out, leaves-alike, keeps-alike, call-keeps, answer-keeps, finish-keeps, next-keeps, counts-keeps, word-call, word-answer, word-finish, word-next, word-load, word-instance, word-counts, word-none}
+use Rattle.session.proofs.AskingLaws.{bad-leaves, bad-out, leaves-alike, flat, keeps-alike, call-keeps, answer-keeps, finish-keeps, next-keeps, counts-keeps, word-call, word-answer, word-finish, word-next, word-load, word-instance, word-counts, word-none}
 use Rattle.session.proofs.reply.Statement.{statement}
 use Rattle.session.proofs.reply.Tie as tie
 use Rattle.session.proofs.reply.Reads as reads
@@ -49,7 +49,7 @@ same-length-2 : tie.Need-same-length-2
 same-length-2 c = search needs
 
 returns : tie.Need-returns
-returns c = let l = c .before .before .before .before .before .before .before .before .before .before .before .before .before .before .before .before .args .line .now in let s = c .before .before .before .before .before .before .before .before .before .before .before .before .before .before .before .before .args .space .now in let out = c .before .before .before .before .before .before .before .before .before .before .before .before .before .before .before .before .args .out .now in let at = c .before .before .before .before .before .before .before .before .before .before .before .first-end .result in let fs = restAt l at in let e = c .before .before .before .before .before .before .before .before .before .before .before .first-end .ensures in let q = (word-call (fields l) (take at l) fs out (e .1) (e .2) (told (c .before .before .before .before .before .before .before .before .is-word .ensures) (c .before .before .before .before .before .before .before .if1 .taken))) in (leaves-alike s out _ _ _ _ (wordMeans (fields l) out) (withCells (hexCells fs) request.call) q (c .before .before .before .before .ask-call .ensures out), keeps-alike s out (wordMeans (fields l) out) (withCells (hexCells fs) request.call) q (call-keeps s out fs))
+returns c = let l = c .before .before .before .before .before .before .before .before .before .before .before .before .before .before .before .before .args .line .now in let s = c .before .before .before .before .before .before .before .before .before .before .before .before .before .before .before .before .args .space .now in let out = c .before .before .before .before .before .before .before .before .before .before .before .before .before .before .before .before .args .out .now in let at = c .before .before .before .before .before .before .before .before .before .before .before .first-end .result in let fs = restAt l at in let e = c .before .before .before .before .before .before .before .before .before .before .before .first-end .ensures in let q = (word-call (fields l) (take at l) fs out (e .1) (e .2) (told (c .before .before .before .before .before .before .before .before .is-word .ensures) (c .before .before .before .before .before .before .before .if1 .taken))) in flat (leaves-alike s out _ _ _ _ (wordMeans (fields l) out) (withCells (hexCells fs) request.call) q (c .before .before .before .before .ask-call .ensures out), keeps-alike s out (wordMeans (fields l) out) (withCells (hexCells fs) request.call) q (call-keeps s out fs))
 
 slice-aggregate-is-word-3 : tie.Need-slice-aggregate-is-word-3
 slice-aggregate-is-word-3 c = sym (length-take-le _ _ (c .before .before .before .before .before .first-end .ensures .0 .0))
@@ -70,7 +70,7 @@ same-length-4 : tie.Need-same-length-4
 same-length-4 c = search needs
 
 returns-2 : tie.Need-returns-2
-returns-2 c = let l = c .before .before .before .before .before .before .before .before .before .before .before .before .before .before .before .before .before .before .before .before .args .line .now in let s = c .before .before .before .before .before .before .before .before .before .before .before .before .before .before .before .before .before .before .before .before .args .space .now in let out = c .before .before .before .before .before .before .before .before .before .before .before .before .before .before .before .before .before .before .before .before .args .out .now in let at = c .before .before .before .before .before .before .before .before .before .before .before .before .before .before .before .first-end .result in let fs = restAt l at in let e = c .before .before .before .before .before .before .before .before .before .before .before .before .before .before .before .first-end .ensures in let q = (word-answer (fields l) (take at l) fs out (e .1) (e .2) (told (c .before .before .before .before .before .before .before .before .before .before .before .before .is-word .ensures) (c .before .before .before .before .before .before .before .before .before .before .before .if1 .left)) (told (c .before .before .before .before .before .before .before .before .is-word2 .ensures) (c .before .before .before .before .before .before .before .if2 .taken))) in (leaves-alike s out _ _ _ _ (wordMeans (fields l) out) (numberAndCells fs request.answer) q (c .before .before .before .before .ask-answer .ensures out), keeps-alike s out (wordMeans (fields l) out) (numberAndCells fs request.answer) q (answer-keeps s out fs))
+returns-2 c = let l = c .before .before .before .before .before .before .before .before .before .before .before .before .before .before .before .before .before .before .before .before .args .line .now in let s = c .before .before .before .before .before .before .before .before .before .before .before .before .before .before .before .before .before .before .before .before .args .space .now in let out = c .before .before .before .before .before .before .before .before .before .before .before .before .before .before .before .before .before .before .before .before .args .out .now in let at = c .before .before .before .before .before .before .before .before .before .before .before .before .before .before .before .first-end .result in let fs = restAt l at in let e = c .before .before .before .before .before .before .before .before .before .before .before .before .before .before .before .first-end .ensures in let q = (word-answer (fields l) (take at l) fs out (e .1) (e .2) (told (c .before .before .before .before .before .before .before .before .before .before .before .before .is-word .ensures) (c .before .before .before .before .before .before .before .before .before .before .before .if1 .left)) (told (c .before .before .before .before .before .before .before .before .is-word2 .ensures) (c .before .before .before .before .before .before .before .if2 .taken))) in flat (leaves-alike s out _ _ _ _ (wordMeans (fields l) out) (numberAndCells fs request.answer) q (c .before .before .before .before .ask-answer .ensures out), keeps-alike s out (wordMeans (fields l) out) (numberAndCells fs request.answer) q (answer-keeps s out fs))
 
 slice-aggregate-is-word-5 : tie.Need-slice-aggregate-is-word-5
 slice-aggregate-is-word-5 c = sym (length-take-le _ _ (c .before .before .before .before .before .before .before .before .before .first-end .ensures .0 .0))
@@ -91,7 +91,7 @@ same-length-6 : tie.Need-same-length-6
 same-length-6 c = search needs
 
 returns-3 : tie.Need-returns-3
-returns-3 c = let l = c .before .before .before .before .before .before .before .before .before .before .before .before .before .before .before .before .before .before .before .before .before .before .before .before .args .line .now in let s = c .before .before .before .before .before .before .before .before .before .before .before .before .before .before .before .before .before .before .before .before .before .before .before .before .args .space .now in let out = c .before .before .before .before .before .before .before .before .before .before .before .before .before .before .before .before .before .before .before .before .before .before .before .before .args .out .now in let at = c .before .before .before .before .before .before .before .before .before .before .before .before .before .before .before .before .before .before .before .first-end .result in let fs = restAt l at in let e = c .before .before .before .before .before .before .before .before .before .before .before .before .before .before .before .before .before .before .before .first-end .ensures in let q = (word-finish (fields l) (take at l) fs out (e .1) (e .2) (told (c .before .before .before .before .before .before .before .before .before .before .before .before .before .before .before .before .is-word .ensures) (c .before .before .before .before .before .before .before .before .before .before .before .before .before .before .before .if1 .left)) (told (c .before .before .before .before .before .before .before .before .before .before .before .before .is-word2 .ensures) (c .before .before .before .before .before .before .before .before .before .before .before .if2 .left)) (told (c .before .before .before .before .before .before .before .before .is-word3 .ensures) (c .before .before .before .before .before .before .before .if3 .taken))) in (leaves-alike s out _ _ _ _ (wordMeans (fields l) out) (oneNumber fs request.finish) q (c .before .before .before .before .ask-finish .ensures out), keeps-alike s out (wordMeans (fields l) out) (oneNumber fs request.finish) q (finish-keeps s out fs))
+returns-3 c = let l = c .before .before .before .before .before .before .before .before .before .before .before .before .before .before .before .before .before .before .before .before .before .before .before .before .args .line .now in let s = c .before .before .before .before .before .before .before .before .before .before .before .before .before .before .before .before .before .before .before .before .before .before .before .before .args .space .now in let out = c .before .before .before .before .before .before .before .before .before .before .before .before .before .before .before .before .before .before .before .before .before .before .before .before .args .out .now in let at = c .before .before .before .before .before .before .before .before .before .before .before .before .before .before .before .before .before .before .before .first-end .result in let fs = restAt l at in let e = c .before .before .before .before .before .before .before .before .before .before .before .before .before .before .before .before .before .before .before .first-end .ensures in let q = (word-finish (fields l) (take at l) fs out (e .1) (e .2) (told (c .before .before .before .before .before .before .before .before .before .before .before .before .before .before .before .before .is-word .ensures) (c .before .before .before .before .before .before .before .before .before .before .before .before .before .before .before .if1 .left)) (told (c .before .before .before .before .before .before .before .before .before .before .before .before .is-word2 .ensures) (c .before .before .before .before .before .before .before .before .before .before .before .if2 .left)) (told (c .before .before .before .before .before .before .before .before .is-word3 .ensures) (c .before .before .before .before .before .before .before .if3 .taken))) in flat (leaves-alike s out _ _ _ _ (wordMeans (fields l) out) (oneNumber fs request.finish) q (c .before .before .before .before .ask-finish .ensures out), keeps-alike s out (wordMeans (fields l) out) (oneNumber fs request.finish) q (finish-keeps s out fs))
 
 slice-aggregate-is-word-7 : tie.Need-slice-aggregate-is-word-7
 slice-aggregate-is-word-7 c = sym (length-take-le _ _ (c .before .before .before .before .before .before .before .before .before .before .before .before .before .first-end .ensures .0 .0))
@@ -112,7 +112,7 @@ same-length-8 : tie.Need-same-length-8
 same-length-8 c = search needs
 
 returns-4 : tie.Need-returns-4
-returns-4 c = let l = c .before .before .before .before .before .before .before .before .before .before .before .before .before .before .before .before .before .before .before .before .before .before .before .before .before .before .args .line .now in let s = c .before .before .before .before .before .before .before .before .before .before .before .before .before .before .before .before .before .before .before .before .before .before .before .before .before .before .args .space .now in let out = c .before .before .before .before .before .before .before .before .before .before .before .before .before .before .before .before .before .before .before .before .before .before .before .before .before .before .args .out .now in let at = c .before .before .before .before .before .before .before .before .before .before .before .before .before .before .before .before .before .before .before .before .before .first-end .result in let fs = restAt l at in let e = c .before .before .before .before .before .before .before .before .before .before .before .before .before .before .before .before .before .before .before .before .before .first-end .ensures in let q = (word-next (fields l) (take at l) fs out (e .1) (e .2) (told (c .before .before .before .before .before .before .before .before .before .before .before .before .before .before .before .before .before .before .is-word .ensures) (c .before .before .before .before .before .before .before .before .before .before .before .before .before .before .before .before .before .if1 .left)) (told (c .before .before .before .before .before .before .before .before .before .before .before .before .before .before .is-word2 .ensures) (c .before .before .before .before .before .before .before .before .before .before .before .before .before .if2 .left)) (told (c .before .before .before .before .before .before .before .before .before .before .is-word3 .ensures) (c .before .before .before .before .before .before .before .before .before .if3 .left)) (told (c .before .before .before .before .before .before .is-word4 .ensures) (c .before .before .before .before .before .if4 .taken))) in (leaves-alike s out _ _ _ _ (wordMeans (fields l) out) (twoNumbers fs request.next) q (c .before .before .ask-next .ensures out), keeps-alike s out (wordMeans (fields l) out) (twoNumbers fs request.next) q (next-keeps s out fs))
+returns-4 c = let l = c .before .before .before .before .before .before .before .before .before .before .before .before .before .before .before .before .before .before .before .before .before .before .before .before .before .before .args .line .now in let s = c .before .before .before .before .before .before .before .before .before .before .before .before .before .before .before .before .before .before .before .before .before .before .before .before .before .before .args .space .now in let out = c .before .before .before .before .before .before .before .before .before .before .before .before .before .before .before .before .before .before .before .before .before .before .before .before .before .before .args .out .now in let at = c .before .before .before .before .before .before .before .before .before .before .before .before .before .before .before .before .before .before .before .before .before .first-end .result in let fs = restAt l at in let e = c .before .before .before .before .before .before .before .before .before .before .before .before .before .before .before .before .before .before .before .before .before .first-end .ensures in let q = (word-next (fields l) (take at l) fs out (e .1) (e .2) (told (c .before .before .before .before .before .before .before .before .before .before .before .before .before .before .before .before .before .before .is-word .ensures) (c .before .before .before .before .before .before .before .before .before .before .before .before .before .before .before .before .before .if1 .left)) (told (c .before .before .before .before .before .before .before .before .before .before .before .before .before .before .is-word2 .ensures) (c .before .before .before .before .before .before .before .before .before .before .before .before .before .if2 .left)) (told (c .before .before .before .before .before .before .before .before .before .before .is-word3 .ensures) (c .before .before .before .before .before .before .before .before .before .if3 .left)) (told (c .before .before .before .before .before .before .is-word4 .ensures) (c .before .before .before .before .before .if4 .taken))) in flat (leaves-alike s out _ _ _ _ (wordMeans (fields l) out) (twoNumbers fs request.next) q (c .before .before .ask-next .ensures out), keeps-alike s out (wordMeans (fields l) out) (twoNumbers fs request.next) q (next-keeps s out fs))
 
 slice-aggregate-is-word-9 : tie.Need-slice-aggregate-is-word-9
 slice-aggregate-is-word-9 c = sym (length-take-le _ _ (c .before .before .before .before .before .before .before .before .before .before .before .before .before .before .before .before .before .first-end .ensures .0 .0))
@@ -136,7 +136,7 @@ same-length-11 : tie.Need-same-length-11
 same-length-11 c = search needs
 
 returns-5 : tie.Need-returns-5
-returns-5 c = let l = c .before .before .before .before .before .before .before .before .before .before .before .before .before .before .before .before .before .before .before .before .before .before .before .before .before .before .before .before .before .before .before .before .before .args .line .now in let s = c .before .before .before .before .before .before .before .before .before .before .before .before .before .before .before .before .before .before .before .before .before .before .before .before .before .before .before .before .before .before .before .before .before .args .space .now in let out = c .before .before .before .before .before .before .before .before .before .before .before .before .before .before .before .before .before .before .before .before .before .before .before .before .before .before .before .before .before .before .before .before .before .args .out .now in let at = c .before .before .before .before .before .before .before .before .before .before .before .before .before .before .before .before .before .before .before .before .before .before .before .before .before .before .before .before .first-end .result in let fs = restAt l at in let e = c .before .before .before .before .before .before .before .before .before .before .before .before .before .before .before .before .before .before .before .before .before .before .before .before .before .before .before .before .first-end .ensures in let q = (word-load (fields l) (take at l) fs out (e .1) (e .2) (told (c .before .before .before .before .before .before .before .before .before .before .before .before .before .before .before .before .before .before .before .before .before .before .before .before .before .is-word .ensures) (c .before .before .before .before .before .before .before .before .before .before .before .before .before .before .before .before .before .before .before .before .before .before .before .before .if1 .left)) (told (c .before .before .before .before .before .before .before .before .before .before .before .before .before .before .before .before .before .before .before .before .before .is-word2 .ensures) (c .before .before .before .before .before .before .before .before .before .before .before .before .before .before .before .before .before .before .before .before .if2 .left)) (told (c .before .before .before .before .before .before .before .before .before .before .before .before .before .before .before .before .before .is-word3 .ensures) (c .before .before .before .before .before .before .before .before .before .before .before .before .before .before .before .before .if3 .left)) (told (c .before .before .before .before .before .before .before .before .before .before .before .before .before .is-word4 .ensures) (c .before .before .before .before .before .before .before .before .before .before .before .before .if4 .left)) (told (c .before .before .before .before .before .before .before .before .before .is-word5 .ensures) (c .before .before .before .before .before .before .before .before .if5 .taken))) in (leaves-alike s out _ _ _ _ (wordMeans (fields l) out) (oneNumber fs (λ a. request.load a out)) q (c .before .before .before .before .ask-load .ensures .0), c .before .before .before .before .ask-load .ensures .1 ∙ sym (ap (λ (x : Meaning). says spaceStep x s out .out) q))
+returns-5 c = let l = c .before .before .before .before .before .before .before .before .before .before .before .before .before .before .before .before .before .before .before .before .before .before .before .before .before .before .before .before .before .before .before .before .before .args .line .now in let s = c .before .before .before .before .before .before .before .before .before .before .before .before .before .before .before .before .before .before .before .before .before .before .before .before .before .before .before .before .before .before .before .before .before .args .space .now in let out = c .before .before .before .before .before .before .before .before .before .before .before .before .before .before .before .before .before .before .before .before .before .before .before .before .before .before .before .before .before .before .before .before .before .args .out .now in let at = c .before .before .before .before .before .before .before .before .before .before .before .before .before .before .before .before .before .before .before .before .before .before .before .before .before .before .before .before .first-end .result in let fs = restAt l at in let e = c .before .before .before .before .before .before .before .before .before .before .before .before .before .before .before .before .before .before .before .before .before .before .before .before .before .before .before .before .first-end .ensures in let q = (word-load (fields l) (take at l) fs out (e .1) (e .2) (told (c .before .before .before .before .before .before .before .before .before .before .before .before .before .before .before .before .before .before .before .before .before .before .before .before .before .is-word .ensures) (c .before .before .before .before .before .before .before .before .before .before .before .before .before .before .before .before .before .before .before .before .before .before .before .before .if1 .left)) (told (c .before .before .before .before .before .before .before .before .before .before .before .before .before .before .before .before .before .before .before .before .before .is-word2 .ensures) (c .before .before .before .before .before .before .before .before .before .before .before .before .before .before .before .before .before .before .before .before .if2 .left)) (told (c .before .before .before .before .before .before .before .before .before .before .before .before .before .before .before .before .before .is-word3 .ensures) (c .before .before .before .before .before .before .before .before .before .before .before .before .before .before .before .before .if3 .left)) (told (c .before .before .before .before .before .before .before .before .before .before .before .before .before .is-word4 .ensures) (c .before .before .before .before .before .before .before .before .before .before .before .before .if4 .left)) (told (c .before .before .before .before .before .before .before .before .before .is-word5 .ensures) (c .before .before .before .before .before .before .before .before .if5 .taken))) in flat (leaves-alike s out _ _ _ _ (wordMeans (fields l) out) (oneNumber fs (λ a. request.load a out)) q (c .before .before .before .before .ask-load .ensures .0), c .before .before .before .before .ask-load .ensures .1 ∙ sym (ap (λ (x : Meaning). says spaceStep x s out .out) q))
 
 slice-aggregate-is-word-11 : tie.Need-slice-aggregate-is-word-11
 slice-aggregate-is-word-11 c = sym (length-take-le _ _ (c .before .before .before .before .before .before .before .before .before .before .before .before .before .before .before .before .before .before .before .before .before .first-end .ensures .0 .0))
@@ -160,7 +160,7 @@ same-length-14 : tie.Need-same-length-14
 same-length-14 c = search needs
 
 returns-6 : tie.Need-returns-6
-returns-6 c = let l = c .before .before .before .before .before .before .before .before .before .before .before .before .before .before .before .before .before .before .before .before .before .before .before .before .before .before .before .before .before .before .before .before .before .before .before .before .before .args .line .now in let s = c .before .before .before .before .before .before .before .before .before .before .before .before .before .before .before .before .before .before .before .before .before .before .before .before .before .before .before .before .before .before .before .before .before .before .before .before .before .args .space .now in let out = c .before .before .before .before .before .before .before .before .before .before .before .before .before .before .before .before .before .before .before .before .before .before .before .before .before .before .before .before .before .before .before .before .before .before .before .before .before .args .out .now in let at = c .before .before .before .before .before .before .before .before .before .before .before .before .before .before .before .before .before .before .before .before .before .before .before .before .before .before .before .before .before .before .before .before .first-end .result in let fs = restAt l at in let e = c .before .before .before .before .before .before .before .before .before .before .before .before .before .before .before .before .before .before .before .before .before .before .before .before .before .before .before .before .before .before .before .before .first-end .ensures in let q = (word-instance (fields l) (take at l) fs out (e .1) (e .2) (told (c .before .before .before .before .before .before .before .before .before .before .before .before .before .before .before .before .before .before .before .before .before .before .before .before .before .before .before .before .before .is-word .ensures) (c .before .before .before .before .before .before .before .before .before .before .before .before .before .before .before .before .before .before .before .before .before .before .before .before .before .before .before .before .if1 .left)) (told (c .before .before .before .before .before .before .before .before .before .before .before .before .before .before .before .before .before .before .before .before .before .before .before .before .before .is-word2 .ensures) (c .before .before .before .before .before .before .before .before .before .before .before .before .before .before .before .before .before .before .before .before .before .before .before .before .if2 .left)) (told (c .before .before .before .before .before .before .before .before .before .before .before .before .before .before .before .before .before .before .before .before .before .is-word3 .ensures) (c .before .before .before .before .before .before .before .before .before .before .before .before .before .before .before .before .before .before .before .before .if3 .left)) (told (c .before .before .before .before .before .before .before .before .before .before .before .before .before .before .before .before .before .is-word4 .ensures) (c .before .before .before .before .before .before .before .before .before .before .before .before .before .before .before .before .if4 .left)) (told (c .before .before .before .before .before .before .before .before .before .before .before .before .before .is-word5 .ensures) (c .before .before .before .before .before .before .before .before .before .before .before .before .if5 .left)) (told (c .before .before .before .before .before .before .before .before .before .is-word6 .ensures) (c .before .before .before .before .before .before .before .before .if6 .taken))) in (leaves-alike s out _ _ _ _ (wordMeans (fields l) out) (oneNumber fs (λ a. request.instance a out)) q (c .before .before .before .before .ask-instance .ensures .0), c .before .before .before .before .ask-instance .ensures .1 ∙ sym (ap (λ (x : Meaning). says spaceStep x s out .out) q))
+returns-6 c = let l = c .before .before .before .before .before .before .before .before .before .before .before .before .before .before .before .before .before .before .before .before .before .before .before .before .before .before .before .before .before .before .before .before .before .before .before .before .before .args .line .now in let s = c .before .before .before .before .before .before .before .before .before .before .before .before .before .before .before .before .before .before .before .before .before .before .before .before .before .before .before .before .before .before .before .before .before .before .before .before .before .args .space .now in let out = c .before .before .before .before .before .before .before .before .before .before .before .before .before .before .before .before .before .before .before .before .before .before .before .before .before .before .before .before .before .before .before .before .before .before .before .before .before .args .out .now in let at = c .before .before .before .before .before .before .before .before .before .before .before .before .before .before .before .before .before .before .before .before .before .before .before .before .before .before .before .before .before .before .before .before .first-end .result in let fs = restAt l at in let e = c .before .before .before .before .before .before .before .before .before .before .before .before .before .before .before .before .before .before .before .before .before .before .before .before .before .before .before .before .before .before .before .before .first-end .ensures in let q = (word-instance (fields l) (take at l) fs out (e .1) (e .2) (told (c .before .before .before .before .before .before .before .before .before .before .before .before .before .before .before .before .before .before .before .before .before .before .before .before .before .before .before .before .before .is-word .ensures) (c .before .before .before .before .before .before .before .before .before .before .before .before .before .before .before .before .before .before .before .before .before .before .before .before .before .before .before .before .if1 .left)) (told (c .before .before .before .before .before .before .before .before .before .before .before .before .before .before .before .before .before .before .before .before .before .before .before .before .before .is-word2 .ensures) (c .before .before .before .before .before .before .before .before .before .before .before .before .before .before .before .before .before .before .before .before .before .before .before .before .if2 .left)) (told (c .before .before .before .before .before .before .before .before .before .before .before .before .before .before .before .before .before .before .before .before .before .is-word3 .ensures) (c .before .before .before .before .before .before .before .before .before .before .before .before .before .before .before .before .before .before .before .before .if3 .left)) (told (c .before .before .before .before .before .before .before .before .before .before .before .before .before .before .before .before .before .is-word4 .ensures) (c .before .before .before .before .before .before .before .before .before .before .before .before .before .before .before .before .if4 .left)) (told (c .before .before .before .before .before .before .before .before .before .before .before .before .before .is-word5 .ensures) (c .before .before .before .before .before .before .before .before .before .before .before .before .if5 .left)) (told (c .before .before .before .before .before .before .before .before .before .is-word6 .ensures) (c .before .before .before .before .before .before .before .before .if6 .taken))) in flat (leaves-alike s out _ _ _ _ (wordMeans (fields l) out) (oneNumber fs (λ a. request.instance a out)) q (c .before .before .before .before .ask-instance .ensures .0), c .before .before .before .before .ask-instance .ensures .1 ∙ sym (ap (λ (x : Meaning). says spaceStep x s out .out) q))
 
 slice-aggregate-is-word-13 : tie.Need-slice-aggregate-is-word-13
 slice-aggregate-is-word-13 c = sym (length-take-le _ _ (c .before .before .before .before .before .before .before .before .before .before .before .before .before .before .before .before .before .before .before .before .before .before .before .before .before .first-end .ensures .0 .0))
@@ -181,7 +181,7 @@ same-length-16 : tie.Need-same-length-16
 same-length-16 c = search needs
 
 returns-7 : tie.Need-returns-7
-returns-7 c = let l = c .before .before .before .before .before .before .before .before .before .before .before .before .before .before .before .before .before .before .before .before .before .before .before .before .before .before .before .before .before .before .before .before .before .before .before .before .before .before .args .line .now in let s = c .before .before .before .before .before .before .before .before .before .before .before .before .before .before .before .before .before .before .before .before .before .before .before .before .before .before .before .before .before .before .before .before .before .before .before .before .before .before .args .space .now in let out = c .before .before .before .before .before .before .before .before .before .before .before .before .before .before .before .before .before .before .before .before .before .before .before .before .before .before .before .before .before .before .before .before .before .before .before .before .before .before .args .out .now in let at = c .before .before .before .before .before .before .before .before .before .before .before .before .before .before .before .before .before .before .before .before .before .before .before .before .before .before .before .before .before .before .before .before .before .first-end .result in let fs = restAt l at in let e = c .before .before .before .before .before .before .before .before .before .before .before .before .before .before .before .before .before .before .before .before .before .before .before .before .before .before .before .before .before .before .before .before .before .first-end .ensures in let q = (word-counts (fields l) (take at l) fs out (e .1) (e .2) (told (c .before .before .before .before .before .before .before .before .before .before .before .before .before .before .before .before .before .before .before .before .before .before .before .before .before .before .before .before .before .before .is-word .ensures) (c .before .before .before .before .before .before .before .before .before .before .before .before .before .before .before .before .before .before .before .before .before .before .before .before .before .before .before .before .before .if1 .left)) (told (c .before .before .before .before .before .before .before .before .before .before .before .before .before .before .before .before .before .before .before .before .before .before .before .before .before .before .is-word2 .ensures) (c .before .before .before .before .before .before .before .before .before .before .before .before .before .before .before .before .before .before .before .before .before .before .before .before .before .if2 .left)) (told (c .before .before .before .before .before .before .before .before .before .before .before .before .before .before .before .before .before .before .before .before .before .before .is-word3 .ensures) (c .before .before .before .before .before .before .before .before .before .before .before .before .before .before .before .before .before .before .before .before .before .if3 .left)) (told (c .before .before .before .before .before .before .before .before .before .before .before .before .before .before .before .before .before .before .is-word4 .ensures) (c .before .before .before .before .before .before .before .before .before .before .before .before .before .before .before .before .before .if4 .left)) (told (c .before .before .before .before .before .before .before .before .before .before .before .before .before .before .is-word5 .ensures) (c .before .before .before .before .before .before .before .before .before .before .before .before .before .if5 .left)) (told (c .before .before .before .before .before .before .before .before .before .before .is-word6 .ensures) (c .before .before .before .before .before .before .before .before .before .if6 .left)) (told (c .before .before .before .before .before .before .is-word7 .ensures) (c .before .before .before .before .before .if7 .taken))) in (leaves-alike s out _ _ _ _ (wordMeans (fields l) out) (noField fs request.counts) q (c .before .before .ask-counts .ensures out), keeps-alike s out (wordMeans (fields l) out) (noField fs request.counts) q (counts-keeps s out fs))
+returns-7 c = let l = c .before .before .before .before .before .before .before .before .before .before .before .before .before .before .before .before .before .before .before .before .before .before .before .before .before .before .before .before .before .before .before .before .before .before .before .before .before .before .args .line .now in let s = c .before .before .before .before .before .before .before .before .before .before .before .before .before .before .before .before .before .before .before .before .before .before .before .before .before .before .before .before .before .before .before .before .before .before .before .before .before .before .args .space .now in let out = c .before .before .before .before .before .before .before .before .before .before .before .before .before .before .before .before .before .before .before .before .before .before .before .before .before .before .before .before .before .before .before .before .before .before .before .before .before .before .args .out .now in let at = c .before .before .before .before .before .before .before .before .before .before .before .before .before .before .before .before .before .before .before .before .before .before .before .before .before .before .before .before .before .before .before .before .before .first-end .result in let fs = restAt l at in let e = c .before .before .before .before .before .before .before .before .before .before .before .before .before .before .before .before .before .before .before .before .before .before .before .before .before .before .before .before .before .before .before .before .before .first-end .ensures in let q = (word-counts (fields l) (take at l) fs out (e .1) (e .2) (told (c .before .before .before .before .before .before .before .before .before .before .before .before .before .before .before .before .before .before .before .before .before .before .before .before .before .before .before .before .before .before .is-word .ensures) (c .before .before .before .before .before .before .before .before .before .before .before .before .before .before .before .before .before .before .before .before .before .before .before .before .before .before .before .before .before .if1 .left)) (told (c .before .before .before .before .before .before .before .before .before .before .before .before .before .before .before .before .before .before .before .before .before .before .before .before .before .before .is-word2 .ensures) (c .before .before .before .before .before .before .before .before .before .before .before .before .before .before .before .before .before .before .before .before .before .before .before .before .before .if2 .left)) (told (c .before .before .before .before .before .before .before .before .before .before .before .before .before .before .before .before .before .before .before .before .before .before .is-word3 .ensures) (c .before .before .before .before .before .before .before .before .before .before .before .before .before .before .before .before .before .before .before .before .before .if3 .left)) (told (c .before .before .before .before .before .before .before .before .before .before .before .before .before .before .before .before .before .before .is-word4 .ensures) (c .before .before .before .before .before .before .before .before .before .before .before .before .before .before .before .before .before .if4 .left)) (told (c .before .before .before .before .before .before .before .before .before .before .before .before .before .before .is-word5 .ensures) (c .before .before .before .before .before .before .before .before .before .before .before .before .before .if5 .left)) (told (c .before .before .before .before .before .before .before .before .before .before .is-word6 .ensures) (c .before .before .before .before .before .before .before .before .before .if6 .left)) (told (c .before .before .before .before .before .before .is-word7 .ensures) (c .before .before .before .before .before .if7 .taken))) in flat (leaves-alike s out _ _ _ _ (wordMeans (fields l) out) (noField fs request.counts) q (c .before .before .ask-counts .ensures out), keeps-alike s out (wordMeans (fields l) out) (noField fs request.counts) q (counts-keeps s out fs))
 
 print-bad-requires : tie.Need-print-bad-requires
 print-bad-requires c κs = search needs
@@ -190,7 +190,7 @@ same-length-17 : tie.Need-same-length-17
 same-length-17 c = search needs
 
 returns-8 : tie.Need-returns-8
-returns-8 c = let l = c .before .before .before .before .before .before .before .before .before .before .before .before .before .before .before .before .before .before .before .before .before .before .before .before .before .before .before .before .before .before .before .before .before .before .before .before .before .args .line .now in let s = c .before .before .before .before .before .before .before .before .before .before .before .before .before .before .before .before .before .before .before .before .before .before .before .before .before .before .before .before .before .before .before .before .before .before .before .before .before .args .space .now in let out = c .before .before .before .before .before .before .before .before .before .before .before .before .before .before .before .before .before .before .before .before .before .before .before .before .before .before .before .before .before .before .before .before .before .before .before .before .before .args .out .now in let at = c .before .before .before .before .before .before .before .before .before .before .before .before .before .before .before .before .before .before .before .before .before .before .before .before .before .before .before .before .before .before .before .before .first-end .result in let fs = restAt l at in let e = c .before .before .before .before .before .before .before .before .before .before .before .before .before .before .before .before .before .before .before .before .before .before .before .before .before .before .before .before .before .before .before .before .first-end .ensures in let q = word-none (fields l) (take at l) fs out (e .1) (e .2) (told (c .before .before .before .before .before .before .before .before .before .before .before .before .before .before .before .before .before .before .before .before .before .before .before .before .before .before .before .before .before .is-word .ensures) (c .before .before .before .before .before .before .before .before .before .before .before .before .before .before .before .before .before .before .before .before .before .before .before .before .before .before .before .before .if1 .left)) (told (c .before .before .before .before .before .before .before .before .before .before .before .before .before .before .before .before .before .before .before .before .before .before .before .before .before .is-word2 .ensures) (c .before .before .before .before .before .before .before .before .before .before .before .before .before .before .before .before .before .before .before .before .before .before .before .before .if2 .left)) (told (c .before .before .before .before .before .before .before .before .before .before .before .before .before .before .before .before .before .before .before .before .before .is-word3 .ensures) (c .before .before .before .before .before .before .before .before .before .before .before .before .before .before .before .before .before .before .before .before .if3 .left)) (told (c .before .before .before .before .before .before .before .before .before .before .before .before .before .before .before .before .before .is-word4 .ensures) (c .before .before .before .before .before .before .before .before .before .before .before .before .before .before .before .before .if4 .left)) (told (c .before .before .before .before .before .before .before .before .before .before .before .before .before .is-word5 .ensures) (c .before .before .before .before .before .before .before .before .before .before .before .before .if5 .left)) (told (c .before .before .before .before .before .before .before .before .before .is-word6 .ensures) (c .before .before .before .before .before .before .before .before .if6 .left)) (told (c .before .before .before .before .before .is-word7 .ensures) (c .before .before .before .before .if7 .left)) in (bad-leaves s out _ _ _ (wordMeans (fields l) out) q (c .before .before .print-bad .ensures), bad-out s out (wordMeans (fields l) out) q)
+returns-8 c = let l = c .before .before .before .before .before .before .before .before .before .before .before .before .before .before .before .before .before .before .before .before .before .before .before .before .before .before .before .before .before .before .before .before .before .before .before .before .before .args .line .now in let s = c .before .before .before .before .before .before .before .before .before .before .before .before .before .before .before .before .before .before .before .before .before .before .before .before .before .before .before .before .before .before .before .before .before .before .before .before .before .args .space .now in let out = c .before .before .before .before .before .before .before .before .before .before .before .before .before .before .before .before .before .before .before .before .before .before .before .before .before .before .before .before .before .before .before .before .before .before .before .before .before .args .out .now in let at = c .before .before .before .before .before .before .before .before .before .before .before .before .before .before .before .before .before .before .before .before .before .before .before .before .before .before .before .before .before .before .before .before .first-end .result in let fs = restAt l at in let e = c .before .before .before .before .before .before .before .before .before .before .before .before .before .before .before .before .before .before .before .before .before .before .before .before .before .before .before .before .before .before .before .before .first-end .ensures in let q = word-none (fields l) (take at l) fs out (e .1) (e .2) (told (c .before .before .before .before .before .before .before .before .before .before .before .before .before .before .before .before .before .before .before .before .before .before .before .before .before .before .before .before .before .is-word .ensures) (c .before .before .before .before .before .before .before .before .before .before .before .before .before .before .before .before .before .before .before .before .before .before .before .before .before .before .before .before .if1 .left)) (told (c .before .before .before .before .before .before .before .before .before .before .before .before .before .before .before .before .before .before .before .before .before .before .before .before .before .is-word2 .ensures) (c .before .before .before .before .before .before .before .before .before .before .before .before .before .before .before .before .before .before .before .before .before .before .before .before .if2 .left)) (told (c .before .before .before .before .before .before .before .before .before .before .before .before .before .before .before .before .before .before .before .before .before .is-word3 .ensures) (c .before .before .before .before .before .before .before .before .before .before .before .before .before .before .before .before .before .before .before .before .if3 .left)) (told (c .before .before .before .before .before .before .before .before .before .before .before .before .before .before .before .before .before .is-word4 .ensures) (c .before .before .before .before .before .before .before .before .before .before .before .before .before .before .before .before .if4 .left)) (told (c .before .before .before .before .before .before .before .before .before .before .before .before .before .is-word5 .ensures) (c .before .before .before .before .before .before .before .before .before .before .before .before .if5 .left)) (told (c .before .before .before .before .before .before .before .before .before .is-word6 .ensures) (c .before .before .before .before .before .before .before .before .if6 .left)) (told (c .before .before .before .before .before .is-word7 .ensures) (c .before .before .before .before .if7 .left)) in flat (bad-leaves s out _ _ _ (wordMeans (fields l) out) q (c .before .before .print-bad .ensures), bad-out s out (wordMeans (fields l) out) q)
 
 pub reply-spec : {M : Type 1} → statement M
 reply-spec =

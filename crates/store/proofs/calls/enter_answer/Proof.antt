@@ -2,7 +2,7 @@
 use Prim.Native.Nat.{_+_, _≤_}
 use native.Mathlib.Omega.{arith}
 use lib.ListN.{length}
-use Rattle.space.specs.Layout.{subgoalsEnd, answersEnd}
+use Rattle.space.specs.Sound.{subgoalsEnd, answersEnd}
 use Rattle.space.proofs.WidthLaws.{subgoals-stand, answers-stand}
 use Rattle.store.proofs.CallsAnswers.{answer-entered}
 use borrow.Author.Needs.{needs}

@@ -2,7 +2,7 @@
 use Prim.Native.Nat.{_+_, _≤_}
 use native.Mathlib.Omega.{arith}
 use lib.ListN.{length}
-use Rattle.space.specs.Layout.{subgoalsEnd}
+use Rattle.space.specs.Sound.{subgoalsEnd}
 use Rattle.space.proofs.WidthLaws.{subgoals-stand}
 use Rattle.store.proofs.CallsCases.{subgoal-entered}
 use borrow.Author.Needs.{needs}
