@@ -89,7 +89,7 @@ fn finish_in(space: &mut [u32], h: Head, s: usize) -> FinishAnswer
     let SubgoalRead::Sound(_) = read_subgoal(space, h, s) else {
         return FinishAnswer::Refused(RECORDS);
     };
-    write_state(space, h.edition, h.subgoal_offset, s, 1);
+    write_state(space, h.subgoal_offset, s, 1, h.edition);
     FinishAnswer::Done
 }
 
@@ -169,7 +169,7 @@ fn enter_subgoal(space: &mut [u32], h: Head, parent: usize, last: usize, tokens:
         first: 0,
         last: 0,
     };
-    write_subgoal(space, h.edition, h.subgoal_offset, s, record);
+    write_subgoal(space, h.subgoal_offset, s, record, h.edition);
     write_subgoal_counts(space, (root + 1) as u32, s as u32);
 }
 
@@ -309,12 +309,12 @@ fn refusal(space: &[u32], h: Head, s: usize, g: Subgoal, more: usize) -> u32
 // The new answer a becomes the first of subgoal s, or the next of its last.
 fn chain(
     space: &mut [u32],
-    edition: u32,
     subgoal_offset: usize,
     answer_offset: usize,
     s: usize,
     last: usize,
     a: usize,
+    edition: u32,
 )
     requires { ⌜ SubgoalRoom (now space) edition «subgoal_offset» s ⌝ }
     requires { ⌜ (answersEnd edition «answer_offset» last ≤ length (now space)) × (a < 2 ^ 32) ⌝ }
@@ -324,10 +324,10 @@ fn chain(
         ⌝ }
 {
     if last == 0 {
-        write_first(space, edition, subgoal_offset, s, a as u32);
+        write_first(space, subgoal_offset, s, a as u32, edition);
         return;
     }
-    write_next(space, edition, answer_offset, last, a as u32);
+    write_next(space, answer_offset, last, a as u32, edition);
 }
 
 // The leaf linked to the answer, the chain, the record, the subgoal's last answer, the counts.
@@ -344,20 +344,20 @@ fn enter_answer(space: &mut [u32], h: Head, s: usize, g: Subgoal, leaf: usize, n
     write_link(space, h.node_capacity, leaf, a as u32);
     chain(
         space,
-        h.edition,
         h.subgoal_offset,
         h.answer_offset,
         s,
         g.last,
         a,
+        h.edition,
     );
     let record = Answer {
         leaf: leaf,
         subgoal: s,
         next: 0,
     };
-    write_answer(space, h.edition, h.answer_offset, a, record);
-    write_last(space, h.edition, h.subgoal_offset, s, a as u32);
+    write_answer(space, h.answer_offset, a, record, h.edition);
+    write_last(space, h.subgoal_offset, s, a as u32, h.edition);
     write_answer_counts(space, nodes as u32, a as u32);
 }
 
