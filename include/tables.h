@@ -255,9 +255,31 @@ static inline uint32_t tables_edition(const uint32_t *space, size_t space_cells)
  * tables_finish) runs, no other call on the same space may run: the caller
  * serialises them.
  *
- * The use of the stack is bounded, whatever the space holds: under 160 kilobytes,
- * most of it by tables_load and tables_instance on a damaged path of 383 list marks.
+ * The use of the stack is bounded, whatever is lent: see below.
  */
+
+/*
+ * The stack
+ *
+ * No call uses more bytes of the stack than this, whatever it is lent. Behind
+ * each bound stands the most that was measured with the archive's code on
+ * x86-64, by tests/stack_test.c, which searches for the worst input and fails
+ * above the bound; the bounds leave a quarter to spare, or half a kilobyte. The
+ * worst inputs are lists that begin in lists and do not end: 256 pairs for what
+ * reads terms, and marks BLIST for what reads forms and paths.
+ */
+enum tables_stack {
+    TABLES_STACK_FRESH = 1024,     /* 56 */
+    TABLES_STACK_CALL = 92160,     /* 73,000 */
+    TABLES_STACK_ANSWER = 92160,   /* 73,320 */
+    TABLES_STACK_FINISH = 1024,    /* 16 */
+    TABLES_STACK_NEXT = 1024,      /* 40 */
+    TABLES_STACK_LOAD = 58368,     /* 45,984 */
+    TABLES_STACK_INSTANCE = 62464, /* 49,936 */
+    TABLES_STACK_COUNTS = 1024,    /* 16 */
+    TABLES_STACK_COMPACT = 92160,  /* 73,624 */
+    TABLES_STACK_EXPAND = 57344    /* 45,744 */
+};
 
 /*
  * Damage
@@ -451,9 +473,8 @@ static inline uint32_t tables_converter_cells(uint32_t result)
  * suffice for tables_expand.
  *
  * Both keep no state and call nothing outside, so any number of threads may
- * call them at once. They allocate nothing; their use of the stack is bounded
- * by the limits above, whatever the input: under 64 kilobytes by tables_compact,
- * under 160 by tables_expand.
+ * call them at once. They allocate nothing; what they use of the stack is bounded
+ * by TABLES_STACK_COMPACT and TABLES_STACK_EXPAND, whatever the input.
  */
 
 /*

@@ -7,7 +7,7 @@ use mathlib.Core.Path.{_≡_, refl, sym, ap, _∙_, subst}
 use native.Mathlib.Omega.{arith}
 use native.Mathlib.Numerals.{add-one}
 use lib.ListN.{length, take, drop, length-append, length-drop, drop-of-length-le}
-use lib.Seq.{sets}
+use lib.Seq.{sets, take-all}
 use lib.Dec.{eqb, leb}
 use borrow.Author.Tests.{eqb-true, eqb-false, eq-eqb, ne-eqb, le-leb, lt-leb, leb-true, leb-false}
 use Rattle.basis.specs.Choice.{pick}
@@ -22,7 +22,7 @@ use Rattle.forms.specs.Compact.{compact, items, front, formTerms, pairForm, sam
 use Rattle.forms.specs.Converting.{loading}
 use Rattle.forms.proofs.ReadLaws.{AllWellFormed}
 use Rattle.forms.proofs.CompactLaws.{same-length-empty}
-use Rattle.forms.proofs.FormLaws.{every-compact-short, every-compact-least, every-pairs-size}
+use Rattle.forms.proofs.FormLaws.{every-compact-short, every-pairs-least, every-pairs-size}
 use Rattle.forms.proofs.ExactLaws.{front-every, forms-every, forms-compact, compact-forms}
 use Rattle.forms.proofs.RoundTrip.{same-self, same-true, LegalParts, parts-legal, legal-parts}
 use Rattle.convert.specs.Readers.{numberedFrom}
@@ -203,15 +203,32 @@ module _ (arity : ℕ → ℕ) (m : ℕ) (s : List ℕ) where
       let l : length (every pairs (formTerms arity s)) ≤ 256 = unfold pairForm in p .cells in
       omega (arith, ap length (w .1), every-compact-short (formTerms arity s) l))
 
-  pub loading-few : length s < m → NoForm ≡ loading arity m s
-  loading-few h = none (λ p. let w = forms-compact arity m s (p .forms) in omega (arith, w .0, ap length (w .1), every-compact-least (formTerms arity s)))
+  -- the cells of a legal form, and that they are within a buffer that has room for the terms
+  legal-cells : (limit room : ℕ) → (room < 256 → 2 * length s ≤ room) → (limit < 256 → limit ≡ room) → LegalParts arity m s
+      → (m ≤ length (every pairs (formTerms arity s))) × (length (every pairs (formTerms arity s)) ≤ limit)
+  legal-cells limit room h g p =
+      let w = forms-compact arity m s (p .forms) in
+      let l : length (every pairs (formTerms arity s)) ≤ 256 = unfold pairForm in p .cells in
+      let k : m ≤ length (every pairs (formTerms arity s)) = omega (arith, w .0, every-pairs-least (formTerms arity s)) in
+      (k, within (leb 256 limit) refl (omega (arith, every-pairs-size (formTerms arity s), ap length (w .1))) l)
+    where
+      within : (b : Bool) → leb 256 limit ≡ b → length (every pairs (formTerms arity s)) ≤ 2 * length s → length (every pairs (formTerms arity s)) ≤ 256 → length (every pairs (formTerms arity s)) ≤ limit
+      within true q a l = omega (arith, leb-true 256 limit q)
+      within false q a l = let e : limit ≡ room = g (leb-false 256 limit q) in omega (arith, leb-false 256 limit q, h (omega (arith, leb-false 256 limit q)))
 
-  pub loading-malformed : (out out′ : List ℕ) → FormsRan arity s 0 m 0 out 0 out′ Malformed → NoForm ≡ loading arity m s
-  unfolding formTerms
-  loading-malformed out out′ (inl h) = none (λ p. let w = forms-compact arity m s (p .forms) in omega (arith, w .0))
-  loading-malformed out out′ (inr h) = none (λ p. unordered-numbered s h (p .numbers))
+  module _ (limit room : ℕ) (h : room < 256 → 2 * length s ≤ room) (g : limit < 256 → limit ≡ room) where
+    pub loading-many : limit < m → NoForm ≡ loading arity m s
+    loading-many l = none (λ p. omega (arith, legal-cells limit room h g p))
 
-  module _ (out out′ : List ℕ) (next end known : ℕ) (v : FormsRan arity s 0 m 0 out 0 out′ (Done next end known)) where
+    pub loading-malformed : (out out′ : List ℕ) → FormsRan arity s limit 0 m 0 out 0 out′ Malformed → NoForm ≡ loading arity m s
+    unfolding formTerms
+    loading-malformed out out′ (inl l) = none (λ p.
+        let w = forms-compact arity m s (p .forms) in
+        let q : take m (formTerms arity s) ≡ formTerms arity s = take-all m (formTerms arity s) (omega (arith, w .0)) in
+        omega (arith, legal-cells limit room h g p, l (omega (arith, w .0)), ap (λ (ts : List Term). length (every pairs ts)) q))
+    loading-malformed out out′ (inr l) = none (λ p. unordered-numbered s l (p .numbers))
+
+  module _ (limit : ℕ) (out out′ : List ℕ) (next end known : ℕ) (v : FormsRan arity s limit 0 m 0 out 0 out′ (Done next end known)) where
     abbrev ts : List Term
     ts = v .0
 
@@ -246,16 +263,13 @@ module _ (arity : ℕ → ℕ) (m : ℕ) (s : List ℕ) where
       in-order : ordered 0 s ≡ true
       in-order = rw the-form (v .3 .numbers)
 
-      variables : known ≡ length (met [] s)
+      pub variables : known ≡ length (met [] s)
       variables = v .3 .known ∙ ap (counted 0) (sym the-form) ∙ ordered-numbered s in-order .1
 
       pub loading-crowded : 32 < known → NoForm ≡ loading arity m s
       loading-crowded h = none (λ p. omega (arith, p .variables, variables))
 
-      pub loading-big : 256 < end → NoForm ≡ loading arity m s
-      loading-big h = none (λ p. omega (arith, p .cells, pairs-end))
-
-      pub loading-terms : known ≤ 32 → end ≤ 256 → 2 * length s ≤ length out → (Terms end ≡ loading arity m s) × HoldsTerms arity s out′ (Terms end)
+      pub loading-terms : known ≤ 32 → limit ≤ 256 → limit ≤ length out → (Terms end ≡ loading arity m s) × HoldsTerms arity s out′ (Terms end)
       unfolding loading
       loading-terms h b k =
           let l : legalForm arity m s ≡ true =
@@ -263,6 +277,6 @@ module _ (arity : ℕ → ℕ) (m : ℕ) (s : List ℕ) where
             numbers = ordered-numbered s in-order .0;
             variables = omega (arith, variables);
             forms = are-forms;
-            cells = omega (arith, pairs-end);
+            cells = omega (arith, pairs-end, v .4);
           }) in
-          (rw (l, pairs-end), sets-taken out′ out (pairForm arity s) end (v .3 .wrote ∙ ap (sets out 0) (sym the-pairs)) pairs-end (omega (arith, every-pairs-size ts, ap length the-form, v .3 .end-at)))
+          (rw (l, pairs-end), sets-taken out′ out (pairForm arity s) end (v .3 .wrote ∙ ap (sets out 0) (sym the-pairs)) pairs-end (omega (arith, v .4)))

@@ -1,6 +1,6 @@
 -- What buffers have room for and hold after reading or loading, and what the converters leave: the contracts' parts.
-use Prim.Native.Nat.{ℕ, _*_, _≤_}
-use mathlib.Core.List.{List}
+use Prim.Native.Nat.{ℕ, _*_, _≤_, _<_}
+use mathlib.Core.List.{List, []}
 use mathlib.Core.Path.{_≡_}
 use lib.ListN.{length, take}
 use Rattle.forms.specs.declared.Reading.{Reading}
@@ -8,7 +8,10 @@ use Rattle.forms.specs.declared.Reading.the-variants.{Form, Refusal}
 use Rattle.forms.specs.declared.Loading.{Loading}
 use Rattle.forms.specs.declared.Loading.the-variants.{Terms, NoForm}
 use Rattle.forms.specs.declared.Answer.{Answer}
+use Rattle.convert.specs.declared.Loaded.{Loaded}
+use Rattle.convert.specs.declared.Loaded.the-variants.{Counted, Nothing}
 use Rattle.forms.specs.Cells.{arityOf}
+use Rattle.forms.specs.Numbering.{met}
 use Rattle.forms.specs.Compact.{compactForm, pairForm}
 use Rattle.forms.specs.Converting.{reading, loading, compacting, expanding, inEdition, written}
 
@@ -28,9 +31,9 @@ HoldsTerms arity cs buffer NoForm = Unit {0}
 abbrev pub RoomForForm : (cs vars form : List ℕ) → Type 0
 RoomForForm cs vars form = length cs ≤ 256 → (length cs ≤ length vars) × (3 * length cs ≤ 2 * length form)
 
--- room for the terms of a form, where it has not too many tokens to be loaded
+-- room for the terms of a form: two cells for each token, or as many as legal terms have
 abbrev pub RoomForTerms : (form cells : List ℕ) → Type 0
-RoomForTerms form cells = length form ≤ 383 → 2 * length form ≤ length cells
+RoomForTerms form cells = length cells < 256 → 2 * length form ≤ length cells
 
 -- m terms were read as they are defined to be, and the buffer holds their form
 abbrev pub Reads : (e m : ℕ) (cs buffer : List ℕ) → Reading → Type 0
@@ -39,6 +42,18 @@ Reads e m cs buffer r = (r ≡ reading (arityOf e) m cs) × HoldsForm (arityOf e
 -- a form was loaded as it is defined to be, and the buffer holds its terms
 abbrev pub Loads : (e m : ℕ) (form buffer : List ℕ) → Loading → Type 0
 Loads e m form buffer r = (r ≡ loading (arityOf e) m form) × HoldsTerms (arityOf e) form buffer r
+
+-- what was loaded, and that the variables of the form were counted
+abbrev pub loadingOf : Loaded → Loading
+loadingOf (Counted n v) = Terms n
+loadingOf Nothing = NoForm
+
+abbrev pub Counts : List ℕ → Loaded → Type 0
+Counts form (Counted n v) = v ≡ length (met [] form)
+Counts form Nothing = Unit {0}
+
+abbrev pub LoadsCounted : (e m : ℕ) (form buffer : List ℕ) → Loaded → Type 0
+LoadsCounted e m form buffer r = Loads e m form buffer (loadingOf r) × Counts form r
 
 -- ---- converting
 

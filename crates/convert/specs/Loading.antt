@@ -1,10 +1,10 @@
 -- What the readers of compact form answer and write: the families that their contracts cite.
-use Prim.Native.Nat.{ℕ, _+_, _*_, _≤_, _<_}
+use Prim.Native.Nat.{ℕ, _+_, _≤_, _<_}
 use mathlib.Core.List.{List, [], _∷_, _++_}
 use mathlib.Core.Bool.{Bool, true, false}
 use mathlib.Core.Logic.{_⊎_}
 use mathlib.Core.Path.{_≡_}
-use lib.ListN.{length, drop, getD}
+use lib.ListN.{length, take, drop, getD}
 use lib.Seq.{sets}
 use lib.Dec.{eqb, leb}
 use Rattle.basis.specs.Choice.{pick}
@@ -12,8 +12,8 @@ use Rattle.convert.specs.declared.Place.{Place}
 use Rattle.convert.specs.declared.Step.{Step}
 use Rattle.convert.specs.declared.Step.the-variants.{Done, Malformed}
 use Rattle.forms.specs.Cells.{payload, variable, BLIST, EPAIR, shapeOf, tokenOf, arityOf}
-use Rattle.forms.specs.Terms.{Term, pairs, every}
-use Rattle.forms.specs.Compact.{compact, elements, Item, into, collected, whole, items, front}
+use Rattle.forms.specs.Terms.{Term, pair, pairs, every}
+use Rattle.forms.specs.Compact.{compact, elements, Item, term, into, collected, whole, items, front}
 use Rattle.forms.proofs.ReadLaws.{WellFormed, AllWellFormed}
 
 -- ---- variables in the order of first meeting
@@ -50,55 +50,65 @@ pub record Span (s : List ℕ) (at : ℕ) (form : List ℕ) (count : ℕ) (out :
   pub numbers : ordered count form ≡ true
   pub known : count′ ≡ counted count form
 
--- n terms were read, and their pair forms are written; or there are fewer, or variables out of order
-abbrev pub FormsRan : (ℕ → ℕ) → List ℕ → ℕ → ℕ → ℕ → List ℕ → ℕ → List ℕ → Step → Type 0
-FormsRan arity s at n count out to out′ (Done next end count′) =
+-- the first n of the terms do not fit: there are fewer, or their pair forms, written from place to on, pass the limit
+abbrev pub Unfit : (limit to n : ℕ) → List Term → Type 0
+Unfit limit to n ts = n ≤ length ts → limit < to + length (every pairs (take n ts))
+
+-- n terms were read, and their pair forms are written within the limit; or they do not fit, or variables are out of order
+abbrev pub FormsRan : (ℕ → ℕ) → List ℕ → ℕ → ℕ → ℕ → ℕ → List ℕ → ℕ → List ℕ → Step → Type 0
+FormsRan arity s limit at n count out to out′ (Done next end count′) =
     (ts : List Term)
     × AllWellFormed (shapeOf arity) ts
     × (length ts ≡ n)
     × Span s at (every compact ts) count out to (every pairs ts) out′ next end count′
-FormsRan arity s at n count out to out′ Malformed =
-    (length (front (itemsAt arity s at)) < n) ⊎ (ordered count (drop at s) ≡ false)
+    × (end ≤ limit)
+FormsRan arity s limit at n count out to out′ Malformed =
+    Unfit limit to n (front (itemsAt arity s at)) ⊎ (ordered count (drop at s) ≡ false)
 
 -- the rest of a list, behind an element (some) or behind BLIST
 abbrev pub Rest : Bool → Term → List ℕ → Type 0
 Rest true u form = (e : List ℕ) → elements e u ≡ e ++ form
 Rest false u form = ((e : List ℕ) → elements e u ≡ e ++ form) × (compact u ≡ BLIST ∷ form)
 
-abbrev pub NoRest : Bool → List Item → Type 0
-NoRest true is = (e : Term) → into e (collected is) ≡ []
-NoRest false is = whole (collected is) ≡ []
+-- no rest of a list that fits: whatever rest stands here passes the limit
+abbrev pub NoRest : (limit to : ℕ) → Bool → List Item → Type 0
+NoRest limit to true is =
+    (e u : Term) (js : List Item) → into e (collected is) ≡ term (pair e u) ∷ js → limit < to + length (pairs u)
+NoRest limit to false is =
+    (u : Term) (js : List Item) → whole (collected is) ≡ term u ∷ js → limit < to + length (pairs u)
 
--- the rest of a list was read, and written; or there is none, or variables are out of order
-abbrev pub RestRan : (ℕ → ℕ) → List ℕ → ℕ → Bool → ℕ → List ℕ → ℕ → List ℕ → Step → Type 0
-RestRan arity s at some count out to out′ (Done next end count′) =
+-- the rest of a list was read, and written within the limit; or none fits, or variables are out of order
+abbrev pub RestRan : (ℕ → ℕ) → List ℕ → ℕ → ℕ → Bool → ℕ → List ℕ → ℕ → List ℕ → Step → Type 0
+RestRan arity s limit at some count out to out′ (Done next end count′) =
     (u : Term)
     × WellFormed (shapeOf arity) u 0
     × (form : List ℕ)
     × Rest some u form
     × Span s at form count out to (pairs u) out′ next end count′
-RestRan arity s at some count out to out′ Malformed =
-    NoRest some (itemsAt arity s at) ⊎ (ordered count (drop at s) ≡ false)
+    × (end ≤ limit)
+RestRan arity s limit at some count out to out′ Malformed =
+    NoRest limit to some (itemsAt arity s at) ⊎ (ordered count (drop at s) ≡ false)
 
 -- ---- contracts
 
--- room for what is left to be read: two cells for each token
-abbrev pub FormRoom : (s : List ℕ) (from : Place) (out : List ℕ) → Type 0
-FormRoom s from out =
-    (length s ≤ 383)
-    × (2 * length s ≤ length out)
+-- the limit is one of terms and of the buffer, and n terms of one cell are within it
+abbrev pub FormRoom : (s : List ℕ) (from : Place) (n limit : ℕ) (out : List ℕ) → Type 0
+FormRoom s from n limit out =
+    (limit ≤ 256)
+    × (limit ≤ length out)
     × (from .at ≤ length s)
     × (from .count ≤ from .at)
-    × (from .to ≤ 2 * from .at)
+    × (from .to + n ≤ limit)
 
 -- EPAIR is read next
 abbrev pub AtTail : List ℕ → Place → Type 0
 AtTail s from = (from .at < length s) × (getD s (from .at) 0 ≡ EPAIR)
 
 -- the forms of n terms were read from a place on
-abbrev pub ReadsForms : (e : ℕ) (s : List ℕ) (from : Place) (n : ℕ) (out out′ : List ℕ) → Step → Type 0
-ReadsForms e s from n out out′ r = FormsRan (arityOf e) s (from .at) n (from .count) out (from .to) out′ r
+abbrev pub ReadsForms : (e : ℕ) (s : List ℕ) (limit : ℕ) (from : Place) (n : ℕ) (out out′ : List ℕ) → Step → Type 0
+ReadsForms e s limit from n out out′ r = FormsRan (arityOf e) s limit (from .at) n (from .count) out (from .to) out′ r
 
 -- the rest of a list was read from a place on
-abbrev pub ReadsRest : (e : ℕ) (s : List ℕ) (from : Place) (some : Bool) (out out′ : List ℕ) → Step → Type 0
-ReadsRest e s from some out out′ r = RestRan (arityOf e) s (from .at) some (from .count) out (from .to) out′ r
+abbrev pub ReadsRest : (e : ℕ) (s : List ℕ) (limit : ℕ) (from : Place) (some : Bool) (out out′ : List ℕ) → Step → Type 0
+ReadsRest e s limit from some out out′ r =
+    RestRan (arityOf e) s limit (from .at) some (from .count) out (from .to) out′ r

@@ -1,7 +1,7 @@
 // The lengths of the buffers that the readers are lent. Making a buffer clears it, so short terms and short forms get
-// short ones. A form has at most three tokens for two cells, and its terms at most two cells for a token.
+// short ones. A form has at most three tokens for two cells, and its terms at most two cells for a token; none that is
+// loaded has more than MOST_CELLS.
 use basis::limits::MOST_CELLS;
-use basis::limits::MOST_TOKENS;
 
 // ---- for terms of pair form: few cells, some, or as many as there may be; then their forms
 
@@ -29,4 +29,4 @@ pub const TERMS_OF_SOME: usize = 2 * SOME_TOKENS;
 
 pub const TERMS_OF_MANY: usize = 2 * MANY_TOKENS;
 
-pub const TERMS_OF_MOST: usize = 2 * MOST_TOKENS;
+pub const TERMS_OF_MOST: usize = MOST_CELLS;

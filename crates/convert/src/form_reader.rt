@@ -1,15 +1,16 @@
-// The readers of compact form, which write pair form and check the variables' numbers as they read.
+// The readers of compact form, which write pair form and check the variables' numbers as they read. None writes beyond
+// its limit: where what is still due would pass it, the form is malformed, however much of it is left. A list within a
+// list is due its own end, so lists are read no deeper than terms that fit can hold them.
 use crate::Place;
 use crate::Step;
 use crate::met_after;
 ghost use mathlib.Core.Bool.{false, true};
-ghost use Prim.Native.Nat.{_+_, _*_, _≤_};
 ghost use Rattle.convert.specs.Loading.{FormRoom, AtTail, ReadsForms, ReadsRest};
 
-// Reads the forms of n terms and writes their pair forms.
-pub fn terms(s: &[u32], from: Place, n: usize, out: &mut [u32], edition: u32) -> Step
-    requires { ⌜ FormRoom (now s) from (now out) × (n ≤ 383 + 256 * from .at) ⌝ }
-    ensures { λ r. ⌜ ReadsForms edition (now (s .entry)) from n (now (out .entry)) (now (out .exit)) r ⌝ }
+// Reads the forms of n terms and writes their pair forms, up to the limit.
+pub fn terms(s: &[u32], from: Place, n: usize, out: &mut [u32], edition: u32, limit: usize) -> Step
+    requires { ⌜ FormRoom (now s) from n limit (now out) ⌝ }
+    ensures { λ r. ⌜ ReadsForms edition (now (s .entry)) limit from n (now (out .entry)) (now (out .exit)) r ⌝ }
 {
     let mut at = from.at;
     let mut due = n;
@@ -26,7 +27,8 @@ pub fn terms(s: &[u32], from: Place, n: usize, out: &mut [u32], edition: u32) ->
                 to: to,
                 count: count,
             };
-            let Step::Done(next, end, met) = list(s, elements, out, edition) else {
+            let Step::Done(next, end, met) = list(s, elements, out, edition, limit - (due - 1))
+            else {
                 return Step::Malformed;
             };
             at = next;
@@ -49,6 +51,9 @@ pub fn terms(s: &[u32], from: Place, n: usize, out: &mut [u32], edition: u32) ->
         let forms::Shape::Symbol(k) = forms::shape_of(c, edition) else {
             return Step::Malformed;
         };
+        if limit < to + due + k {
+            return Step::Malformed;
+        }
         out[to] = c;
         at += 1;
         to += 1;
@@ -59,9 +64,9 @@ pub fn terms(s: &[u32], from: Place, n: usize, out: &mut [u32], edition: u32) ->
 
 // Reads the elements of a list, behind BLIST, and writes the list.
 // Most elements are constants, and take no call of the term reader.
-fn list(s: &[u32], from: Place, out: &mut [u32], edition: u32) -> Step
-    requires { ⌜ FormRoom (now s) from (now out) × (from .to + 2 ≤ 2 * from .at) ⌝ }
-    ensures { λ r. ⌜ ReadsRest edition (now (s .entry)) from false (now (out .entry)) (now (out .exit)) r ⌝ }
+fn list(s: &[u32], from: Place, out: &mut [u32], edition: u32, limit: usize) -> Step
+    requires { ⌜ FormRoom (now s) from 1 limit (now out) ⌝ }
+    ensures { λ r. ⌜ ReadsRest edition (now (s .entry)) limit from false (now (out .entry)) (now (out .exit)) r ⌝ }
 {
     let mut at = from.at;
     let mut some = false;
@@ -73,6 +78,9 @@ fn list(s: &[u32], from: Place, out: &mut [u32], edition: u32) -> Step
         }
         let c = s[at];
         if forms::is_constant(c) {
+            if limit < to + 3 {
+                return Step::Malformed;
+            }
             out[to] = forms::PAIR;
             out[to + 1] = c;
             at += 1;
@@ -87,8 +95,11 @@ fn list(s: &[u32], from: Place, out: &mut [u32], edition: u32) -> Step
                     to: to,
                     count: count,
                 };
-                return ending(s, tail, out, edition);
+                return ending(s, tail, out, edition, limit);
             }
+            return Step::Malformed;
+        }
+        if limit < to + 3 {
             return Step::Malformed;
         }
         out[to] = forms::PAIR;
@@ -98,7 +109,7 @@ fn list(s: &[u32], from: Place, out: &mut [u32], edition: u32) -> Step
                 to: to + 1,
                 count: count,
             };
-            let Step::Done(next, end, met) = terms(s, last, 1, out, edition) else {
+            let Step::Done(next, end, met) = terms(s, last, 1, out, edition, limit - 1) else {
                 return Step::Malformed;
             };
             out[end] = forms::NIL;
@@ -109,7 +120,7 @@ fn list(s: &[u32], from: Place, out: &mut [u32], edition: u32) -> Step
             to: to + 1,
             count: count,
         };
-        let Step::Done(next, end, met) = terms(s, element, 1, out, edition) else {
+        let Step::Done(next, end, met) = terms(s, element, 1, out, edition, limit - 1) else {
             return Step::Malformed;
         };
         at = next;
@@ -120,9 +131,9 @@ fn list(s: &[u32], from: Place, out: &mut [u32], edition: u32) -> Step
 }
 
 // Reads the EPAIR at which it stands and the term that a list ends in behind it: neither [] nor a list.
-fn ending(s: &[u32], from: Place, out: &mut [u32], edition: u32) -> Step
-    requires { ⌜ FormRoom (now s) from (now out) × (from .to + 2 ≤ 2 * from .at) × AtTail (now s) from ⌝ }
-    ensures { λ r. ⌜ ReadsRest edition (now (s .entry)) from true (now (out .entry)) (now (out .exit)) r ⌝ }
+fn ending(s: &[u32], from: Place, out: &mut [u32], edition: u32, limit: usize) -> Step
+    requires { ⌜ FormRoom (now s) from 1 limit (now out) × AtTail (now s) from ⌝ }
+    ensures { λ r. ⌜ ReadsRest edition (now (s .entry)) limit from true (now (out .entry)) (now (out .exit)) r ⌝ }
 {
     let at = from.at;
     if s.len() <= at + 1 {
@@ -140,5 +151,5 @@ fn ending(s: &[u32], from: Place, out: &mut [u32], edition: u32) -> Step
         to: from.to,
         count: from.count,
     };
-    terms(s, behind, 1, out, edition)
+    terms(s, behind, 1, out, edition, limit)
 }

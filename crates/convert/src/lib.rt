@@ -4,7 +4,6 @@ mod form_reader;
 mod pair_reader;
 
 use basis::limits::MOST_CELLS;
-use basis::limits::MOST_TOKENS;
 use basis::limits::MOST_VARIABLES;
 use basis::refusals::FORM;
 use basis::refusals::HEADER;
@@ -27,7 +26,7 @@ ghost use mathlib.Core.List.{_++_};
 ghost use Prim.Native.Nat.{_+_, _^_, _≤_, _<_};
 ghost use lib.ListN.{length, take, drop};
 ghost use Rattle.convert.specs.Loading.{after};
-ghost use Rattle.convert.specs.Holds.{RoomForForm, RoomForTerms, Reads, Loads};
+ghost use Rattle.convert.specs.Holds.{RoomForForm, RoomForTerms, Reads, Loads, LoadsCounted};
 ghost use Rattle.convert.specs.Holds.{Compacts, CompactsIn, Expands, ExpandsIn};
 
 // Where a reader stands: at the cell that it reads next, before what it writes next, with the variables met so far.
@@ -42,6 +41,12 @@ pub struct Place {
 pub enum Step {
     Done(usize, usize, usize),
     Malformed,
+}
+
+// What loading comes to: the cells written and how many variables there are; or that the cells are no legal form.
+pub enum Loaded {
+    Counted(usize, usize),
+    Nothing,
 }
 
 // How many variables are met after token c of a numbered form, where `count` were met before it.
@@ -83,36 +88,51 @@ pub fn read_terms(s: &[u32], m: usize, vars: &mut [u32], form: &mut [u32], editi
     Reading::Form(end, variables)
 }
 
-// Loads the m terms whose compact form is s, and leaves their pair form at the start of cells.
-pub fn load_terms(s: &[u32], m: usize, cells: &mut [u32], edition: u32) -> Loading
-    requires { ⌜ RoomForTerms (now s) (now cells) ⌝ }
-    ensures { λ r. ⌜ Loads edition m (now (s .entry)) (now (cells .exit)) r ⌝ }
+// How far a buffer of so many cells is written: no further than the cells of legal terms.
+fn limit_of(room: usize) -> usize
+    ensures { λ r. ⌜ (r ≤ room) × (r ≤ 256) × (r < 256 → r ≡ room) ⌝ }
 {
-    let n = s.len();
-    if MOST_TOKENS < n {
-        return Loading::NoForm;
+    if room < MOST_CELLS {
+        return room;
     }
-    if n < m {
-        return Loading::NoForm;
+    MOST_CELLS
+}
+
+// Loads the m terms whose compact form is s, and leaves their pair form at the start of cells.
+pub fn load_counted(s: &[u32], m: usize, cells: &mut [u32], edition: u32) -> Loaded
+    requires { ⌜ RoomForTerms (now s) (now cells) ⌝ }
+    ensures { λ r. ⌜ LoadsCounted edition m (now (s .entry)) (now (cells .exit)) r ⌝ }
+{
+    let limit = limit_of(cells.len());
+    if limit < m {
+        return Loaded::Nothing;
     }
     let start = Place {
         at: 0,
         to: 0,
         count: 0,
     };
-    let Step::Done(next, end, met) = form_reader::terms(s, start, m, cells, edition) else {
-        return Loading::NoForm;
+    let Step::Done(next, end, met) = form_reader::terms(s, start, m, cells, edition, limit) else {
+        return Loaded::Nothing;
     };
-    if next < n {
-        return Loading::NoForm;
+    if next < s.len() {
+        return Loaded::Nothing;
     }
     if MOST_VARIABLES < met {
-        return Loading::NoForm;
+        return Loaded::Nothing;
     }
-    if MOST_CELLS < end {
+    Loaded::Counted(end, met)
+}
+
+// The same without the count of variables.
+pub fn load_terms(s: &[u32], m: usize, cells: &mut [u32], edition: u32) -> Loading
+    requires { ⌜ RoomForTerms (now s) (now cells) ⌝ }
+    ensures { λ r. ⌜ Loads edition m (now (s .entry)) (now (cells .exit)) r ⌝ }
+{
+    let Loaded::Counted(n, _) = load_counted(s, m, cells, edition) else {
         return Loading::NoForm;
-    }
-    Loading::Terms(end)
+    };
+    Loading::Terms(n)
 }
 
 // Copies the first n cells.

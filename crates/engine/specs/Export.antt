@@ -1,5 +1,5 @@
 -- What the exports return, and every byte of out afterwards, for every input and every out.
-use Prim.Native.Nat.{ℕ, _+_, _*_, _^_, _/_, _%_, _≤_}
+use Prim.Native.Nat.{ℕ, _+_, _*_, _^_, _/_, _%_, _≤_, _<_}
 use mathlib.Core.List.{List, _++_}
 use mathlib.Core.Path.{_≡_}
 use lib.ListN.{length, take, drop}
@@ -60,10 +60,10 @@ CompactRoom n input cells vars form =
     × (3 * n ≤ 2 * length form)
     × (length form ≤ 384)
 
--- room for the n tokens of input and for their terms, which are no longer than the longest
+-- room for the n tokens of input and for their terms: two cells for each token, or as many as legal terms have
 abbrev pub ExpandRoom : (n : ℕ) (input form cells : List ℕ) → Type 0
 ExpandRoom n input form cells =
-    (4 * n ≡ length input) × (n ≤ length form) × (2 * n ≤ length cells) × (length cells ≤ 766)
+    (4 * n ≡ length input) × (n ≤ length form) × (length cells < 256 → 2 * n ≤ length cells) × (length cells ≤ 256)
 
 -- the first n cells were handed to out, if it has room for them
 abbrev pub Delivers : (cells : List ℕ) (n : ℕ) (out : List ℕ) (r : ℕ) (out′ : List ℕ) → Type 0

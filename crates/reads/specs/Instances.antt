@@ -1,6 +1,6 @@
 -- The instance on cells: the subgoal's pair form with the cells of a term for each variable, and where those terms
 -- stand; and what the functions that write it ask and leave, by name.
-use Prim.Native.Nat.{ℕ, _+_, _-_, _*_, _≤_, _<_}
+use Prim.Native.Nat.{ℕ, _+_, _-_, _≤_, _<_}
 use mathlib.Core.Bool.{true}
 use mathlib.Core.List.{List, [], _∷_, _++_}
 use mathlib.Core.Path.{_≡_}
@@ -12,7 +12,6 @@ use Rattle.forms.specs.declared.Shape.the-variants.{Symbol, Pair, Illegal}
 use Rattle.forms.specs.Cells.{payload, variable, arityOf}
 use Rattle.forms.specs.Terms.{Term, pairs, every}
 use Rattle.convert.specs.Readers.{termsAt}
-use Rattle.trie.specs.Paths.{longest}
 
 -- how many terms follow a cell of this shape in the term that it begins
 unfoldable pub arguments : Shape → ℕ
@@ -57,10 +56,6 @@ instanceCells terms starts (c ∷ cs) = replaced terms starts c ++ instanceCells
 -- the cells of a legal term at most
 abbrev pub mostCells : ℕ
 mostCells = 256
-
--- cells that suffice for the pair form of a path
-abbrev pub RoomFor : List ℕ → List ℕ → Type 0
-RoomFor path cells = length path ≤ longest → 2 * length path ≤ length cells
 
 -- the first m terms of s are there and end at `end`, and their places fit `starts`
 abbrev pub TermsTo : ℕ → List ℕ → ℕ → ℕ → List ℕ → Type 0

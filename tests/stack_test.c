@@ -1,0 +1,370 @@
+/*
+ * Measures the stack that every export uses and holds it to the bound that the header states for it.
+ *
+ * Each call is made on a stack of its own that was painted before; the paint that is gone afterwards is what was used.
+ * The worst input is searched for: every sequence of up to UNIT_CELLS cells of an alphabet, repeated, as a term, a form
+ * or a path, at the lengths at which the readers change their buffers; and lists nested as deep as legal terms allow.
+ */
+#define _DEFAULT_SOURCE
+
+#include "../include/tables.h"
+
+#include <inttypes.h>
+#include <stdbool.h>
+#include <stdio.h>
+#include <stdlib.h>
+#include <string.h>
+#include <sys/mman.h>
+#include <ucontext.h>
+
+enum { STACK_BYTES = 1 << 20, UNIT_CELLS = 3, FORM_CELLS = 383, MOST_LEN = 400 };
+
+/* Cells by name; functors in edition 1. */
+#define VAR(name) TABLES_CELL(TABLES_VARIABLE, name)
+#define A TABLES_CELL(TABLES_ATOM, 1)
+#define F1 TABLES_FUNCTOR_CELL(TABLES_EDITION_1, 1, 1)
+#define F2 TABLES_FUNCTOR_CELL(TABLES_EDITION_1, 1, 2)
+#define NIL TABLES_EMPTY_LIST
+#define PAIR TABLES_PAIR_CELL
+#define BLIST TABLES_CELL(TABLES_BLIST, 0)
+#define ELIST TABLES_CELL(TABLES_ELIST, 0)
+#define EPAIR TABLES_CELL(TABLES_EPAIR, 0)
+
+/* Exports */
+
+enum export { FRESH, CALL, ANSWER, FINISH, NEXT, LOAD, INSTANCE, COUNTS, COMPACT, EXPAND, EXPORTS };
+
+static const struct {
+    const char *name;
+    size_t bound;
+} exports[EXPORTS] = {
+    {"tables_fresh", TABLES_STACK_FRESH},       {"tables_call", TABLES_STACK_CALL},
+    {"tables_answer", TABLES_STACK_ANSWER},     {"tables_finish", TABLES_STACK_FINISH},
+    {"tables_next", TABLES_STACK_NEXT},         {"tables_load", TABLES_STACK_LOAD},
+    {"tables_instance", TABLES_STACK_INSTANCE}, {"tables_counts", TABLES_STACK_COUNTS},
+    {"tables_compact", TABLES_STACK_COMPACT},   {"tables_expand", TABLES_STACK_EXPAND},
+};
+
+/* What the next call gets. */
+static uint32_t cells[MOST_LEN];
+static size_t cell_count;
+static uint32_t space[8 + 5 * 2000 + 6 * 4 + 3 * 4];
+static size_t space_cells = sizeof space / sizeof space[0];
+static uint32_t out[TABLES_INSTANCE_CELLS];
+static uint64_t word;
+
+static void make(enum export export)
+{
+    uint8_t *out_bytes = (uint8_t *)out;
+    const uint8_t *in = (const uint8_t *)cells;
+    size_t room = sizeof out / sizeof out[0];
+    switch (export) {
+    case FRESH:
+        word = tables_fresh(space, space_cells, 2000, 4, 4, TABLES_EDITION_1);
+        break;
+    case CALL:
+        word = tables_call(space, space_cells, cells, cell_count);
+        break;
+    case ANSWER:
+        word = tables_answer(space, space_cells, 1, cells, cell_count);
+        break;
+    case FINISH:
+        word = tables_finish(space, space_cells, 1);
+        break;
+    case NEXT:
+        word = tables_next(space, space_cells, 1, 0);
+        break;
+    case LOAD:
+        word = tables_load(space, space_cells, 1, out, room);
+        break;
+    case INSTANCE:
+        word = tables_instance(space, space_cells, 1, out, room);
+        break;
+    case COUNTS:
+        word = tables_counts(space, space_cells, out, room);
+        break;
+    case COMPACT:
+        word = tables_compact(in, 4 * cell_count, out_bytes, sizeof out, TABLES_EDITION_1);
+        break;
+    case EXPAND:
+        word = tables_expand(in, 4 * cell_count, out_bytes, sizeof out, TABLES_EDITION_1);
+        break;
+    case EXPORTS:
+        break;
+    }
+}
+
+/* The painted stack */
+
+static const uint64_t paint = UINT64_C(0x5ca1ab1e0ddba11);
+static uint64_t *stack;
+static size_t stack_words = STACK_BYTES / sizeof(uint64_t);
+static const uint64_t *called_from;
+static ucontext_t here, there;
+static enum export due;
+
+static void on_stack(void)
+{
+    called_from = __builtin_frame_address(0);
+    make(due);
+}
+
+static void open_stack(void)
+{
+    stack = mmap(NULL, STACK_BYTES, PROT_READ | PROT_WRITE, MAP_PRIVATE | MAP_ANONYMOUS, -1, 0);
+    if (stack == MAP_FAILED) {
+        perror("a stack");
+        exit(2);
+    }
+    for (size_t i = 0; i < stack_words; i++)
+        stack[i] = paint;
+}
+
+/* Makes a call on the painted stack, paints it anew and gives the bytes that the call used. */
+static size_t used_by(enum export export)
+{
+    due = export;
+    if (getcontext(&there) != 0) {
+        perror("a context");
+        exit(2);
+    }
+    there.uc_stack.ss_sp = stack;
+    there.uc_stack.ss_size = STACK_BYTES;
+    there.uc_link = &here;
+    makecontext(&there, on_stack, 0);
+    swapcontext(&here, &there);
+    size_t first = 0;
+    while (first < stack_words && stack[first] == paint)
+        first++;
+    for (size_t i = first; i < stack_words; i++)
+        stack[i] = paint;
+    return (size_t)(called_from - (stack + first)) * sizeof(uint64_t);
+}
+
+/* The worst so far of each export, and its input */
+
+static struct {
+    size_t used;
+    uint64_t calls, word;
+    char input[160];
+} worst[EXPORTS];
+
+static void measure(enum export export, const char *input)
+{
+    size_t used = used_by(export);
+    worst[export].calls++;
+    if (used > worst[export].used) {
+        worst[export].used = used;
+        worst[export].word = word;
+        snprintf(worst[export].input, sizeof worst[export].input, "%s", input);
+    }
+}
+
+/* Inputs */
+
+static const struct {
+    uint32_t cell;
+    const char *name;
+} pair_alphabet[] = {{PAIR, "PAIR"}, {A, "a"}, {NIL, "[]"}, {VAR(0), "X"}, {F1, "f/1"}, {F2, "f/2"}},
+  form_alphabet[] = {{BLIST, "BLIST"}, {ELIST, "ELIST"}, {EPAIR, "EPAIR"}, {A, "a"},
+                     {NIL, "[]"},      {VAR(0), "X"},    {F1, "f/1"},      {F2, "f/2"}};
+
+enum { PAIR_LETTERS = 6, FORM_LETTERS = 8 };
+
+static char input_name[160];
+
+/* The unit of this number, repeated to so many cells. False if there is no unit of this number. */
+static bool repeat_unit(unsigned number, size_t length, bool form)
+{
+    unsigned letters = form ? FORM_LETTERS : PAIR_LETTERS, unit[UNIT_CELLS], size = 1, count = letters;
+    while (number >= count) {
+        number -= count;
+        count *= letters;
+        if (++size > UNIT_CELLS)
+            return false;
+    }
+    int at = snprintf(input_name, sizeof input_name, "%zu cells of", length);
+    for (unsigned i = 0; i < size; i++) {
+        unit[i] = number % letters;
+        number /= letters;
+        at += snprintf(input_name + at, sizeof input_name - (size_t)at, " %s",
+                       form ? form_alphabet[unit[i]].name : pair_alphabet[unit[i]].name);
+    }
+    for (size_t i = 0; i < length; i++)
+        cells[i] = form ? form_alphabet[unit[i % size]].cell : pair_alphabet[unit[i % size]].cell;
+    cell_count = length;
+    return true;
+}
+
+/* [[..[a]..]] of so many lists, in pair or compact form. */
+static void nest(size_t lists, bool form)
+{
+    cell_count = 0;
+    for (size_t i = 0; i < lists; i++) {
+        cells[cell_count++] = form ? BLIST : PAIR;
+        if (form)
+            cells[cell_count++] = ELIST;
+    }
+    cells[cell_count++] = A;
+    for (size_t i = 0; i < lists && !form; i++)
+        cells[cell_count++] = NIL;
+    snprintf(input_name, sizeof input_name, "%zu lists, one in another", lists);
+}
+
+/* Lengths around which the readers take other buffers, and the longest. */
+static const size_t term_lengths[] = {15, 16, 17, 127, 128, 129, 254, 255, 256, 257};
+static const size_t form_lengths[] = {15, 16, 17, 63, 64, 65, 127, 128, 129, 255, 256, 382, 383, 384};
+
+enum { TERM_LENGTHS = sizeof term_lengths / sizeof *term_lengths };
+enum { FORM_LENGTHS = sizeof form_lengths / sizeof *form_lengths };
+
+/* Spaces with paths of any tokens */
+
+static uint32_t *node(uint32_t number)
+{
+    return space + 8 + 5 * number;
+}
+
+/* A chain of nodes with the tokens of cells below a root, from the next free node on; the leaf has the link. */
+static uint32_t chain(uint32_t root, uint32_t link)
+{
+    uint32_t above = root;
+    for (size_t i = 0; i < cell_count; i++) {
+        uint32_t below = space[1]++;
+        uint32_t record[5] = {cells[i], 0, 0, above, 0};
+        memcpy(node(below), record, sizeof record);
+        node(above)[1] = below;
+        above = below;
+    }
+    node(above)[4] = link;
+    return above;
+}
+
+/* An empty table with the root of one subgoal's answers, node 1. */
+static void begin_space(uint32_t variables)
+{
+    make(FRESH);
+    space[1] = 2;
+    space[2] = space[3] = 1;
+    node(1)[3] = 1;
+    uint32_t subgoal[6] = {0, 1, variables, 0, 1, 1};
+    memcpy(space + space[5], subgoal, sizeof subgoal);
+    uint32_t answer[3] = {0, 1, 0};
+    memcpy(space + space[6], answer, sizeof answer);
+}
+
+static void subgoal_path(void)
+{
+    space[space[5]] = chain(0, 1);
+}
+
+static void answer_path(void)
+{
+    space[space[6]] = chain(1, 1);
+}
+
+/* The subgoal p(X). */
+static void called_p(void)
+{
+    cells[0] = F1;
+    cells[1] = VAR(0);
+    cell_count = 2;
+    subgoal_path();
+}
+
+/* What is measured */
+
+/* The answer is a term, so that the subgoal's path is read too: a long list in compact form. */
+static void long_answer(void)
+{
+    cells[0] = BLIST;
+    for (size_t i = 1; i < 120; i++)
+        cells[i] = A;
+    cells[120] = ELIST;
+    cells[121] = A;
+    cell_count = 122;
+    answer_path();
+}
+
+static void measure_term(void)
+{
+    measure(COMPACT, input_name);
+    begin_space(1);
+    uint32_t kept[MOST_LEN];
+    size_t kept_count = cell_count;
+    memcpy(kept, cells, sizeof kept);
+    called_p();
+    memcpy(cells, kept, sizeof kept);
+    cell_count = kept_count;
+    measure(ANSWER, input_name);
+    measure(ANSWER, input_name);
+    if (cell_count < TABLES_TERM_CELLS) {
+        memmove(cells + 1, cells, cell_count * sizeof *cells);
+        cells[0] = F1;
+        cell_count++;
+    }
+    measure(CALL, input_name);
+    measure(CALL, input_name);
+}
+
+static void measure_form(void)
+{
+    measure(EXPAND, input_name);
+    if (cell_count > FORM_CELLS)
+        return;
+    begin_space(1);
+    answer_path();
+    measure(LOAD, input_name);
+    measure(INSTANCE, input_name);
+    uint32_t kept[MOST_LEN];
+    size_t kept_count = cell_count;
+    memcpy(kept, cells, sizeof kept);
+    begin_space(1);
+    long_answer();
+    memcpy(cells, kept, sizeof kept);
+    cell_count = kept_count;
+    subgoal_path();
+    measure(INSTANCE, input_name);
+}
+
+static void measure_all(void)
+{
+    for (unsigned unit = 0; repeat_unit(unit, 1, false); unit++)
+        for (size_t i = 0; i < TERM_LENGTHS; i++) {
+            repeat_unit(unit, term_lengths[i], false);
+            measure_term();
+        }
+    for (unsigned unit = 0; repeat_unit(unit, 1, true); unit++)
+        for (size_t i = 0; i < FORM_LENGTHS; i++) {
+            repeat_unit(unit, form_lengths[i], true);
+            measure_form();
+        }
+    for (size_t lists = 1; lists <= 127; lists++) {
+        nest(lists, false);
+        measure_term();
+        nest(lists, true);
+        measure_form();
+    }
+    begin_space(1);
+    called_p();
+    long_answer();
+    static const enum export simple[] = {NEXT, LOAD, INSTANCE, COUNTS, FINISH, FRESH};
+    for (size_t i = 0; i < sizeof simple / sizeof *simple; i++)
+        measure(simple[i], "a sound space");
+}
+
+int main(void)
+{
+    open_stack();
+    measure_all();
+    unsigned failures = 0;
+    printf("export           bytes   bound  worst input\n");
+    for (unsigned i = 0; i < EXPORTS; i++) {
+        bool fits = worst[i].used <= exports[i].bound;
+        failures += !fits;
+        printf("%-15s %6zu  %6zu  %s%s\n", exports[i].name, worst[i].used, exports[i].bound,
+               worst[i].input, fits ? "" : ": FAILED");
+    }
+    printf("stack: %s\n", failures == 0 ? "within the bounds" : "FAILED");
+    return failures != 0;
+}
