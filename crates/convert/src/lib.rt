@@ -50,7 +50,7 @@ pub enum Loaded {
 }
 
 // How many variables are met after token c of a numbered form, where `count` were met before it.
-pub fn met_after(c: u32, count: usize) -> usize
+fn met_after(c: u32, count: usize) -> usize
     requires { ⌜ count + 1 < 2 ^ 64 ⌝ }
     ensures { λ n. ⌜ n ≡ after count c ⌝ }
 {

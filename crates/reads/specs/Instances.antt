@@ -57,11 +57,15 @@ instanceCells terms starts (c ∷ cs) = replaced terms starts c ++ instanceCells
 abbrev pub mostCells : ℕ
 mostCells = 256
 
+-- r is the need where there is less room, else 0
+abbrev pub Missing : (need room r : ℕ) → Type 0
+Missing need room r = (need ≤ room → r ≡ 0) × (room < need → r ≡ need)
+
 -- the first m terms of s are there and end at `end`, and their places fit `starts`
 abbrev pub TermsTo : ℕ → List ℕ → ℕ → ℕ → List ℕ → Type 0
 TermsTo edition s m end starts =
     (m ≤ length (termsAt (arityOf edition) s 0)) × (m < length starts)
-    × (end ≡ length (every pairs (take m (termsAt (arityOf edition) s 0))))
+    × (end ≡ length (every pairs (take m (termsAt (arityOf edition) s 0)))) × (end ≤ mostCells)
 
 -- the places stand in b
 abbrev pub Noted : ℕ → List ℕ → ℕ → List ℕ → List ℕ → Type 0
@@ -87,6 +91,8 @@ Writable terms starts cells n out =
     (n ≤ length cells) × AllPlaced (length terms) starts n cells
     × (length (instanceCells terms starts (take n cells)) ≤ length out)
 
--- it stands in b
-abbrev pub InstanceStands : List ℕ → List ℕ → List ℕ → ℕ → List ℕ → List ℕ → Type 0
-InstanceStands terms starts cells n a b = b ≡ sets a 0 (instanceCells terms starts (take n cells))
+-- it stands in b, and r is how many cells it has
+abbrev pub InstanceStands : List ℕ → List ℕ → List ℕ → ℕ → ℕ → List ℕ → List ℕ → Type 0
+InstanceStands terms starts cells n r a b =
+    (r ≡ length (instanceCells terms starts (take n cells)))
+    × (b ≡ sets a 0 (instanceCells terms starts (take n cells)))

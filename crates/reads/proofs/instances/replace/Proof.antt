@@ -47,6 +47,9 @@ mul-copy-part c = search needs
 shared-slice-read-copy-part : tie.Need-shared-slice-read-copy-part
 shared-slice-read-copy-part c = omega (arith, term (c .before) .0)
 
+cast-copy-part : tie.Need-cast-copy-part
+cast-copy-part c = omega (arith, c .shared-slice-known3 .given (c .before .payload-of .result))
+
 add-copy-part : tie.Need-add-copy-part
 add-copy-part c = search needs
 
@@ -55,6 +58,9 @@ mul-copy-part-2 c = search needs
 
 shared-slice-read-copy-part-2 : tie.Need-shared-slice-read-copy-part-2
 shared-slice-read-copy-part-2 c = term (c .before .before) .0
+
+cast-copy-part-2 : tie.Need-cast-copy-part-2
+cast-copy-part-2 c = omega (arith, c .shared-slice-known4 .given (c .before .before .payload-of .result + 1))
 
 copy-part-requires : tie.Need-copy-part-requires
 copy-part-requires c κs =
@@ -93,9 +99,11 @@ replace-spec =
     payload-of-requires
     mul-copy-part
     shared-slice-read-copy-part
+    cast-copy-part
     add-copy-part
     mul-copy-part-2
     shared-slice-read-copy-part-2
+    cast-copy-part-2
     copy-part-requires
     same-length
     returns

@@ -32,11 +32,17 @@ mul-result c = search needs
 shared-slice-read-result : tie.Need-shared-slice-read-result
 shared-slice-read-result c = term (c .before) .0
 
+cast-result : tie.Need-cast-result
+cast-result c = omega (arith, term (c .before) .2)
+
 mul-result-2 : tie.Need-mul-result-2
 mul-result-2 c = search needs
 
 shared-slice-read-result-2 : tie.Need-shared-slice-read-result-2
 shared-slice-read-result-2 c = omega (arith, term (c .before .before) .0)
+
+cast-result-2 : tie.Need-cast-result-2
+cast-result-2 c = omega (arith, term (c .before .before) .1, term (c .before .before) .2)
 
 sub-result : tie.Need-sub-result
 sub-result c = term (c .before .before) .1
@@ -56,8 +62,10 @@ width-of-spec =
     add-result
     mul-result
     shared-slice-read-result
+    cast-result
     mul-result-2
     shared-slice-read-result-2
+    cast-result-2
     sub-result
     returns
     returns-2)

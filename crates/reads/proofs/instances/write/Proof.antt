@@ -5,18 +5,18 @@ use native.Mathlib.Omega.{arith}
 use lib.ListN.{length, take}
 use lib.Seq.{sets, slice}
 use Rattle.reads.specs.Instances.{instanceCells}
-use Rattle.reads.proofs.InstanceLaws.{write-step, write-room, write-end}
+use Rattle.reads.proofs.InstanceLaws.{write-step, write-room, write-end, write-none}
 use Rattle.reads.proofs.instances.write.Statement.{statement}
 use Rattle.reads.proofs.instances.write.Tie as tie
 
 abbrev Inv-loop : tie.InvT-loop
-Inv-loop cells n terms starts out₀ to₀ i₀ out to i = (i ≤ n) × (to + length (instanceCells terms starts (slice i n cells)) ≤ length out) × (sets out to (instanceCells terms starts (slice i n cells)) ≡ sets out₀ 0 (instanceCells terms starts (take n cells))) × (length out ≡ length out₀)
+Inv-loop cells n terms starts out₀ to₀ i₀ out to i = (i ≤ n) × (to + length (instanceCells terms starts (slice i n cells)) ≤ length out) × (sets out to (instanceCells terms starts (slice i n cells)) ≡ sets out₀ 0 (instanceCells terms starts (take n cells))) × (length out ≡ length out₀) × (to + length (instanceCells terms starts (slice i n cells)) ≡ length (instanceCells terms starts (take n cells)))
 
 abbrev μ-loop : tie.MeasureT-loop
 μ-loop cells n terms starts out₀ to₀ i₀ out to i = n - i
 
 loop-holds : tie.Need-loop-holds Inv-loop μ-loop
-loop-holds c = (omega arith, omega (arith, c .before .before .before .before .pre .2), refl, refl)
+loop-holds c = (omega arith, omega (arith, c .before .before .before .before .pre .2), refl, refl, omega arith)
 
 mul-replace : tie.Need-mul-replace Inv-loop μ-loop
 mul-replace c = omega arith
@@ -40,13 +40,14 @@ loop-again c =
     let l = c .before .before .before .before .before .before .loop in
     let e = c .before .before .replace .ensures in
     let w = write-step (c .before .before .before .before .before .before .before .before .before .before .before .args .terms .now) (c .before .before .before .before .before .before .before .before .before .before .before .args .starts .now) (c .before .before .before .before .before .before .before .before .before .before .before .args .cells .now) (l .out) (c .before .before .before .before .before .before .before .before .before .before .before .args .n) (l .i) (l .to) (omega arith) _ (c .before .before .before .before .before .before .before .before .before .before .before .args .out .now) (c .before .before .replace .last .1 .1 .1 .0) (c .before .before .replace .result) (omega arith) (l .inv .1) (l .inv .2) (l .inv .3) (e .0) (e .1) in
-    (omega arith, w .0, w .1, w .2)
+    let m = write-room (c .before .before .before .before .before .before .before .before .before .before .before .args .terms .now) (c .before .before .before .before .before .before .before .before .before .before .before .args .starts .now) (c .before .before .before .before .before .before .before .before .before .before .before .args .cells .now) (l .out) (c .before .before .before .before .before .before .before .before .before .before .before .args .n) (l .i) (l .to) (omega arith) (omega arith) in
+    (omega arith, w .0, w .1, w .2, omega (arith, l .inv .4, e .0, m))
 
 same-length : tie.Need-same-length Inv-loop μ-loop
 same-length c = c .before .loop .inv .3
 
 returns : tie.Need-returns Inv-loop μ-loop
-returns c = sym (write-end (c .before .before .before .before .before .before .args .terms .now) (c .before .before .before .before .before .before .args .starts .now) (c .before .before .before .before .before .before .args .cells .now) (c .before .loop .out) (c .before .before .before .before .before .before .args .n) (c .before .loop .i) (c .before .loop .to) (omega arith) (omega arith)) ∙ c .before .loop .inv .2
+returns c = (omega (arith, c .before .loop .inv .4, write-none (c .before .before .before .before .before .before .args .terms .now) (c .before .before .before .before .before .before .args .starts .now) (c .before .before .before .before .before .before .args .cells .now) (c .before .loop .out) (c .before .before .before .before .before .before .args .n) (c .before .loop .i) (c .before .loop .to) (omega arith) (omega arith)), sym (write-end (c .before .before .before .before .before .before .args .terms .now) (c .before .before .before .before .before .before .args .starts .now) (c .before .before .before .before .before .before .args .cells .now) (c .before .loop .out) (c .before .before .before .before .before .before .args .n) (c .before .loop .i) (c .before .loop .to) (omega arith) (omega arith)) ∙ c .before .loop .inv .2)
 
 pub write-spec : {M : Type 1} → statement M
 write-spec =
