@@ -1,9 +1,9 @@
-/* Times the exported converters against the reference, or what is linked in its place, on the same bytes in one run. */
+/* Times the exported converters against the plain ones, or what is linked in its place, on the same bytes in one run. */
 #define _POSIX_C_SOURCE 200809L
 
 #include "../include/tables.h"
 #include "../tests/editions.h"
-#include "../tests/reference.h"
+#include "plain_converters.h"
 
 #include <float.h>
 #include <stdio.h>
@@ -163,10 +163,10 @@ static void prepare_forms(struct workload *workload)
         uint8_t back[TABLES_TERM_CELLS * CELL_BYTES];
         size_t room = sizeof form->byte;
         uint32_t tokens = tables_compact(term->byte, term->length, form->byte, room, EDITION);
-        uint32_t same = reference_compact(term->byte, term->length, form->byte, room, EDITION);
+        uint32_t same = plain_compact(term->byte, term->length, form->byte, room, EDITION);
         form->length = (size_t)tokens * CELL_BYTES;
         uint32_t cells = tables_expand(form->byte, form->length, back, sizeof back, EDITION);
-        uint32_t same_cells = reference_expand(form->byte, form->length, back, sizeof back, EDITION);
+        uint32_t same_cells = plain_expand(form->byte, form->length, back, sizeof back, EDITION);
         if (tokens != same || tables_converter_refused_by(tokens) != 0 || cells != same_cells ||
             cells * CELL_BYTES != term->length) {
             fprintf(stderr, "%s: the two sides disagree\n", workload->name);
@@ -284,17 +284,17 @@ int main(int argc, char **argv)
         perror(argv[1]);
         return 1;
     }
-    const char *exported = argc > 3 ? argv[2] : "exported", *other = argc > 3 ? argv[3] : "reference";
+    const char *exported = argc > 3 ? argv[2] : "exported", *other = argc > 3 ? argv[3] : "plain";
     prepare_workloads();
     printf("%-8s  %-20s  %9s  %9s  %6s  of best\n", "", "ns per call", exported, other, "ratio");
     if (tsv != NULL)
         fprintf(tsv, "converter\tinput\t%s ns\t%s ns\tratio\tratio of best\n", exported, other);
     for (int i = 0; i < WORKLOADS; i++)
         report(tsv, "compact", workloads[i].name,
-               time_both(tables_compact, reference_compact, workloads[i].term, workloads[i].count));
+               time_both(tables_compact, plain_compact, workloads[i].term, workloads[i].count));
     for (int i = 0; i < WORKLOADS; i++)
         report(tsv, "expand", workloads[i].name,
-               time_both(tables_expand, reference_expand, workloads[i].form, workloads[i].count));
+               time_both(tables_expand, plain_expand, workloads[i].form, workloads[i].count));
     if (tsv != NULL && fclose(tsv) != 0) {
         perror(argv[1]);
         return 1;

@@ -1,401 +1,319 @@
-/* The reference converters: a term reader and a list reader that call each other. */
+/*
+ * The reference converters. Cells are read into a tree, and forms are written from it by their definitions. A form is
+ * legal if the tree that it is read into, whatever it is, has that very form.
+ */
 #include "reference.h"
 
 #include <stdbool.h>
 #include <string.h>
 
-/* Kinds of cells. */
-enum { VARIABLE = 1, ATOM = 2, INTEGER = 3, FUNCTOR = 4 };
+enum { VARIABLE = 1, ATOM, INTEGER, FUNCTOR, PAIR, BLIST, ELIST, EPAIR };
 
-static const uint32_t empty_list = 0x20000000u;
-static const uint32_t pair_cell = 0x50000000u;
-static const uint32_t blist_token = 0x60000000u;
-static const uint32_t elist_token = 0x70000000u;
-static const uint32_t epair_token = 0x80000000u;
+enum { WRONG_EDITION = 1, NO_TERM = 3, LONG = 4, MANY_VARIABLES = 5, NO_ROOM = 12, NO_FORM = 13 };
 
-/* Refusals of the two converters. */
-enum {
-    BAD_EDITION = 1,
-    BAD_TERM = 3,
-    TOO_LONG = 4,
-    TOO_MANY_VARIABLES = 5,
-    OUT_TOO_SHORT = 12,
-    BAD_FORM = 13
+/* Enough nodes for what is read: no token gives more than two, and a term that is read has a cell for each. */
+enum { NODES = 2 * REFERENCE_FORM_TOKENS, NOTHING = -1 };
+
+#define MARK(kind) ((uint32_t)(kind) << 28)
+
+/* Trees */
+
+struct node {
+    uint32_t cell;
+    int argument; /* the first of its terms, or NOTHING; a pair has two */
+    int next;     /* the term behind it among those of the same cell, or NOTHING */
 };
 
-enum { CELL_BYTES = 4 };
-
-static inline uint32_t kind(uint32_t cell)
-{
-    return cell >> 28;
-}
-
-static inline uint32_t payload(uint32_t cell)
-{
-    return cell & 0x0fffffffu;
-}
-
-static inline bool is_edition(uint32_t edition)
-{
-    return edition == 1 || edition == 2;
-}
-
-/* The arity is the low 4 bits of a functor in edition 1, the low 8 in edition 2. */
-static inline uint32_t arity(uint32_t functor, uint32_t edition)
-{
-    return functor & (edition == 1 ? 15 : 255);
-}
-
-static inline bool is_constant(uint32_t cell)
-{
-    return kind(cell) == ATOM || kind(cell) == INTEGER;
-}
-
-/* Cells as bytes */
-
-static inline uint32_t load_cell(const uint8_t *bytes)
-{
-    return (uint32_t)bytes[0] | (uint32_t)bytes[1] << 8 | (uint32_t)bytes[2] << 16 |
-           (uint32_t)bytes[3] << 24;
-}
-
-static void store_cells(uint8_t *bytes, const uint32_t *cells, size_t count)
-{
-#if defined(__BYTE_ORDER__) && __BYTE_ORDER__ == __ORDER_LITTLE_ENDIAN__
-    memcpy(bytes, cells, count * CELL_BYTES);
-#else
-    for (size_t i = 0; i < count; i++)
-        for (int j = 0; j < CELL_BYTES; j++)
-            *bytes++ = (uint8_t)(cells[i] >> 8 * j);
-#endif
-}
-
-/* Where a reader reads and writes next; in is NULL once the input has been found wrong. */
-struct cursor {
-    const uint8_t *in;
-    uint32_t *out;
+struct reading {
+    const uint32_t *cells;
+    size_t count, at;
+    uint32_t edition;
+    int nodes;
+    struct node node[NODES];
 };
 
-static const struct cursor wrong = {NULL, NULL};
+static void begin_reading(struct reading *r, const uint32_t *cells, size_t count, uint32_t edition)
+{
+    r->cells = cells;
+    r->count = count;
+    r->at = 0;
+    r->edition = edition;
+    r->nodes = 0;
+}
+
+static int make_node(struct reading *r, uint32_t cell)
+{
+    r->node[r->nodes] = (struct node){cell, NOTHING, NOTHING};
+    return r->nodes++;
+}
+
+/* How many terms follow a cell of pair form in its term; NOTHING if it is none of pair form. */
+static int arguments(uint32_t cell, uint32_t edition)
+{
+    uint32_t payload = cell % MARK(1);
+    switch (cell / MARK(1)) {
+    case VARIABLE:
+    case ATOM:
+    case INTEGER:
+        return 0;
+    case FUNCTOR: {
+        int arity = (int)(payload % (edition == 1 ? 16 : 256));
+        return arity > 0 ? arity : NOTHING;
+    }
+    case PAIR:
+        return payload == 0 ? 2 : NOTHING;
+    default:
+        return NOTHING;
+    }
+}
+
+/* A term that begins with this cell, each argument read by `read`. */
+static int read_arguments(struct reading *r, uint32_t cell, int (*read)(struct reading *))
+{
+    int left = arguments(cell, r->edition), term, last = NOTHING;
+    if (left == NOTHING)
+        return NOTHING;
+    term = make_node(r, cell);
+    while (left-- > 0) {
+        int argument = read(r);
+        if (argument == NOTHING)
+            return NOTHING;
+        if (last == NOTHING)
+            r->node[term].argument = argument;
+        else
+            r->node[last].next = argument;
+        last = argument;
+    }
+    return term;
+}
+
+static int read_pair_form(struct reading *r)
+{
+    return r->at < r->count ? read_arguments(r, r->cells[r->at++], read_pair_form) : NOTHING;
+}
+
+static int read_compact_form(struct reading *r);
+
+/* The list behind BLIST. What ends it is taken as it comes: whether it may is told by the form that the tree has. */
+static int read_elements(struct reading *r)
+{
+    int first = NOTHING, open = NOTHING; /* the pair whose tail is still to come */
+    for (;;) {
+        if (r->at == r->count)
+            return NOTHING;
+        uint32_t mark = r->cells[r->at];
+        bool is_tail = mark == MARK(EPAIR), is_last = mark == MARK(ELIST);
+        r->at += is_tail || is_last;
+        int term = read_compact_form(r);
+        if (term == NOTHING)
+            return NOTHING;
+        if (!is_tail) {
+            int pair = make_node(r, MARK(PAIR));
+            r->node[pair].argument = term;
+            if (open != NOTHING)
+                r->node[r->node[open].argument].next = pair;
+            first = first == NOTHING ? pair : first;
+            open = pair;
+            if (!is_last)
+                continue;
+            term = make_node(r, MARK(ATOM));
+        }
+        if (open == NOTHING)
+            return term;
+        r->node[r->node[open].argument].next = term;
+        return first;
+    }
+}
+
+static int read_compact_form(struct reading *r)
+{
+    if (r->at == r->count)
+        return NOTHING;
+    uint32_t token = r->cells[r->at++];
+    if (token == MARK(BLIST))
+        return read_elements(r);
+    return token == MARK(PAIR) ? NOTHING : read_arguments(r, token, read_compact_form);
+}
+
+/* Forms */
+
+/* Cells as they are written; those beyond the limit are counted, and not kept. */
+struct writing {
+    uint32_t *cells;
+    size_t count, limit;
+};
+
+static void put(struct writing *w, uint32_t cell)
+{
+    if (w->count < w->limit)
+        w->cells[w->count] = cell;
+    w->count++;
+}
+
+static void write_pair_form(const struct reading *r, int term, struct writing *w)
+{
+    put(w, r->node[term].cell);
+    for (int i = r->node[term].argument; i != NOTHING; i = r->node[i].next)
+        write_pair_form(r, i, w);
+}
+
+/* e1 to en ending in []: BLIST, e1 to e(n-1), ELIST, en; ending in t: BLIST, e1 to en, EPAIR, t. */
+static void write_compact_form(const struct reading *r, int term, struct writing *w)
+{
+    const struct node *node = r->node;
+    if (node[term].cell != MARK(PAIR)) {
+        put(w, node[term].cell);
+        for (int i = node[term].argument; i != NOTHING; i = node[i].next)
+            write_compact_form(r, i, w);
+        return;
+    }
+    put(w, MARK(BLIST));
+    while (node[term].cell == MARK(PAIR)) {
+        int element = node[term].argument;
+        term = node[element].next;
+        if (node[term].cell == MARK(ATOM))
+            put(w, MARK(ELIST));
+        write_compact_form(r, element, w);
+    }
+    if (node[term].cell != MARK(ATOM)) {
+        put(w, MARK(EPAIR));
+        write_compact_form(r, term, w);
+    }
+}
+
+/* Numbers */
+
+/* Numbers variables by first meeting and gives how many there are. */
+static size_t number_variables(uint32_t *cells, size_t count)
+{
+    uint32_t met[REFERENCE_FORM_TOKENS];
+    size_t variables = 0;
+    for (size_t i = 0; i < count; i++) {
+        size_t rank = 0;
+        if (cells[i] / MARK(1) != VARIABLE)
+            continue;
+        while (rank < variables && met[rank] != cells[i])
+            rank++;
+        met[rank] = cells[i];
+        variables += rank == variables;
+        cells[i] = MARK(VARIABLE) + (uint32_t)rank;
+    }
+    return variables;
+}
+
+void reference_number(uint32_t *cells, size_t count)
+{
+    (void)number_variables(cells, count);
+}
+
+/* The converters */
 
 static struct reference_result refuse(uint32_t refusal)
 {
     return (struct reference_result){refusal, 0};
 }
 
-/* Hands over the cells if they fit. */
-static struct reference_result deliver(const uint32_t *cells, size_t count, uint8_t *out,
-                                       size_t room)
+static struct reference_result hand_over(const struct writing *w, uint32_t *out, size_t room)
 {
-    if (count > room)
-        return (struct reference_result){OUT_TOO_SHORT, (uint32_t)count};
-    store_cells(out, cells, count);
-    return (struct reference_result){0, (uint32_t)count};
+    if (w->count > room)
+        return (struct reference_result){NO_ROOM, (uint32_t)w->count};
+    memcpy(out, w->cells, w->count * sizeof *out);
+    return (struct reference_result){0, (uint32_t)w->count};
 }
 
-/* Compacting */
-
-/*
- * A term while it is compacted. The tokens are at most the cells read and one
- * for each EPAIR. An EPAIR belongs to a pair and to the cell that begins the
- * tail, and the first EPAIR comes after an element, so 256 cells, legal or
- * not, give at most 127 of them.
- */
-struct compaction {
-    const uint8_t *end; /* of the input */
-    uint32_t edition;   /* 1 or 2 */
-    bool too_many;      /* a 33rd variable was met */
-    size_t variables;   /* distinct variables met, at most 32 */
-    uint32_t names[REFERENCE_VARIABLES];
-    uint32_t tokens[REFERENCE_FORM_TOKENS];
-};
-
-/* The numbered token of a variable. */
-static uint32_t number_variable(struct compaction *c, uint32_t variable)
+struct reference_result reference_compact_cells(const uint32_t *in, size_t count, uint32_t *out,
+                                                size_t room, uint32_t edition)
 {
-    size_t rank = 0;
-    while (rank < c->variables && c->names[rank] != variable)
-        rank++;
-    if (rank == REFERENCE_VARIABLES)
-        c->too_many = true;
-    else if (rank == c->variables)
-        c->names[c->variables++] = variable;
-    return (uint32_t)VARIABLE << 28 | (uint32_t)rank;
-}
-
-static struct cursor compact_list(struct compaction *c, struct cursor at);
-
-/* Reads one term. */
-static struct cursor compact_term(struct compaction *c, struct cursor at)
-{
-    size_t due = 1;
-    do {
-        if (at.in == c->end)
-            return wrong;
-        uint32_t cell = load_cell(at.in);
-        at.in += CELL_BYTES;
-        if (is_constant(cell)) {
-            *at.out++ = cell;
-        } else if (kind(cell) == VARIABLE) {
-            *at.out++ = number_variable(c, cell);
-        } else if (kind(cell) == FUNCTOR && arity(cell, c->edition) > 0) {
-            *at.out++ = cell;
-            due += arity(cell, c->edition);
-        } else {
-            if (cell != pair_cell)
-                return wrong;
-            at = compact_list(c, at);
-            if (at.in == NULL)
-                return wrong;
-        }
-    } while (--due > 0);
-    return at;
-}
-
-/* Reads one element of a list: a constant at once, anything else as a term. */
-static inline struct cursor compact_element(struct compaction *c, struct cursor at)
-{
-    if (at.in == c->end || !is_constant(load_cell(at.in)))
-        return compact_term(c, at);
-    *at.out++ = load_cell(at.in);
-    at.in += CELL_BYTES;
-    return at;
-}
-
-/* Reads a list whose first pair has been read. */
-static struct cursor compact_list(struct compaction *c, struct cursor at)
-{
-    uint32_t *element;
-    uint32_t tail;
-    *at.out++ = blist_token;
-    for (;;) {
-        element = at.out;
-        at = compact_element(c, at);
-        if (at.in == NULL || at.in == c->end)
-            return wrong;
-        tail = load_cell(at.in);
-        if (tail != pair_cell)
-            break;
-        at.in += CELL_BYTES;
-    }
-    if (tail != empty_list) {
-        *at.out++ = epair_token;
-        return compact_term(c, at);
-    }
-    memmove(element + 1, element, (size_t)(at.out - element) * sizeof *element);
-    *element = elist_token;
-    at.in += CELL_BYTES;
-    at.out++;
-    return at;
-}
-
-static struct reference_result compact(const uint8_t *in, size_t count, uint8_t *out, size_t room,
-                                       uint32_t edition)
-{
-    struct compaction c;
+    uint32_t numbered[REFERENCE_TERM_CELLS], tokens[REFERENCE_FORM_TOKENS];
+    struct reading r;
+    struct writing w = {tokens, 0, REFERENCE_FORM_TOKENS};
+    if (edition != 1 && edition != 2)
+        return refuse(WRONG_EDITION);
     if (count > REFERENCE_TERM_CELLS)
-        return refuse(TOO_LONG);
-    if (count == 0)
-        return refuse(BAD_TERM);
-    c.end = in + count * CELL_BYTES;
-    c.edition = edition;
-    c.too_many = false;
-    c.variables = 0;
-    struct cursor at = compact_term(&c, (struct cursor){in, c.tokens});
-    if (at.in != c.end)
-        return refuse(BAD_TERM);
-    if (c.too_many)
-        return refuse(TOO_MANY_VARIABLES);
-    return deliver(c.tokens, (size_t)(at.out - c.tokens), out, room);
+        return refuse(LONG);
+    for (size_t i = 0; i < count; i++)
+        numbered[i] = in[i];
+    size_t variables = number_variables(numbered, count);
+    begin_reading(&r, numbered, count, edition);
+    int term = read_pair_form(&r);
+    if (term == NOTHING || r.at != count)
+        return refuse(NO_TERM);
+    if (variables > REFERENCE_VARIABLES)
+        return refuse(MANY_VARIABLES);
+    write_compact_form(&r, term, &w);
+    return hand_over(&w, out, room);
 }
 
-/* Expanding */
-
-/*
- * A compact form while it is expanded. No token gives more than two cells, so
- * the cells have room for all that 383 tokens give; whether they are too many
- * for a term is judged at the end.
- */
-struct expansion {
-    const uint8_t *end;    /* of the input */
-    uint32_t edition;      /* 1 or 2 */
-    const uint32_t *limit; /* where the 257th cell stands */
-    uint32_t variables;    /* distinct variables met, at most 32 */
-    uint32_t cells[2 * REFERENCE_FORM_TOKENS];
-};
-
-static struct cursor expand_list(struct expansion *e, struct cursor at);
-
-/* Reads one term in compact form. */
-static struct cursor expand_term(struct expansion *e, struct cursor at)
+/* Is this the form of the term, with variables numbered by first meeting, and no more than there may be? */
+static bool has_form(const struct reading *r, int term)
 {
-    size_t due = 1;
-    do {
-        if (at.in == e->end)
-            return wrong;
-        uint32_t token = load_cell(at.in);
-        at.in += CELL_BYTES;
-        if (is_constant(token)) {
-            *at.out++ = token;
-        } else if (kind(token) == VARIABLE) {
-            if (payload(token) > e->variables || payload(token) >= REFERENCE_VARIABLES)
-                return wrong;
-            e->variables += payload(token) == e->variables;
-            *at.out++ = token;
-        } else if (kind(token) == FUNCTOR && arity(token, e->edition) > 0) {
-            *at.out++ = token;
-            due += arity(token, e->edition);
-        } else {
-            if (token != blist_token)
-                return wrong;
-            at = expand_list(e, at);
-            if (at.in == NULL)
-                return wrong;
-        }
-    } while (--due > 0);
-    return at;
+    uint32_t tokens[REFERENCE_FORM_TOKENS];
+    struct writing w = {tokens, 0, REFERENCE_FORM_TOKENS};
+    write_compact_form(r, term, &w);
+    if (w.count != r->count || memcmp(tokens, r->cells, w.count * sizeof *tokens) != 0)
+        return false;
+    size_t variables = number_variables(tokens, w.count);
+    return variables <= REFERENCE_VARIABLES &&
+           memcmp(tokens, r->cells, w.count * sizeof *tokens) == 0;
 }
 
-/* Reads what follows ELIST: the last element. */
-static struct cursor expand_last(struct expansion *e, struct cursor at)
+struct reference_result reference_expand_cells(const uint32_t *in, size_t count, uint32_t *out,
+                                               size_t room, uint32_t edition)
 {
-    *at.out++ = pair_cell;
-    at = expand_term(e, at);
-    if (at.in != NULL)
-        *at.out++ = empty_list;
-    return at;
-}
-
-/* Reads what follows EPAIR: a term that is neither [] nor a list. */
-static struct cursor expand_tail(struct expansion *e, struct cursor at)
-{
-    if (at.in == e->end || load_cell(at.in) == empty_list || load_cell(at.in) == blist_token)
-        return wrong;
-    return expand_term(e, at);
-}
-
-/* Reads a list whose BLIST has been read; constants among its elements at once. */
-static struct cursor expand_list(struct expansion *e, struct cursor at)
-{
-    const uint8_t *first = at.in;
-    while (at.in != NULL && at.in != e->end) {
-        uint32_t token = load_cell(at.in);
-        if (is_constant(token)) {
-            *at.out++ = pair_cell;
-            *at.out++ = token;
-            at.in += CELL_BYTES;
-        } else if (token == elist_token) {
-            at.in += CELL_BYTES;
-            return expand_last(e, at);
-        } else if (token == epair_token && at.in != first) {
-            at.in += CELL_BYTES;
-            return expand_tail(e, at);
-        } else {
-            *at.out++ = pair_cell;
-            at = expand_term(e, at);
-        }
-    }
-    return wrong;
-}
-
-static struct reference_result expand(const uint8_t *in, size_t count, uint8_t *out, size_t room,
-                                      uint32_t edition)
-{
-    struct expansion e;
-    if (count == 0 || count > REFERENCE_FORM_TOKENS)
-        return refuse(BAD_FORM);
-    e.end = in + count * CELL_BYTES;
-    e.edition = edition;
-    e.limit = e.cells + REFERENCE_TERM_CELLS;
-    e.variables = 0;
-    struct cursor at = expand_term(&e, (struct cursor){in, e.cells});
-    if (at.in != e.end || at.out > e.limit)
-        return refuse(BAD_FORM);
-    return deliver(e.cells, (size_t)(at.out - e.cells), out, room);
+    uint32_t cells[REFERENCE_TERM_CELLS];
+    struct reading r;
+    struct writing w = {cells, 0, REFERENCE_TERM_CELLS};
+    if (edition != 1 && edition != 2)
+        return refuse(WRONG_EDITION);
+    if (count > REFERENCE_FORM_TOKENS)
+        return refuse(NO_FORM);
+    begin_reading(&r, in, count, edition);
+    int term = read_compact_form(&r);
+    if (term == NOTHING || r.at != count || !has_form(&r, term))
+        return refuse(NO_FORM);
+    write_pair_form(&r, term, &w);
+    return w.count > REFERENCE_TERM_CELLS ? refuse(NO_FORM) : hand_over(&w, out, room);
 }
 
 /* Over bytes */
 
-/* The result as the exports give it. */
-static uint32_t result_word(struct reference_result result)
+typedef struct reference_result converter(const uint32_t *, size_t, uint32_t *, size_t, uint32_t);
+
+/* Converts bytes; what has more cells than any form is refused as `too_long`. */
+static uint32_t convert_bytes(converter *convert, uint32_t too_long, const uint8_t *in,
+                              size_t in_bytes, uint8_t *out, size_t out_bytes, uint32_t edition)
 {
-    return result.refusal == 0 ? result.cells : 0x80000000u + result.refusal;
+    uint32_t cells[REFERENCE_FORM_TOKENS], result[REFERENCE_FORM_TOKENS];
+    struct reference_result answer;
+    if (edition != 1 && edition != 2)
+        answer = refuse(WRONG_EDITION);
+    else if (in_bytes % 4 != 0)
+        answer = refuse(NO_TERM);
+    else if (in_bytes / 4 > REFERENCE_FORM_TOKENS)
+        answer = refuse(too_long);
+    else {
+        for (size_t i = 0; i < in_bytes / 4; i++)
+            cells[i] = in[4 * i] + in[4 * i + 1] * UINT32_C(0x100) +
+                       in[4 * i + 2] * UINT32_C(0x10000) + in[4 * i + 3] * UINT32_C(0x1000000);
+        size_t room = out_bytes / 4;
+        answer = convert(cells, in_bytes / 4, result,
+                         room < REFERENCE_FORM_TOKENS ? room : REFERENCE_FORM_TOKENS, edition);
+    }
+    if (answer.refusal != 0)
+        return UINT32_C(0x80000000) + answer.refusal;
+    for (size_t i = 0; i < 4 * (size_t)answer.cells; i++)
+        out[i] = (uint8_t)(result[i / 4] >> 8 * (i % 4));
+    return answer.cells;
 }
 
 uint32_t reference_compact(const uint8_t *in, size_t in_bytes, uint8_t *out, size_t out_bytes,
                            uint32_t edition)
 {
-    if (!is_edition(edition))
-        return result_word(refuse(BAD_EDITION));
-    if (in_bytes % CELL_BYTES != 0)
-        return result_word(refuse(BAD_TERM));
-    return result_word(compact(in, in_bytes / CELL_BYTES, out, out_bytes / CELL_BYTES, edition));
+    return convert_bytes(reference_compact_cells, LONG, in, in_bytes, out, out_bytes, edition);
 }
 
 uint32_t reference_expand(const uint8_t *in, size_t in_bytes, uint8_t *out, size_t out_bytes,
                           uint32_t edition)
 {
-    if (!is_edition(edition))
-        return result_word(refuse(BAD_EDITION));
-    if (in_bytes % CELL_BYTES != 0)
-        return result_word(refuse(BAD_TERM));
-    return result_word(expand(in, in_bytes / CELL_BYTES, out, out_bytes / CELL_BYTES, edition));
-}
-
-/* Over native cells */
-
-typedef struct reference_result converter(const uint8_t *, size_t, uint8_t *, size_t, uint32_t);
-
-/* Converts cells through bytes; in has at most 383 cells. */
-static struct reference_result convert_cells(converter *convert, const uint32_t *in, size_t count,
-                                             uint32_t *out, size_t room, uint32_t edition)
-{
-    uint8_t in_bytes[REFERENCE_FORM_TOKENS * CELL_BYTES];
-    uint8_t out_bytes[REFERENCE_FORM_TOKENS * CELL_BYTES];
-    if (room > REFERENCE_FORM_TOKENS)
-        room = REFERENCE_FORM_TOKENS;
-    if (count > 0)
-        store_cells(in_bytes, in, count);
-    struct reference_result result = convert(in_bytes, count, out_bytes, room, edition);
-    for (size_t i = 0; result.refusal == 0 && i < result.cells; i++)
-        out[i] = load_cell(out_bytes + i * CELL_BYTES);
-    return result;
-}
-
-struct reference_result reference_compact_cells(const uint32_t *in, size_t count,
-                                                uint32_t *out, size_t room, uint32_t edition)
-{
-    if (!is_edition(edition))
-        return refuse(BAD_EDITION);
-    if (count > REFERENCE_TERM_CELLS)
-        return refuse(TOO_LONG);
-    return convert_cells(compact, in, count, out, room, edition);
-}
-
-struct reference_result reference_expand_cells(const uint32_t *in, size_t count,
-                                               uint32_t *out, size_t room, uint32_t edition)
-{
-    if (!is_edition(edition))
-        return refuse(BAD_EDITION);
-    if (count > REFERENCE_FORM_TOKENS)
-        return refuse(BAD_FORM);
-    return convert_cells(expand, in, count, out, room, edition);
-}
-
-/* Numbered form */
-
-void reference_number(uint32_t *cells, size_t count)
-{
-    uint32_t names[REFERENCE_TERM_CELLS];
-    size_t variables = 0;
-    for (size_t i = 0; i < count; i++) {
-        if (kind(cells[i]) != VARIABLE)
-            continue;
-        size_t rank = 0;
-        while (rank < variables && names[rank] != cells[i])
-            rank++;
-        if (rank == variables)
-            names[variables++] = cells[i];
-        cells[i] = (uint32_t)VARIABLE << 28 | (uint32_t)rank;
-    }
+    return convert_bytes(reference_expand_cells, NO_FORM, in, in_bytes, out, out_bytes, edition);
 }

@@ -1,4 +1,4 @@
-/* The reference converters: a second implementation for the tests, and the benchmark's baseline. */
+/* The reference converters: a second implementation for the tests, over trees of terms. */
 #ifndef REFERENCE_H
 #define REFERENCE_H
 
