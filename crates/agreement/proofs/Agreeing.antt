@@ -33,20 +33,20 @@ use Rattle.agreement.proofs.SameRecords.{later, stateCell, LastSame, no
 -- what the plain table gives and the decision on a view agree, out being lent
 pub record Agrees (c : Coding) (v : View) (out : List ℕ) (r : Result Table) (d : Decision) : Type 0 where
   pub fits : Fits v d
-  pub replies : reply v d (length out) ≡ r .reply
+  pub replies : (after : ℕ) → reply v d (length out) after ≡ r .reply
   pub leaves : outAfter d out ≡ r .out
   pub same : Same c (r .state) (changedView v d)
 
 module _ (c : Coding) (t : Table) (v : View) (S : Same c t v) where
   pub agrees-says : (out : List ℕ) (x : Reply) → Agrees c v out (stays t out x) (says x)
   unfolding reply outAfter changedView
-  agrees-says out x = record { fits = says-fits x; replies = refl; leaves = refl; same = S }
+  agrees-says out x = record { fits = says-fits x; replies = λ after. refl; leaves = refl; same = S }
 
   pub agrees-gives : (ks out : List ℕ) → Agrees c v out (writes t ks out) (gives ks)
   unfolding reply outAfter changedView writes
   agrees-gives ks out = by-cases (leb (length ks) (length out))
-      (λ e. rw e (record { fits = gives-fits ks; replies = rw e; leaves = rw e; same = S }))
-      (λ e. rw e (record { fits = gives-fits ks; replies = rw e; leaves = rw e; same = S }))
+      (λ e. rw e (record { fits = gives-fits ks; replies = λ after. rw e; leaves = rw e; same = S }))
+      (λ e. rw e (record { fits = gives-fits ks; replies = λ after. rw e; leaves = rw e; same = S }))
 
   -- both sides test a number alike
   pub agrees-known : (out : List ℕ) (n k s : ℕ) (r : Result Table) (d : Decision) → k ≡ n → (0 < s → s ≤ n → Agrees c v out r d)
@@ -205,7 +205,7 @@ module _ (c : Coding) (laws : CodingLaws c) (t : Table) (v : View) (S : Same c t
   finish-agrees s = agrees-known c t v S [] (length (t .subgoals)) (v .subgoals) s _ _ (S .subgoals) (λ low high.
       rw (subgoal-judged c laws t v S s low high) (record {
         fits = finish-fits s low (omega (arith, S .subgoals));
-        replies = unfold reply in refl;
+        replies = λ after. unfold reply in refl;
         leaves = unfold outAfter in refl;
         same = same-finished c t v S s low high;
       }))

@@ -242,7 +242,7 @@ module _ (c : Coding) (laws : CodingLaws c) (t : Table) (v : View) (S : Same c t
       (agrees-says c t v S [] (oldAnswer b))
 
   -- a form that the walk finds whole is there, unless it is empty
-  answered-held : (a : ℕ) (w : Word) (m : ℕ) (ks : List ℕ) → c .answered (subgoalAt t s .m) ks ≡ accepted (a ∷ w) m → (j : ℕ) → j < v .nodes → key (prefixes (S .es)) j ≡ s ∷ a ∷ w
+  pub answered-held : (a : ℕ) (w : Word) (m : ℕ) (ks : List ℕ) → c .answered (subgoalAt t s .m) ks ≡ accepted (a ∷ w) m → (j : ℕ) → j < v .nodes → key (prefixes (S .es)) j ≡ s ∷ a ∷ w
       → has (answersTo (t .answers) s) (a ∷ w) ≡ true
   answered-held a w m ks e j h k =
       let begun : begins (answersTo (t .answers) s) (a ∷ w) ≡ true =
@@ -290,7 +290,7 @@ module _ (c : Coding) (laws : CodingLaws c) (t : Table) (v : View) (S : Same c t
     unfolding reply outAfter changedView
     empty-entered = record {
       fits = empty-fits s low (omega (arith, S .subgoals)) last-in (S .subgoal s low high .root-in) (omega (arith, e .free, S .answers, S .A-same));
-      replies = ap new (next-number c t v S s low high []);
+      replies = λ after. ap new (next-number c t v S s low high []);
       leaves = refl;
       same = same-empty;
     }
@@ -322,7 +322,7 @@ module _ (c : Coding) (laws : CodingLaws c) (t : Table) (v : View) (S : Same c t
     tries-more : Tries (prefixes (S .es ++ ((s ∷ w) ∷ []))) (linking (withPath (v .node) (v .nodes) q l (a ∷ u)) last (v .answers + 1)) (v .nodes + length (a ∷ u))
     tries-more = tries-leaf (S .es) (v .node) (v .nodes) s (v .subgoal s .root) q l a u w (S .tries) there root-key inside st path rest (v .answers + 1)
 
-    nodes-more : nodes (withAnswer t s w) ≡ v .nodes + length (a ∷ u)
+    pub nodes-more : nodes (withAnswer t s w) ≡ v .nodes + length (a ∷ u)
     nodes-more = sym (nodes-answer t (S .es) s w (S .forest) low high) ∙ tries-more .keys
 
     path-entered : AnswerEnters c t s w → Agrees c v [] (becomes (withAnswer t s w) (new (suc (length (t .answers))))) (entersAnswer s q l (a ∷ u))
@@ -330,7 +330,7 @@ module _ (c : Coding) (laws : CodingLaws c) (t : Table) (v : View) (S : Same c t
     path-entered e = record {
       fits = answer-fits s q l (a ∷ u) low (omega (arith, S .subgoals)) last-in inside (stop-inside (v .node) (v .nodes) q l inside st) (omega arith)
           (omega (arith, nodes-more, e .room, S .N-same)) (omega (arith, e .free, S .answers, S .A-same));
-      replies = ap new (next-number c t v S s low high w);
+      replies = λ after. ap new (next-number c t v S s low high w);
       leaves = refl;
       same = same-answered c t v S s low high w (withPath (v .node) (v .nodes) q l (a ∷ u)) (v .nodes + length (a ∷ u)) last (omega arith) (omega arith)
           (leaf-key (S .es) (v .node) (v .nodes) s (v .subgoal s .root) q l a u w (S .tries) there root-key inside st path rest) e tries-more

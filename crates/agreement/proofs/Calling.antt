@@ -186,7 +186,7 @@ module _ (c : Coding) (laws : CodingLaws c) (t : Table) (v : View) (S : Same c t
   unfolding reply outAfter
   called-entered e = record {
     fits = subgoal-fits q l (a ∷ u) m inside (stop-inside (v .node) (v .nodes) q l inside st) (omega arith) (omega (arith, nodes-grown, e .room, S .N-same)) (omega (arith, e .free, S .subgoals, S .F-same));
-    replies = ap new next-number;
+    replies = λ after. ap new next-number;
     leaves = refl;
     same = same-called e;
   }

@@ -10,10 +10,17 @@ pub mod SameRecords
 pub mod Agreeing
 pub mod Calling
 pub mod Answering
+pub mod Holding
+pub mod ChainSteps
+pub mod Chains
+pub mod SameBut
+pub mod Giving
+pub mod Joining
 pub mod Steps
 pub mod CallLists
 pub mod Following
 pub mod Untouched
 pub mod Theorem
+pub mod Frame
 pub mod Hollow
 pub mod Histories

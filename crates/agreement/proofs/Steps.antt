@@ -1,33 +1,35 @@
--- One call on the same records: it fits, answers as the plain table does, and leaves the same records.
+-- One call on cells that hold the table: it answers as the plain table does, and leaves cells that hold the table it leaves.
+use mathlib.Core.List.{List}
 use mathlib.Core.Path.{_≡_}
-use lib.ListN.{length}
+use Prim.Native.Nat.{ℕ}
 use Rattle.plain.specs.Coding.{Coding}
 use Rattle.plain.specs.CodingLaws.{CodingLaws}
-use Rattle.plain.specs.Requests.{Request, call, answer, finish, next, load, instance, counts, lent}
+use Rattle.plain.specs.Requests.{Request, call, answer, finish, next, load, instance, counts, join, lent}
 use Rattle.plain.specs.Table.{Table, step}
-use Rattle.store.specs.Views.{View}
+use Rattle.space.specs.Layout.{Sizes}
+use Rattle.space.specs.Heading.{headerOf}
+use Rattle.space.specs.declared.Head.{Head}
+use Rattle.space.specs.declared.Header.the-variants as header
+use Rattle.store.specs.Views.{View, viewOf}
 use Rattle.store.specs.Decisions.{decide}
-use Rattle.store.specs.Calls.{reply, outAfter}
-use Rattle.agreement.specs.Records.{changedView, Fits}
 use Rattle.agreement.proofs.SameRecords.{Same}
-use Rattle.agreement.proofs.Agreeing.{Agrees, counts-agrees, finish-agrees, next-agrees, load-agrees, instance-agrees}
+use Rattle.agreement.proofs.Agreeing.{counts-agrees, finish-agrees, next-agrees, load-agrees, instance-agrees}
 use Rattle.agreement.proofs.Calling.{call-agrees}
 use Rattle.agreement.proofs.Answering.{answer-agrees}
+use Rattle.agreement.proofs.Holding.{Cells, AnswersAlike, agrees-answers}
+use Rattle.agreement.proofs.Joining.{join-answers}
 
-module _ (c : Coding) (laws : CodingLaws c) (t : Table) (v : View) (S : Same c t v) where
-  pub step-agrees : (q : Request) → Agrees c v (lent q) (step c t q) (decide c v q)
+module _ (z : Sizes) (c : Coding) (cells : Cells z) (laws : CodingLaws c) (t : Table) (cs : List ℕ) (h : Head) (e : headerOf z cs ≡ header.Sound h) (S : Same c t (viewOf z cs h)) where
+  abbrev v : View
+  v = viewOf z cs h
+
+  pub step-answers : (q : Request) → AnswersAlike z c cs h (lent q) (step c t q) (decide c (viewOf z cs h) q)
   unfolding lent
-  step-agrees (call ks) = call-agrees c laws t v S ks
-  step-agrees (answer s ks) = answer-agrees c laws t v S s ks
-  step-agrees (finish s) = finish-agrees c laws t v S s
-  step-agrees (next s a) = next-agrees c laws t v S s a
-  step-agrees (load a out) = load-agrees c laws t v S a out
-  step-agrees (instance a out) = instance-agrees c laws t v S a out
-  step-agrees counts = counts-agrees c laws t v S
-
-  pub same-step : (q : Request)
-      → Fits v (decide c v q)
-      × (reply v (decide c v q) (length (lent q)) ≡ step c t q .reply)
-      × (outAfter (decide c v q) (lent q) ≡ step c t q .out)
-      × Same c (step c t q .state) (changedView v (decide c v q))
-  same-step q = let a = step-agrees q in (a .fits, a .replies, a .leaves, a .same)
+  step-answers (call ks) = agrees-answers z c cells cs h e (call-agrees c laws t v S ks)
+  step-answers (answer s ks) = agrees-answers z c cells cs h e (answer-agrees c laws t v S s ks)
+  step-answers (finish s) = agrees-answers z c cells cs h e (finish-agrees c laws t v S s)
+  step-answers (next s a) = agrees-answers z c cells cs h e (next-agrees c laws t v S s a)
+  step-answers (load a out) = agrees-answers z c cells cs h e (load-agrees c laws t v S a out)
+  step-answers (instance a out) = agrees-answers z c cells cs h e (instance-agrees c laws t v S a out)
+  step-answers counts = agrees-answers z c cells cs h e (counts-agrees c laws t v S)
+  step-answers (join f g ps s ks) = join-answers z c cells laws t cs h e S f g ps s ks

@@ -26,7 +26,7 @@ use Rattle.agreement.specs.Promise.{Agreement, Promise, Marked, Marked2}
 use Rattle.agreement.specs.Consequences.{Untouched, Following, SoundForEver}
 use Rattle.agreement.proofs.CellChanges as cells
 use Rattle.agreement.proofs.FreshView as fresh
-use Rattle.agreement.proofs.CallLists.{Cells}
+use Rattle.agreement.proofs.Holding.{Cells}
 use Rattle.agreement.proofs.CallLists as lists
 use Rattle.agreement.proofs.Following as calls
 use Rattle.agreement.proofs.Untouched as refusals
@@ -44,7 +44,7 @@ agreement z w c laws = lists.agreement z c (cells-hold z w) laws (cellStep z c) 
 
 -- a space with a sound header of edition e is one of edition e to the code
 module _ (e : ℕ) (known : knownEdition e ≡ true) where
-  header-any : (cs : List ℕ) (h : Head) → headerOf (sizesOf e) cs ≡ header.Sound h → (spaceHeader cs ≡ header.Sound h) × (h .edition ≡ e)
+  pub header-any : (cs : List ℕ) (h : Head) → headerOf (sizesOf e) cs ≡ header.Sound h → (spaceHeader cs ≡ header.Sound h) × (h .edition ≡ e)
   unfolding spaceHeader
   header-any cs h s =
       let r = header-read (sizesOf e) cs h s in

@@ -14,7 +14,7 @@ use Rattle.space.specs.declared.Answer.{Answer}
 use Rattle.trie.specs.Append.{newRoot, withPath}
 use Rattle.store.specs.Views.{View}
 use Rattle.store.specs.Changes.{newSubgoal}
-use Rattle.store.specs.Decisions.{Decision, says, gives, entersSubgoal, entersAnswer, entersEmpty, finishes}
+use Rattle.store.specs.Decisions.{Decision, says, gives, entersSubgoal, entersAnswer, entersEmpty, finishes, entersAnswers}
 
 -- a record has at least the cells of edition 1
 pub record Wide (z : Sizes) : Type 0 where
@@ -103,6 +103,7 @@ withNewAnswer v path nodes s leaf =
       answer = updated (pick (eqb before 0) (v .answer) (updated (v .answer) before (withNext (v .answer before) a))) a (record { leaf = leaf; subgoal = s; next = 0 });
     }
 
+-- what a decision that fits makes of them; none that enters answers one after another does: it is taken answer by answer
 unfoldable pub changedView : View → Decision → View
 changedView v (says r) = v
 changedView v (gives ks) = v
@@ -121,6 +122,7 @@ changedView v (finishes s) = record {
   subgoal = updated (v .subgoal) s (withState (v .subgoal s) 1);
   answer = v .answer;
 }
+changedView v (entersAnswers s ws) = v
 
 -- the change stays within the capacities, and changes records that are there
 pub data Fits (v : View) : Decision → Type 0 where

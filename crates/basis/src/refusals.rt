@@ -26,3 +26,10 @@ pub const RECORDS_LEFT: u32 = 11;
 pub const OUT: u32 = 12;
 // No legal compact form.
 pub const FORM: u32 = 13;
+// A source of a join is open.
+pub const SOURCE_OPEN: u32 = 14;
+// An answer of a join's source holds a variable.
+pub const SOURCE_VARIABLE: u32 = 15;
+// A variable or side that a join names is out of range, its pairs are too many, or its copies are not one for each
+// variable of the target.
+pub const NAMES: u32 = 16;

@@ -1,9 +1,9 @@
 -- What a call may leave, case by case; what it changes, and that a refused one changes nothing.
 use mathlib.Core.Path.{_≡_, refl, subst}
 use mathlib.Core.Bool.{Bool, true, false}
-use mathlib.Core.List.{List, [], _++_}
+use mathlib.Core.List.{List, [], _∷_, _++_, map}
 use mathlib.Core.Logic.{_⊎_, inl, inr}
-use Prim.Native.Nat.{ℕ, suc, _≤_, _<_}
+use Prim.Native.Nat.{ℕ, suc, _-_, _≤_, _<_}
 use native.Mathlib.Omega.{arith}
 use lib.Dec.{eqb, leb, ltb}
 use lib.ListN.{length, drop}
@@ -13,10 +13,13 @@ use Rattle.basis.proofs.Cases.{by-cases}
 use Rattle.plain.specs.Words.{Word, has}
 use Rattle.plain.specs.Coding.{Coding, Reading, refused, accepted}
 use Rattle.plain.specs.CodingLaws.{CodingLaws}
-use Rattle.plain.specs.Requests.{State, Open, Finished, Request, call, answer, finish, next, load, instance, counts, new, oldSubgoal, oldAnswer, cells, refused, short, Result, lent}
-use Rattle.plain.specs.Table.{Table, subgoalAt, answerAt, subgoalOfAnswer, calledForms, answersTo, nodes, subgoalOf, answerOf, following, withSubgoal, withAnswer, withFinished, stays, becomes, known, fits, appended, called, answered, whileOpen, starting, onward, writes, step}
-use Rattle.plain.specs.Consequences.{RefusedBy, Refusing, RefusingBy}
+use Rattle.plain.specs.Requests.{State, Open, Finished, Request, call, answer, finish, next, load, instance, counts, join, new, oldSubgoal, oldAnswer, cells, joined, refused, short, Result, lent}
+use Rattle.plain.specs.Table.{Table, subgoalAt, answerAt, subgoalOfAnswer, calledForms, answersTo, nodes, subgoalOf, answerOf, following, withSubgoal, withAnswer, withFinished, stays, becomes, known, fits, appended, called, answered, whileOpen, starting, onward, writes, entered, sideOf, joining, step}
+use Rattle.plain.specs.Joins.{Forms, declined, formed, Side, combined, before, allRead, isOpen, ground, named, joinOf}
+use Rattle.plain.specs.Consequences.{RefusedBy, Known, Refusing, RefusingBy}
 use Rattle.plain.proofs.NumberLaws.{Called, subgoalOf-none, subgoalOf-some, Given, answerOf-none, answerOf-some}
+use Rattle.plain.proofs.RecordLaws.{answers-count}
+use Rattle.plain.proofs.EnteringLaws.{entered-old, entered-new, entering}
 
 -- ---- room
 
@@ -69,6 +72,59 @@ module _ (P : Result Table → Type 0) (t : Table) where
   unfolding writes
   writes-cases cs out refuses accepts = by-cases (leb (length cs) (length out)) (λ e. rw e (accepts (leb-true _ _ e))) (λ e. rw e refuses)
 
+  -- 10 comes exactly where the nodes used would be above N with every form entered, and 11 only where they would not
+  pub joining-cases : (s : ℕ) (ws : List Word) → (t .N < nodes (entered t s ws) → P (becomes t (refused 10)))
+      → (nodes (entered t s ws) ≤ t .N → t .A < length (entered t s ws .answers) → P (becomes t (refused 11)))
+      → (nodes (entered t s ws) ≤ t .N → length (entered t s ws .answers) ≤ t .A → P (becomes (entered t s ws) (joined (length (entered t s ws .answers) - length (t .answers)))))
+      → P (joining t s (formed ws))
+  unfolding joining
+  joining-cases s ws ten eleven accepts = by-cases (fits (entered t s ws) (t .N))
+      (λ e. let k = fits-room (entered t s ws) (t .N) e in
+      by-cases (leb (length (entered t s ws .answers)) (t .A)) (λ f. rw (e, f) (accepts k (leb-true _ _ f))) (λ f. rw (e, f) (eleven k (leb-false _ _ f))))
+      (λ e. rw e (ten (fits-full (entered t s ws) (t .N) e)))
+
+-- ---- the rule of a join
+
+-- the cells that each form was read from
+abbrev pub Readable : Coding → ℕ → List Word → Type 0
+Readable c m [] = Unit {0}
+Readable c m (w ∷ ws) = ((ks : List ℕ) × (n : ℕ) × (c .answered m ks ≡ accepted w n)) × Readable c m ws
+
+module _ (P : Forms → Type 0) where
+  -- a refusal comes before what was read after it
+  pub before-cases : (x : Reading) (later : Forms) → ((r : ℕ) → x ≡ refused r → P (declined r))
+      → ((w : Word) (n r : ℕ) → x ≡ accepted w n → later ≡ declined r → P (declined r))
+      → ((w : Word) (n : ℕ) (ws : List Word) → x ≡ accepted w n → later ≡ formed ws → P (formed (w ∷ ws))) → P (before x later)
+  unfolding before
+  before-cases (refused r) later f g h = f r refl
+  before-cases (accepted w n) (declined r) f g h = g w n r refl refl
+  before-cases (accepted w n) (formed ws) f g h = h w n ws refl refl
+
+  pub join-cases : (c : Coding) (f g : Side) (ps : List ℕ) (x : State) (m : ℕ) (cs : List ℕ) → P (declined 8) → P (declined 14) → P (declined 15) → P (declined 16)
+      → (x ≡ Open → P (allRead c m (combined ps cs (map (λ w. c .terms w) (f .forms)) (map (λ w. c .terms w) (g .forms)))))
+      → P (joinOf c f g ps x m cs)
+  unfolding joinOf
+  join-cases c f g ps Finished m cs eight fourteen fifteen sixteen reads = eight
+  join-cases c f g ps Open m cs eight fourteen fifteen sixteen reads =
+      by-cases (isOpen (f .state)) (λ a. rw a fourteen) (λ a.
+      by-cases (isOpen (g .state)) (λ b. rw (a, b) fourteen) (λ b.
+      by-cases (ground (f .forms)) (λ d. by-cases (ground (g .forms)) (λ e.
+      by-cases (named (f .m) (g .m) ps m cs) (λ k. rw (a, b, d, e, k) (reads refl)) (λ k. rw (a, b, d, e, k) sixteen))
+      (λ e. rw (a, b, d, e) fifteen)) (λ d. rw (a, b, d) fifteen)))
+
+-- what the cells are read to: forms, each with the cells that it was read from, or the refusal of one of them
+abbrev pub Read : Coding → ℕ → Forms → Type 0
+Read c m (declined r) = (ks : List ℕ) × (c .answered m ks ≡ refused r)
+Read c m (formed ws) = Readable c m ws
+
+pub all-read : (c : Coding) (m : ℕ) (kss : List (List ℕ)) → Read c m (allRead c m kss)
+unfolding allRead
+all-read c m [] = tt
+all-read c m (ks ∷ kss) = before-cases (Read c m) (c .answered m ks) (allRead c m kss)
+    (λ r e. (ks, e))
+    (λ w n r e f. rw f at (all-read c m kss))
+    (λ w n ws e f. ((ks, n, e), rw f at (all-read c m kss)))
+
 -- ---- what a call changes
 
 module _ (c : Coding) (t : Table) where
@@ -92,11 +148,34 @@ module _ (c : Coding) (t : Table) where
     pub room : nodes (withAnswer t s w) ≤ t .N
     pub free : length (t .answers) < t .A
 
+-- answers that enter one after another
+pub data AnswersEnter (c : Coding) (s : ℕ) : Table → Table → Type 0 where
+  no-more : {t : Table} → AnswersEnter c s t t
+  one-more : {t u : Table} (w : Word) → AnswerEnters c t s w → AnswersEnter c s (withAnswer t s w) u → AnswersEnter c s t u
+
+-- the table at the end has room for each of them
+pub entered-enter : (c : Coding) (t : Table) (s : ℕ) (ws : List Word) → 0 < s → s ≤ length (t .subgoals) → subgoalAt t s .state ≡ Open → Readable c (subgoalAt t s .m) ws
+    → nodes (entered t s ws) ≤ t .N → length (entered t s ws .answers) ≤ t .A → AnswersEnter c s t (entered t s ws)
+entered-enter c t s [] low high is-open e room free = unfold entered in no-more
+entered-enter c t s (w ∷ ws) low high is-open e room free = by-cases (has (answersTo (t .answers) s) w)
+    (λ h. let z : entered t s (w ∷ ws) ≡ entered t s ws = entered-old t s w ws low high h in
+    rw z (entered-enter c t s ws low high is-open (e .1) (rw z at room) (rw z at free)))
+    (λ h. let u : Table = withAnswer t s w in
+    let z : entered t s (w ∷ ws) ≡ entered u s ws = entered-new t s w ws low high h in
+    let n = entering u s ws low high in
+    let r : nodes (entered u s ws) ≤ t .N = rw z at room in
+    let f : length (entered u s ws .answers) ≤ t .A = rw z at free in
+    rw z (one-more w
+    (record { low = low; high = high; is-open = is-open; cs = e .0 .0; n = e .0 .1; reading = e .0 .2; absent = h; room = omega (arith, n .0); free = omega (arith, n .1, answers-count t s w) })
+    (entered-enter c u s ws low high (unfold subgoalAt in is-open) (unfold subgoalAt in e .1) r f)))
+
+module _ (c : Coding) (t : Table) where
   pub data Changed : Table → Type 0 where
     stayed : Changed t
-    subgoal-enters : (w : Word) (m : ℕ) → SubgoalEnters w m → Changed (withSubgoal t w m)
-    answer-enters : (s : ℕ) (w : Word) → AnswerEnters s w → Changed (withAnswer t s w)
+    subgoal-enters : (w : Word) (m : ℕ) → SubgoalEnters c t w m → Changed (withSubgoal t w m)
+    answer-enters : (s : ℕ) (w : Word) → AnswerEnters c t s w → Changed (withAnswer t s w)
     finishes : (s : ℕ) → 0 < s → s ≤ length (t .subgoals) → Changed (withFinished t s)
+    answers-enter : (s : ℕ) (u : Table) → AnswersEnter c s t u → Changed u
 
   abbrev Leaves : Result Table → Type 0
   Leaves r = Changed (r .state)
@@ -116,6 +195,11 @@ module _ (c : Coding) (t : Table) where
       (λ absent. appended-cases Leaves t (withAnswer t s w) (ltb (length (t .answers)) (t .A)) (suc (length (t .answers))) (λ full. stayed) (λ room full. stayed)
       (λ room free. answer-enters s w (record { low = low; high = high; is-open = is-open; cs = cs; n = n; reading = e; absent = absent; room = room; free = ltb-true _ _ free })))
 
+  joining-changed : (s : ℕ) → 0 < s → s ≤ length (t .subgoals) → subgoalAt t s .state ≡ Open → (x : Forms) → Read c (subgoalAt t s .m) x → Leaves (joining t s x)
+  joining-changed s low high is-open (declined r) e = unfold joining in stayed
+  joining-changed s low high is-open (formed ws) e = joining-cases Leaves t s ws (λ full. stayed) (λ room full. stayed)
+      (λ room free. answers-enter s (entered t s ws) (entered-enter c t s ws low high is-open e room free))
+
   pub step-changed : (q : Request) → Changed (step c t q .state)
   unfolding step
   step-changed (call cs) = called-changed cs (c .called cs) refl
@@ -130,6 +214,13 @@ module _ (c : Coding) (t : Table) where
       known-cases Leaves t out (length (t .answers)) a _ stayed
       (λ low high. writes-cases Leaves t (c .instanceOf (subgoalAt t (subgoalOfAnswer t a) .form) (answerAt t a .form)) out stayed (λ fits. stayed))
   step-changed counts = stayed
+  step-changed (join f g ps s cs) =
+      known-cases Leaves t [] (length (t .subgoals)) f _ stayed (λ fl fh.
+      known-cases Leaves t [] (length (t .subgoals)) g _ stayed (λ gl gh.
+      known-cases Leaves t [] (length (t .subgoals)) s _ stayed (λ low high.
+      join-cases (λ x. Leaves (joining t s x)) c (sideOf t f) (sideOf t g) ps (subgoalAt t s .state) (subgoalAt t s .m) cs
+      (unfold joining in stayed) (unfold joining in stayed) (unfold joining in stayed) (unfold joining in stayed)
+      (λ is-open. joining-changed s low high is-open _ (all-read c (subgoalAt t s .m) _)))))
 
 -- ---- refusals
 
@@ -137,7 +228,7 @@ module _ (c : Coding) (t : Table) where
 module _ (c : Coding) (t : Table) (Q : ℕ → Type 0)
     (called-by : (cs : List ℕ) (r : ℕ) → c .called cs ≡ refused r → Q r)
     (answered-by : (m : ℕ) (cs : List ℕ) (r : ℕ) → c .answered m cs ≡ refused r → Q r)
-    (seven : Q 7) (eight : Q 8) (ten : Q 10) (eleven : Q 11) (twelve : Q 12) where
+    (seven : Q 7) (eight : Q 8) (ten : Q 10) (eleven : Q 11) (twelve : Q 12) (fourteen : Q 14) (fifteen : Q 15) (sixteen : Q 16) where
   abbrev Keeps : List ℕ → Result Table → Type 0
   Keeps out x = (r : ℕ) → RefusedBy r (x .reply) → (x .state ≡ t) × (x .out ≡ out) × Q r
 
@@ -166,6 +257,10 @@ module _ (c : Coding) (t : Table) (Q : ℕ → Type 0)
       (λ e. by-cases (eqb (following t s a) 0) (λ f. rw (e, f) (λ r h. absurd h)) (λ f. rw (e, f) (λ r h. absurd h)))
       (λ e. rw e (keeps [] 7 seven))
 
+  joining-keeps : (s m : ℕ) (x : Forms) → Read c m x → Keeps [] (joining t s x)
+  joining-keeps s m (declined r) e = unfold joining in keeps [] r (answered-by m (e .0) r (e .1))
+  joining-keeps s m (formed ws) e = joining-cases (Keeps []) t s ws (λ full. keeps [] 10 ten) (λ room full. keeps [] 11 eleven) (λ room free r h. absurd h)
+
   pub step-keeps : (q : Request) → Keeps (lent q) (step c t q)
   unfolding step lent
   step-keeps (call cs) = called-keeps (c .called cs) (called-by cs)
@@ -180,16 +275,21 @@ module _ (c : Coding) (t : Table) (Q : ℕ → Type 0)
       known-cases (Keeps out) t out (length (t .answers)) a _ (keeps out 7 seven)
       (λ low high. writes-keeps (c .instanceOf (subgoalAt t (subgoalOfAnswer t a) .form) (answerAt t a .form)) out)
   step-keeps counts = λ r h. absurd h
+  step-keeps (join f g ps s cs) =
+      known-cases (Keeps []) t [] (length (t .subgoals)) f _ (keeps [] 7 seven) (λ fl fh.
+      known-cases (Keeps []) t [] (length (t .subgoals)) g _ (keeps [] 7 seven) (λ gl gh.
+      known-cases (Keeps []) t [] (length (t .subgoals)) s _ (keeps [] 7 seven) (λ low high.
+      join-cases (λ x. Keeps [] (joining t s x)) c (sideOf t f) (sideOf t g) ps (subgoalAt t s .state) (subgoalAt t s .m) cs
+      (unfold joining in keeps [] 8 eight) (unfold joining in keeps [] 14 fourteen) (unfold joining in keeps [] 15 fifteen) (unfold joining in keeps [] 16 sixteen)
+      (λ is-open. joining-keeps s (subgoalAt t s .m) _ (all-read c (subgoalAt t s .m) _)))))
 
 pub refusing : (c : Coding) → Refusing c
-refusing c t q r h = let k = step-keeps c t (λ n. Unit {0}) (λ cs n e. tt) (λ m cs n e. tt) tt tt tt tt tt q r h in (k .0, k .1)
-
--- the numbers of the refusals that the table knows
-abbrev Number : ℕ → Type 0
-Number r = ((3 ≤ r) × (r ≤ 8)) ⊎ ((10 ≤ r) × (r ≤ 12))
+refusing c t q r h = let k = step-keeps c t (λ n. Unit {0}) (λ cs n e. tt) (λ m cs n e. tt) tt tt tt tt tt tt tt tt q r h in (k .0, k .1)
 
 pub refusing-by : (c : Coding) → CodingLaws c → RefusingBy c
 refusing-by c laws t q r h =
-    let low : (b : ℕ) → b ≤ 8 → (n : ℕ) → (3 ≤ n) × (n ≤ b) → Number n = λ b k n e. inl (e .0, omega (arith, e .1)) in
-    step-keeps c t Number (λ cs n e. low 6 (omega arith) n (laws .called-refused cs n e)) (λ m cs n e. low 5 (omega arith) n (laws .answered-refused m cs n e))
-    (inl (omega arith, omega arith)) (inl (omega arith, omega arith)) (inr (omega arith, omega arith)) (inr (omega arith, omega arith)) (inr (omega arith, omega arith)) q r h .2
+    let low : (b : ℕ) → b ≤ 8 → (n : ℕ) → (3 ≤ n) × (n ≤ b) → Known n = λ b k n e. inl (e .0, omega (arith, e .1)) in
+    step-keeps c t Known (λ cs n e. low 6 (omega arith) n (laws .called-refused cs n e)) (λ m cs n e. low 5 (omega arith) n (laws .answered-refused m cs n e))
+    (inl (omega arith, omega arith)) (inl (omega arith, omega arith))
+    (inr (inl (omega arith, omega arith))) (inr (inl (omega arith, omega arith))) (inr (inl (omega arith, omega arith)))
+    (inr (inr (omega arith, omega arith))) (inr (inr (omega arith, omega arith))) (inr (inr (omega arith, omega arith))) q r h .2

@@ -1,6 +1,6 @@
 -- Compact form is a coding that meets the laws, under any arity rule.
 use Prim.Native.Nat.{ℕ, suc, _≤_, _<_}
-use mathlib.Core.Bool.{true}
+use mathlib.Core.Bool.{true, false}
 use mathlib.Core.List.{List, [], _∷_, _++_}
 use mathlib.Core.Path.{_≡_, refl, sym, ap, _∙_}
 use native.Mathlib.Omega.{arith}
@@ -23,6 +23,7 @@ use Rattle.plain.specs.Words.{Word}
 use Rattle.plain.specs.Coding.{Reading, refused, accepted, judged, handedOn, predicate, compacted, compactCoding}
 use Rattle.plain.specs.CodingLaws.{CodingLaws}
 use Rattle.plain.proofs.Instances.{instance-numbers}
+use Rattle.plain.proofs.GroundTerms.{ground-read}
 
 module _ (arity : ℕ → ℕ) where
   -- ---- what is read
@@ -100,6 +101,13 @@ module _ (arity : ℕ → ℕ) where
       (loaded arity 1 w h .1)
       (loaded arity (length (met [] w)) v k .1)
 
+  -- ground terms together pass the tests for 3 and 5
+  ground-four : (m : ℕ) (ks : List ℕ) (r : ℕ) → areTerms arity m ks ≡ true → length (met [] ks) ≡ 0 → judged arity m ks (compacted arity ks) ≡ refused r → r ≡ 4
+  unfolding judged handedOn reading
+  ground-four m ks r a g e = by-cases (ltb 256 (length ks))
+      (λ x. let q : refused 4 ≡ refused r = rw x at e in cc)
+      (λ x. let y : ltb 32 (length (met [] ks)) ≡ false = rw g refl in absurd (compacted-accepts ks r (rw (x, a, y) at e)))
+
   pub compact-laws : CodingLaws (compactCoding arity)
   compact-laws = record {
     called-refused = λ ks r e. judged-refused 1 ks _ r 6 (omega arith) e (predicate-refused ks r);
@@ -124,5 +132,6 @@ module _ (arity : ℕ → ℕ) where
     legal-free = λ m w rest h k. prefix-free-forms arity m w rest (legal-parts arity m w h .forms) (legal-parts arity m (w ++ rest) k .forms);
     legal-short = λ m w h. let l = loaded arity m w h in omega (arith, bounded arity m (pairForm arity w) (l .0) .1, ap length (l .2));
     legal-some = λ m w h. form-some m w h;
+    ground-refused = λ m ks r g e. let t = ground-read arity g in ground-four m ks r (t .0) (t .1) e;
     instance-numbered = λ w v h k. instance-legal w v h k;
   }

@@ -57,7 +57,7 @@ answerNodes-outside l x w s zero h = refl
 answerNodes-outside l x w s (suc n) h =
     rw (answersTo-other l x s w (λ e. omega arith), answerNodes-outside l x w (suc s) n (omega arith))
 
-answerNodes-inside : (l : List Answer) (x : ℕ) (w : Word) (s n : ℕ) → s ≤ x → x < s + n
+pub answerNodes-inside : (l : List Answer) (x : ℕ) (w : Word) (s n : ℕ) → s ≤ x → x < s + n
     → answerNodes (l ++ (record { subgoal = x; form = w } ∷ [])) s n + distinct (answersTo l x) ≡ answerNodes l s n + distinct (answersTo l x ++ (w ∷ []))
 unfolding answerNodes
 answerNodes-inside l x w s zero h k = absurd (omega arith)

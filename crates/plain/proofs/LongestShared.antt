@@ -9,8 +9,8 @@ use lib.Dec.{eqb, leb, leb·zero, leb·suc-zero, leb·suc-suc}
 use lib.ListN.{length, take}
 use borrow.Author.Tests.{le-leb, lt-leb, leb-true, leb-false}
 use Rattle.basis.proofs.Cases.{by-cases}
-use Rattle.plain.specs.Words.{Word, has, prefixes}
-use Rattle.plain.specs.Consequences.{common, most, Brought}
+use Rattle.plain.specs.Words.{Word, has, prefixes, common, most}
+use Rattle.plain.specs.Consequences.{Brought}
 use Rattle.plain.proofs.PrefixLaws.{starts, begins, shared, Closed, has-prefixes, prefixes-closed, shared-le, distinct-snoc}
 
 -- the prefix of w of length k, under p, is there exactly where k is at most what the walk finds
@@ -42,7 +42,7 @@ leb-equal l a b p q h = by-cases (leb a b)
     (λ f. let z : a < b = leb-false b a f in absurd (true≢false (sym (le-leb b b (omega arith)) ∙ sym (h b (omega arith) q) ∙ f))))
     (λ e. let z : b < a = leb-false a b e in absurd (true≢false (sym (le-leb a a (omega arith)) ∙ h a (omega arith) p ∙ e)))
 
-common-le : (v w : Word) → common v w ≤ length w
+pub common-le : (v w : Word) → common v w ≤ length w
 unfolding common
 common-le [] w = omega arith
 common-le (x ∷ v) [] = omega arith
@@ -57,7 +57,7 @@ starts-common (x ∷ v) (y ∷ w) (suc k) h = by-cases (eqb x y)
     (λ e. rw (e, leb·suc-suc k (common v w)) (starts-common v w k (le-of-suc-le-suc h)))
     (λ e. rw (e, leb·suc-zero k))
 
-most-le : (vs : List Word) (w : Word) → most vs w ≤ length w
+pub most-le : (vs : List Word) (w : Word) → most vs w ≤ length w
 unfolding most
 most-le [] w = omega arith
 most-le (v ∷ vs) w = omega (arith, common-le v w, most-le vs w)

@@ -20,6 +20,8 @@ use Rattle.plain.proofs.CompactCoding.{compact-laws}
 use Rattle.plain.proofs.Growth.{Grows, grows-trans, step-grows, left-grows}
 use Rattle.plain.proofs.Soundness.{Sound, sound-step, sound-left, sound-reached, keeping}
 use Rattle.plain.proofs.NextLaws.{visiting}
+use Rattle.plain.proofs.JoinLaws.{join-given}
+use Rattle.plain.proofs.JoinRefusals.{join-refusing}
 
 -- ---- calls that give a number
 
@@ -234,6 +236,8 @@ consequences c laws = record {
   answering = answering c laws;
   loading = loading c laws;
   finishing = finishing c;
+  joining = join-given c;
+  join-refusing = join-refusing c laws;
   keeping = keeping c;
   numbering = numbering c laws;
 }

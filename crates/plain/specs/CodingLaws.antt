@@ -3,10 +3,25 @@ use mathlib.Core.Bool.{true}
 use mathlib.Core.List.{List, [], _++_}
 use mathlib.Core.Path.{_≡_}
 use Prim.Native.Nat.{ℕ, suc, _<_, _≤_}
-use lib.ListN.{length}
+use lib.ListN.{length, getD}
 use Rattle.forms.specs.Numbering.{met, numbered}
 use Rattle.plain.specs.Words.{Word}
 use Rattle.plain.specs.Coding.{Coding, refused, accepted}
+
+-- a term of a stored form that holds no variable
+pub record GroundTerm (c : Coding) (ks : List ℕ) : Type 0 where
+  pub form : Word
+  pub m : ℕ
+  pub place : ℕ
+  pub legal : c .legal m form ≡ true
+  pub ground : length (met [] form) ≡ 0
+  pub inside : place < m
+  pub is : ks ≡ getD (c .terms form) place []
+
+-- m of them one after another
+pub data GroundTerms (c : Coding) : ℕ → List ℕ → Type 0 where
+  none : GroundTerms c 0 []
+  one : {m : ℕ} {ks rest : List ℕ} → GroundTerm c ks → GroundTerms c m rest → GroundTerms c (suc m) (ks ++ rest)
 
 pub record CodingLaws (c : Coding) : Type 0 where
   -- a called term is refused by 3 to 6, an answer's terms by 3 to 5
@@ -27,5 +42,7 @@ pub record CodingLaws (c : Coding) : Type 0 where
   pub legal-free : (m : ℕ) (w rest : Word) → c .legal m w ≡ true → c .legal m (w ++ rest) ≡ true → rest ≡ []
   pub legal-short : (m : ℕ) (w : Word) → c .legal m w ≡ true → length w ≤ 383
   pub legal-some : (m : ℕ) (w : Word) → c .legal (suc m) w ≡ true → 0 < length w
+  -- ground terms of stored forms that are put together are refused by 4 alone
+  pub ground-refused : (m : ℕ) (ks : List ℕ) (r : ℕ) → GroundTerms c m ks → c .answered m ks ≡ refused r → r ≡ 4
   -- the variables of an instance are numbered by first meeting
   pub instance-numbered : (w v : Word) → c .legal 1 w ≡ true → c .legal (length (met [] w)) v ≡ true → numbered (c .instanceOf w v) ≡ c .instanceOf w v

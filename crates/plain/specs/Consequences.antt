@@ -1,33 +1,29 @@
 -- What follows for every list of calls: statements that a reader asks for, proved of every coding that meets the laws.
-use mathlib.Core.List.{List, [], _∷_, _++_}
+use mathlib.Core.List.{List, [], _∷_, _++_, map}
 use mathlib.Core.Logic.{_⊎_}
 use mathlib.Core.Path.{_≡_}
-use Prim.Native.Nat.{ℕ, suc, _+_, _-_, _<_, _≤_, max}
+use Prim.Native.Nat.{ℕ, suc, _+_, _-_, _<_, _≤_}
 use lib.Dec.{eqb}
 use lib.ListN.{length, take}
 use Rattle.basis.specs.Choice.{pick}
 use Rattle.forms.specs.Numbering.{numbered}
-use Rattle.plain.specs.Words.{Word, distinct}
+use Rattle.plain.specs.Words.{Word, distinct, most, brings, newcomers}
 use Rattle.plain.specs.Coding.{Coding}
-use Rattle.plain.specs.Requests.{Request, call, answer, finish, next, load, instance, Reply, new, oldSubgoal, oldAnswer, done, at, none, cells, used, refused, short, lent, left}
-use Rattle.plain.specs.Table.{Table, Answer, fresh, subgoalAt, answerAt, subgoalOfAnswer, nodes, writes, step}
+use Rattle.plain.specs.Requests.{Request, call, answer, finish, next, load, instance, join, Reply, new, oldSubgoal, oldAnswer, done, at, none, cells, used, joined, refused, short, lent, left}
+use Rattle.plain.specs.Joins.{combined}
+use Rattle.plain.specs.Table.{Table, Answer, fresh, subgoalAt, answerAt, subgoalOfAnswer, answersTo, nodes, writes, entered, step}
 
 -- ---- distinct prefixes
-
--- how many leading tokens two words share
-unfoldable pub common : Word → Word → ℕ
-common [] w = 0
-common (x ∷ v) [] = 0
-common (x ∷ v) (y ∷ w) = pick (eqb x y) (suc (common v w)) 0
-
--- the most that a word of the list shares with w
-unfoldable pub most : List Word → Word → ℕ
-most [] w = 0
-most (v ∷ vs) w = max (common v w) (most vs w)
 
 -- one word more brings as many distinct prefixes as it has tokens past the longest that it shares
 abbrev pub Brought : Type 0
 Brought = (ws : List Word) (w : Word) → distinct (ws ++ (w ∷ [])) ≡ distinct ws + (length w - most ws w)
+
+-- forms that are given to a subgoal one after another bring so many nodes and so many answers
+abbrev pub Entering : Type 0
+Entering = (t : Table) (s : ℕ) (ws : List Word) → 0 < s → s ≤ length (t .subgoals)
+    → (nodes (entered t s ws) ≡ nodes t + brings (answersTo (t .answers) s) [] ws)
+    × (length (entered t s ws .answers) ≡ length (t .answers) + newcomers (answersTo (t .answers) s) [] ws)
 
 -- ---- replies
 
@@ -41,6 +37,7 @@ Gives i (at n) = ⊥
 Gives i none = ⊥
 Gives i (cells n) = ⊥
 Gives i (used n) = ⊥
+Gives i (joined n) = ⊥
 Gives i (refused n) = ⊥
 Gives i (short n) = ⊥
 
@@ -54,8 +51,17 @@ RefusedBy r (at n) = ⊥
 RefusedBy r none = ⊥
 RefusedBy r (cells n) = ⊥
 RefusedBy r (used n) = ⊥
+RefusedBy r (joined n) = ⊥
 RefusedBy r (refused n) = n ≡ r
 RefusedBy r (short n) = 12 ≡ r
+
+-- the numbers of the refusals that the plain table knows
+abbrev pub Known : ℕ → Type 0
+Known r = ((3 ≤ r) × (r ≤ 8)) ⊎ (((10 ≤ r) × (r ≤ 12)) ⊎ ((14 ≤ r) × (r ≤ 16)))
+
+-- and those that a join knows
+abbrev pub JoinKnown : ℕ → Type 0
+JoinKnown r = (r ≡ 4) ⊎ (((7 ≤ r) × (r ≤ 8)) ⊎ (((10 ≤ r) × (r ≤ 11)) ⊎ ((14 ≤ r) × (r ≤ 16))))
 
 -- ---- next
 
@@ -92,9 +98,9 @@ module _ (c : Coding) where
   abbrev pub Refusing : Type 0
   Refusing = (t : Table) (q : Request) (r : ℕ) → RefusedBy r (step c t q .reply) → (step c t q .state ≡ t) × (step c t q .out ≡ lent q)
 
-  -- calls are refused by 3 to 8 and 10 to 12, never by 1, 2 or 9
+  -- calls are refused by 3 to 8, 10 to 12 and 14 to 16, never by 1, 2 or 9
   abbrev pub RefusingBy : Type 0
-  RefusingBy = (t : Table) (q : Request) (r : ℕ) → RefusedBy r (step c t q .reply) → ((3 ≤ r) × (r ≤ 8)) ⊎ ((10 ≤ r) × (r ≤ 12))
+  RefusingBy = (t : Table) (q : Request) (r : ℕ) → RefusedBy r (step c t q .reply) → Known r
 
   -- next from 0 on gives every answer to a subgoal once, in increasing order, and then none
   abbrev pub Visiting : Type 0
@@ -125,6 +131,22 @@ module _ (c : Coding) where
   Finishing = (t : Table) (s : ℕ) (cs : List ℕ) (qs : List Request)
       → step c t (finish s) .reply ≡ done → step c (left (step c) (step c t (finish s) .state) qs) (answer s cs) .reply ≡ refused 8
 
+  -- the cells of the answers that a join gives its target, in order of the first, then of the second
+  abbrev pub joinCells : Table → ℕ → ℕ → List ℕ → List ℕ → List (List ℕ)
+  joinCells t f g ps cs = combined ps cs (map (λ w. c .terms w) (answersTo (t .answers) f)) (map (λ w. c .terms w) (answersTo (t .answers) g))
+
+  -- a join that is accepted leaves what its answers leave, given one after another, and says how many of them are new
+  abbrev pub Joining : Type 0
+  Joining = (t : Table) (f g s n : ℕ) (ps cs : List ℕ)
+      → (let u = step c t (join f g ps s cs) in
+      u .reply ≡ joined n → (u .state ≡ left (step c) t (map (λ ks. answer s ks) (joinCells t f g ps cs))) × (length (u .state .answers) ≡ length (t .answers) + n))
+
+  -- a join on a table that calls made is refused by 4, 7, 8, 10, 11, 14, 15 and 16 alone: what it puts together is never
+  -- malformed, and holds no variable
+  abbrev pub JoinRefusing : Type 0
+  JoinRefusing = (n f a : ℕ) → 0 < n → (qs : List Request) (first second s r : ℕ) (ps cs : List ℕ)
+      → RefusedBy r (step c (reached n f a qs) (join first second ps s cs) .reply) → JoinKnown r
+
   -- room is kept, numbers lead to records, and no form is held twice
   abbrev pub Keeping : Type 0
   Keeping = (n f a : ℕ) → 0 < n → (qs : List Request) → (let t = reached n f a qs in Kept t × (t .N ≡ n) × (t .F ≡ f) × (t .A ≡ a))
@@ -143,5 +165,7 @@ pub record Consequences (c : Coding) : Type 0 where
   pub answering : Answering c
   pub loading : Loading c
   pub finishing : Finishing c
+  pub joining : Joining c
+  pub join-refusing : JoinRefusing c
   pub keeping : Keeping c
   pub numbering : Numbering c

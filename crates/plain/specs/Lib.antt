@@ -2,8 +2,10 @@ pub mod Words
 pub mod Coding
 pub mod CodingLaws
 pub mod Requests
+pub mod Joins
 pub mod Table
 pub mod Consequences
 pub mod Examples
 pub mod InstanceMeaning
 pub mod InstanceExamples
+pub mod JoinExamples

@@ -6,7 +6,8 @@ pub data State : Type 0 where
   Open : State
   Finished : State
 
--- A call with its numbers and the cells lent to it. Load and instance are lent out; the others get none.
+-- A call with its numbers and the cells lent to it. Load and instance are lent out; the others get none. Two cells are a
+-- pair of a join (a variable of the first, one of the second), and two a copy (a side, 0 or 1, and a variable).
 pub data Request : Type 0 where
   call : (term : List ℕ) → Request
   answer : (subgoal : ℕ) (terms : List ℕ) → Request
@@ -15,6 +16,7 @@ pub data Request : Type 0 where
   load : (a : ℕ) (out : List ℕ) → Request
   instance : (a : ℕ) (out : List ℕ) → Request
   counts : Request
+  join : (first second : ℕ) (pairs : List ℕ) (target : ℕ) (copies : List ℕ) → Request
 
 -- nodes, subgoals and answers used
 pub record Counts : Type 0 where
@@ -22,8 +24,8 @@ pub record Counts : Type 0 where
   pub subgoals : ℕ
   pub answers : ℕ
 
--- What a call answers: numbers of subgoals or answers, the cells written, the counts, a refusal's
--- number; for refusal 12 (short) the cells that out would need.
+-- What a call answers: numbers of subgoals or answers, the cells written, the counts, how many answers of a join are
+-- new, a refusal's number; for refusal 12 (short) the cells that out would need.
 pub data Reply : Type 0 where
   new : ℕ → Reply
   oldSubgoal : ℕ → State → Reply
@@ -33,6 +35,7 @@ pub data Reply : Type 0 where
   none : Reply
   cells : ℕ → Reply
   used : Counts → Reply
+  joined : ℕ → Reply
   refused : ℕ → Reply
   short : ℕ → Reply
 
@@ -51,6 +54,7 @@ lent (next s a) = []
 lent (load a out) = out
 lent (instance a out) = out
 lent counts = []
+lent (join f g ps s cs) = []
 
 -- what is compared after a call: its answer, the three counts, every cell of out
 pub record Seen : Type 0 where

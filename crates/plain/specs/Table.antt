@@ -1,14 +1,17 @@
 -- The plain table: subgoals and answers as lists of forms, and what each call answers and changes.
 use mathlib.Core.Bool.{Bool, true, false}
 use mathlib.Core.List.{List, [], _∷_, _++_, map}
-use Prim.Native.Nat.{ℕ, zero, suc, _+_, pred}
+use Prim.Native.Nat.{ℕ, zero, suc, _+_, _-_, pred}
 use lib.Dec.{eqb, leb, ltb}
 use lib.ListN.{length, getD, drop, set}
 use Rattle.basis.specs.Choice.{pick}
 use Rattle.forms.specs.Compact.{same}
 use Rattle.plain.specs.Words.{Word, trieNodes}
 use Rattle.plain.specs.Coding.{Coding, Reading, refused, accepted, codingOf}
-use Rattle.plain.specs.Requests.{State, Open, Finished, Request, call, answer, finish, next, load, instance, counts, Counts, Reply, new, oldSubgoal, oldAnswer, done, at, none, cells, used, refused, short, Result, Seen, trace}
+use Rattle.plain.specs.Joins.{Forms, declined, formed, Side, joinOf}
+use Rattle.plain.specs.Requests.{State, Open, Finished, Request, call, answer, finish, next, load, instance, counts, join}
+use Rattle.plain.specs.Requests.{Counts, Reply, new, oldSubgoal, oldAnswer, done, at, none, cells, used, joined, refused}
+use Rattle.plain.specs.Requests.{short, Result, Seen, trace}
 
 -- ---- state
 
@@ -186,6 +189,30 @@ unfoldable pub writes : Table → List ℕ → List ℕ → Result Table
 writes t cs out =
     pick (leb (length cs) (length out)) (record { reply = cells (length cs); out = cs ++ drop (length cs) out; state = t }) (stays t out (short (length cs)))
 
+-- ---- joining
+
+-- a form that is given to a subgoal: it is appended where the subgoal lacks it
+unfoldable pub given : Table → ℕ → Word → Table
+given t s w = pick (eqb (answerOf t s w) 0) (withAnswer t s w) t
+
+-- forms given one after another
+unfoldable pub entered : Table → ℕ → List Word → Table
+entered t s [] = t
+entered t s (w ∷ ws) = entered (given t s w) s ws
+
+-- a subgoal as a source
+unfoldable pub sideOf : Table → ℕ → Side
+sideOf t s = record { state = subgoalAt t s .state; m = subgoalAt t s .m; forms = answersTo (t .answers) s }
+
+-- every form enters or none: 10 where the nodes used would be above N, then 11 where the answers would be above A
+unfoldable pub joining : Table → ℕ → Forms → Result Table
+joining t s (declined r) = becomes t (refused r)
+joining t s (formed ws) =
+    let more = entered t s ws in
+    pick (fits more (t .N))
+    (pick (leb (length (more .answers)) (t .A)) (becomes more (joined (length (more .answers) - length (t .answers)))) (becomes t (refused 11)))
+    (becomes t (refused 10))
+
 -- what each call leaves; 7 and 8 are checked before the cells are read
 unfoldable pub step : Coding → Table → Request → Result Table
 step c t (call cs) = called t (c .called cs)
@@ -198,6 +225,11 @@ step c t (instance a out) =
     known t out (length (t .answers)) a
     (writes t (c .instanceOf (subgoalAt t (subgoalOfAnswer t a) .form) (answerAt t a .form)) out)
 step c t counts = becomes t (used (counted t))
+step c t (join f g ps s cs) =
+    known t [] (length (t .subgoals)) f
+    (known t [] (length (t .subgoals)) g
+    (known t [] (length (t .subgoals)) s
+    (joining t s (joinOf c (sideOf t f) (sideOf t g) ps (subgoalAt t s .state) (subgoalAt t s .m) cs))))
 
 -- what is seen of a list of calls
 abbrev pub tableTrace : Coding → Table → List Request → List Seen

@@ -138,15 +138,15 @@ module _ (cs : List ℕ) (r : Reply) where
 -- ---- the cells that are said to be written were lent
 
 abbrev Fits : Decision → Type 0
-Fits d = (v : View) (room n : ℕ) → reply v d room ≡ cells n → n ≤ room
+Fits d = (v : View) (room after n : ℕ) → reply v d room after ≡ cells n → n ≤ room
 
 refuses-fits : (r : ℕ) → Fits (refuses r)
 unfolding reply
-refuses-fits r v room n e = let z : _≡_ {A = ℕ} 0 1 = cc in absurd (omega arith)
+refuses-fits r v room after n e = let z : _≡_ {A = ℕ} 0 1 = cc in absurd (omega arith)
 
 gives-fits : (ks : List ℕ) → Fits (gives ks)
 unfolding reply
-gives-fits ks v room n e =
+gives-fits ks v room after n e =
     by-cases (leb (length ks) room)
     (λ t. let l = leb-true (length ks) room t in let f : cells (length ks) ≡ cells n = rw t at e in let q : length ks ≡ n = cc in omega arith)
     (λ t. let f : short (length ks) ≡ cells n = rw t at e in let z : _≡_ {A = ℕ} 0 1 = cc in absurd (omega arith))
@@ -154,7 +154,7 @@ gives-fits ks v room n e =
 module _ (cs : List ℕ) where
   under-fits : (q : Request) (e : Header) → ((c : Coding) (v : View) → Fits (decide c v q)) → (n : ℕ) → underAny cs q e .reply ≡ cells n → n ≤ length (lent q)
   unfolding underAny under
-  under-fits q (header.Sound h) x n e = x (codingOf (h .edition)) (viewOf (sizesOf (h .edition)) cs h) (viewOf (sizesOf (h .edition)) cs h) (length (lent q)) n e
+  under-fits q (header.Sound h) x n e = x (codingOf (h .edition)) (viewOf (sizesOf (h .edition)) cs h) (viewOf (sizesOf (h .edition)) cs h) (length (lent q)) _ n e
   under-fits q (header.Refused r) x n e = let z : _≡_ {A = ℕ} 0 1 = cc in absurd (omega arith)
 
   module _ (a : ℕ) (out : List ℕ) (n : ℕ) where

@@ -12,7 +12,7 @@ use Rattle.basis.specs.Choice.{pick}
 use Rattle.basis.specs.Editions.{knownEdition}
 use Rattle.basis.proofs.Cases.{by-cases}
 use Rattle.forms.specs.Compact.{same}
-use Rattle.plain.specs.Requests.{Request, call, answer, finish, next, load, instance, counts, lent}
+use Rattle.plain.specs.Requests.{Request, call, answer, finish, next, load, instance, counts, join, lent}
 use Rattle.plain.specs.Table.{fresh}
 use Rattle.space.specs.Layout.{sizesOf, subgoalWidth, answerWidth, endOffset}
 use Rattle.space.specs.Heading.{inRange}
@@ -21,7 +21,7 @@ use Rattle.space.specs.declared.FreshAnswer.the-variants.{Done}
 use Rattle.space.specs.declared.Header.{Header}
 use Rattle.space.specs.declared.Header.the-variants as header
 use Rattle.space.specs.Heading.{spaceHeader}
-use Rattle.store.specs.Decisions.{Decision, says as decides, gives, entersSubgoal, entersAnswer, entersEmpty, finishes, decide}
+use Rattle.store.specs.Decisions.{Decision, says as decides, gives, entersSubgoal, entersAnswer, entersEmpty, finishes, entersAnswers, decide}
 use Rattle.store.specs.Calls.{outAfter, under, underAny, spaceStep}
 use Rattle.store.specs.Views.{viewOf}
 use Rattle.plain.specs.Coding.{codingOf}
@@ -51,6 +51,7 @@ out-after (entersSubgoal parent last left m) out = refl
 out-after (entersAnswer s parent last left) out = refl
 out-after (entersEmpty s) out = refl
 out-after (finishes s) out = refl
+out-after (entersAnswers s ws) out = refl
 
 under-out : (cs : List ℕ) (q : Request) (h : Header) → length (underAny cs q h .out) ≡ length (lent q)
 unfolding underAny under
@@ -76,6 +77,7 @@ left-alike (next s a) out o p e = refl
 left-alike (load a o′) out o p e = e
 left-alike (instance a o′) out o p e = e
 left-alike counts out o p e = refl
+left-alike (join f g ps s ks) out o p e = refl
 
 says-out : (m : Meaning) (space out : List ℕ) → Lends out m → length (says spaceStep m space out .out) ≡ length out
 unfolding says

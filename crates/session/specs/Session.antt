@@ -6,7 +6,7 @@ use lib.Dec.{leb}
 use lib.ListN.{length, drop}
 use Rattle.basis.specs.Choice.{pick}
 use Rattle.plain.specs.Coding.{codingOf}
-use Rattle.plain.specs.Requests.{Request, Result, call, answer, finish, next, load, instance, counts}
+use Rattle.plain.specs.Requests.{Request, Result, call, answer, finish, next, load, instance, counts, join}
 use Rattle.plain.specs.Table.{Table, fresh, step}
 use Rattle.space.specs.Fresh.{freshAnswerIn, freshSpaceIn}
 use Rattle.space.specs.declared.FreshAnswer.the-variants.{Done}
@@ -31,6 +31,7 @@ outLeft (next s a) out after = out
 outLeft (load a o) out after = after
 outLeft (instance a o) out after = after
 outLeft counts out after = out
+outLeft (join f g ps s cs) out after = out
 
 -- a line that means nothing prints bad and changes nothing
 unfoldable pub says : {S : Type 0} → (S → Request → Result S) → Meaning → S → List ℕ → Said S

@@ -3,7 +3,7 @@ use Prim.Native.Nat.{ℕ, _+_, _*_}
 use mathlib.Core.List.{List, [], _∷_, _++_}
 use lib.ListN.{take}
 use Rattle.plain.specs.Requests.{State, Open, Finished, Counts}
-use Rattle.plain.specs.Requests.{Reply, new, oldSubgoal, oldAnswer, done, at, none, cells, used, refused, short}
+use Rattle.plain.specs.Requests.{Reply, new, oldSubgoal, oldAnswer, done, at, none, cells, used, joined, refused, short}
 use Rattle.text.specs.Letters.{letters}
 use Rattle.text.specs.Fields.{space, cellDigits}
 use Rattle.text.specs.Digits.{cellTexts, numbered, Puts}
@@ -38,6 +38,9 @@ textCounts = letters "counts"
 abbrev pub textRefused : List ℕ
 textRefused = letters "refused"
 
+abbrev pub textJoined : List ℕ
+textJoined = letters "joined"
+
 abbrev pub textBad : List ℕ
 textBad = letters "bad"
 
@@ -52,7 +55,7 @@ countsText nodes subgoals answers = numbered (numbered (numbered textCounts node
 abbrev pub refusedShort : ℕ
 refusedShort = 12
 
--- the cells printed are those written to out; an out that is too short has its need not printed
+-- the cells printed are those written to out; an out that is too short has its need not printed; no line asks for a join
 unfoldable pub replyText : Reply → List ℕ → List ℕ
 replyText (new n) out = numbered textNew n
 replyText (oldSubgoal n s) out = numbered textOld n ++ (space ∷ stateText s)
@@ -62,6 +65,7 @@ replyText (at n) out = numbered textAt n
 replyText none out = textNone
 replyText (cells n) out = textCells ++ cellTexts (take n out)
 replyText (used y) out = countsText (y .nodes) (y .subgoals) (y .answers)
+replyText (joined n) out = numbered textJoined n
 replyText (refused r) out = numbered textRefused r
 replyText (short n) out = numbered textRefused refusedShort
 

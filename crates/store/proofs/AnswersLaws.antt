@@ -9,7 +9,7 @@ use Rattle.plain.specs.Requests.{Request, call, answer, finish, Reply, lent}
 use Rattle.space.specs.Heading.{spaceHeader}
 use Rattle.space.specs.declared.Header.{Header}
 use Rattle.space.specs.declared.Header.the-variants as header
-use Rattle.store.specs.Decisions.{Decision, says, gives, entersSubgoal, entersAnswer, entersEmpty, finishes}
+use Rattle.store.specs.Decisions.{Decision, says, gives, entersSubgoal, entersAnswer, entersEmpty, finishes, entersAnswers}
 use Rattle.store.specs.Calls.{outAfter, under, underAny, spaceStep, Answers}
 use Rattle.store.proofs.CallsCases.{Steps}
 
@@ -22,6 +22,7 @@ out-none (entersSubgoal parent last left m) = refl
 out-none (entersAnswer s parent last left) = refl
 out-none (entersEmpty s) = refl
 out-none (finishes s) = refl
+out-none (entersAnswers s ws) = refl
 
 under-none : (cs : List ℕ) (q : Request) (x : Header) → lent q ≡ [] → underAny cs q x .out ≡ []
 unfolding underAny under

@@ -4,3 +4,4 @@ pub mod CallsReading
 pub mod CallsCases
 pub mod CallsAnswers
 pub mod AnswersLaws
+pub mod JoinCases

@@ -1,12 +1,12 @@
--- The seven calls on the cells of a space, sound or damaged: refusal 1, then the decision, then the change.
-use Prim.Native.Nat.{ℕ, _+_}
+-- The eight calls on the cells of a space, sound or damaged: refusal 1, then the decision, then the change.
+use Prim.Native.Nat.{ℕ, _+_, _-_}
 use mathlib.Core.List.{List, [], _++_}
 use mathlib.Core.Path.{_≡_}
 use lib.Dec.{leb}
 use lib.ListN.{length, drop, getD}
 use Rattle.basis.specs.Choice.{pick}
 use Rattle.plain.specs.Coding.{Coding, codingOf}
-use Rattle.plain.specs.Requests.{Request, lent, Counts, Reply, new, done, cells, refused, short, Result, Seen, trace}
+use Rattle.plain.specs.Requests.{Request, lent, Counts, Reply, new, done, cells, joined, refused, short, Result, Seen, trace}
 use Rattle.space.specs.Layout.{Sizes, sizesOf, nodesCell, subgoalsCell, answersCell}
 use Rattle.space.specs.Heading.{headerOf, spaceHeader}
 use Rattle.space.specs.declared.Head.{Head}
@@ -14,17 +14,23 @@ use Rattle.space.specs.declared.Header.{Header}
 use Rattle.space.specs.declared.Header.the-variants as header
 use Rattle.store.specs.Views.{View, viewOf}
 use Rattle.store.specs.Decisions.{Decision, says, gives, entersSubgoal, entersAnswer, entersEmpty, finishes}
-use Rattle.store.specs.Decisions.{decide}
+use Rattle.store.specs.Decisions.{entersAnswers, decide}
 use Rattle.store.specs.Changes.{change}
 
--- what the call answers, out being so long; cells that do not fit are 12 with the need
-unfoldable pub reply : View → Decision → ℕ → Reply
-reply v (says r) room = r
-reply v (gives ks) room = pick (leb (length ks) room) (cells (length ks)) (short (length ks))
-reply v (entersSubgoal parent last left m) room = new (v .subgoals + 1)
-reply v (entersAnswer s parent last left) room = new (v .answers + 1)
-reply v (entersEmpty s) room = new (v .answers + 1)
-reply v (finishes s) room = done
+-- the answers used, as the header counts them
+abbrev pub usedAnswers : List ℕ → ℕ
+usedAnswers cs = getD cs answersCell 0
+
+-- what the call answers, out being so long and so many answers being used afterwards; cells that do not fit are 12 with
+-- the need
+unfoldable pub reply : View → Decision → ℕ → ℕ → Reply
+reply v (says r) room after = r
+reply v (gives ks) room after = pick (leb (length ks) room) (cells (length ks)) (short (length ks))
+reply v (entersSubgoal parent last left m) room after = new (v .subgoals + 1)
+reply v (entersAnswer s parent last left) room after = new (v .answers + 1)
+reply v (entersEmpty s) room after = new (v .answers + 1)
+reply v (finishes s) room after = done
+reply v (entersAnswers s ws) room after = joined (after - v .answers)
 
 -- out after the call: the cells before what was there, if they fit
 unfoldable pub outAfter : Decision → List ℕ → List ℕ
@@ -34,11 +40,14 @@ outAfter (entersSubgoal parent last left m) out = out
 outAfter (entersAnswer s parent last left) out = out
 outAfter (entersEmpty s) out = out
 outAfter (finishes s) out = out
+outAfter (entersAnswers s ws) out = out
 
 unfoldable pub under : Sizes → Coding → List ℕ → Request → Header → Result (List ℕ)
 under z c cs q (header.Sound h) =
-    let d = decide c (viewOf z cs h) q in
-    record { reply = reply (viewOf z cs h) d (length (lent q)); out = outAfter d (lent q); state = change z cs h d }
+    let v = viewOf z cs h in
+    let d = decide c v q in
+    let after = change z cs h d in
+    record { reply = reply v d (length (lent q)) (usedAnswers after); out = outAfter d (lent q); state = after }
 under z c cs q (header.Refused r) = record { reply = refused r; out = lent q; state = cs }
 
 -- what a call leaves of a space of one edition
@@ -63,7 +72,7 @@ Answers before q r out after =
 -- the counts as they stand in the header
 abbrev pub countedCells : List ℕ → Counts
 countedCells cs =
-    record { nodes = getD cs nodesCell 0; subgoals = getD cs subgoalsCell 0; answers = getD cs answersCell 0 }
+    record { nodes = getD cs nodesCell 0; subgoals = getD cs subgoalsCell 0; answers = usedAnswers cs }
 
 -- what is seen of a list of calls
 abbrev pub cellTrace : Sizes → Coding → List ℕ → List Request → List Seen

@@ -8,10 +8,14 @@ use Rattle.basis.specs.Writes.{Write, put, writes}
 use Rattle.plain.specs.Words.{Word}
 use Rattle.space.specs.Layout.{Sizes, nodesCell, subgoalsCell, answersCell, nodeAt, linkCell, subgoalAt, answerAt}
 use Rattle.space.specs.Layout.{stateCell, firstCell, lastCell, nextCell, nodeTo, subgoalTo, answerTo, subgoalIn}
+use Rattle.space.specs.Heading.{headerOf}
 use Rattle.space.specs.declared.Head.{Head}
+use Rattle.space.specs.declared.Header.{Header}
+use Rattle.space.specs.declared.Header.the-variants as header
 use Rattle.space.specs.declared.Subgoal.{Subgoal}
 use Rattle.trie.specs.Append.{newRoot, appendPath}
-use Rattle.store.specs.Decisions.{Decision, says, gives, entersSubgoal, entersAnswer, entersEmpty, finishes}
+use Rattle.store.specs.Views.{viewOf}
+use Rattle.store.specs.Decisions.{Decision, says, gives, entersSubgoal, entersAnswer, entersEmpty, finishes, entersAnswers, answeredAt, walkTo}
 
 -- a new subgoal is open and has no answer
 abbrev pub newSubgoal : ℕ → ℕ → ℕ → Subgoal
@@ -46,14 +50,41 @@ answerEntered z cs h s g leaf nodes =
     ++ (put (lastCell z (h .«subgoal_offset») s) a ∷ put nodesCell nodes ∷ put answersCell a ∷ []))))
     cs
 
+-- an answer with a path of its own, and one whose leaf is the answer root
+abbrev pub pathEntered : Sizes → List ℕ → Head → ℕ → ℕ → ℕ → Word → List ℕ
+pathEntered z cs h s parent last left =
+    answerEntered z (appendPath z cs (h .nodes) parent last left) h s (subgoalIn z cs (h .«subgoal_offset») s) (h .nodes + length left - 1) (h .nodes + length left)
+
+abbrev pub emptyEntered : Sizes → List ℕ → Head → ℕ → List ℕ
+emptyEntered z cs h s =
+    let g = subgoalIn z cs (h .«subgoal_offset») s in
+    answerEntered z cs h s g (g .root) (h .nodes)
+
+-- what the decision on an answer writes; no answer comes to another decision
+unfoldable pub answerGiven : Sizes → List ℕ → Head → Decision → List ℕ
+answerGiven z cs h (says r) = cs
+answerGiven z cs h (gives ks) = cs
+answerGiven z cs h (entersSubgoal parent last left m) = cs
+answerGiven z cs h (entersAnswer s parent last left) = pathEntered z cs h s parent last left
+answerGiven z cs h (entersEmpty s) = emptyEntered z cs h s
+answerGiven z cs h (finishes s) = cs
+answerGiven z cs h (entersAnswers s ws) = cs
+
+-- a form is given as a single answer is, whatever that comes to
+unfoldable pub formGiven : Sizes → List ℕ → ℕ → Word → Header → List ℕ
+formGiven z cs s w (header.Sound h) = let v = viewOf z cs h in answerGiven z cs h (answeredAt v s w (walkTo v s w))
+formGiven z cs s w (header.Refused r) = cs
+
+-- each on the cells as the one before left them
+unfoldable pub formsGiven : Sizes → List ℕ → ℕ → List Word → List ℕ
+formsGiven z cs s [] = cs
+formsGiven z cs s (w ∷ ws) = formsGiven z (formGiven z cs s w (headerOf z cs)) s ws
+
 unfoldable pub change : Sizes → List ℕ → Head → Decision → List ℕ
 change z cs h (says r) = cs
 change z cs h (gives ks) = cs
 change z cs h (entersSubgoal parent last left m) = subgoalEntered z cs h parent last left m
-change z cs h (entersAnswer s parent last left) =
-    answerEntered z (appendPath z cs (h .nodes) parent last left) h s (subgoalIn z cs (h .«subgoal_offset») s)
-    (h .nodes + length left - 1) (h .nodes + length left)
-change z cs h (entersEmpty s) =
-    let g = subgoalIn z cs (h .«subgoal_offset») s in
-    answerEntered z cs h s g (g .root) (h .nodes)
+change z cs h (entersAnswer s parent last left) = pathEntered z cs h s parent last left
+change z cs h (entersEmpty s) = emptyEntered z cs h s
 change z cs h (finishes s) = writes (put (stateCell z (h .«subgoal_offset») s) 1 ∷ []) cs
+change z cs h (entersAnswers s ws) = formsGiven z cs s ws

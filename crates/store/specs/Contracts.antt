@@ -19,7 +19,7 @@ use Rattle.trie.specs.Walks.{walk}
 use Rattle.store.specs.Views.{View, viewOf, subgoalTrie, answerTrie}
 use Rattle.store.specs.Decisions.{Decision, refuses, entersAnswer, calledAt, answeredNew, answeredAt, answered}
 use Rattle.store.specs.Changes.{change}
-use Rattle.store.specs.Calls.{reply, under}
+use Rattle.store.specs.Calls.{usedAnswers, reply, under}
 
 -- the cells of a space under its head, as the calls read them
 abbrev pub viewIn : List ℕ → Head → View
@@ -28,7 +28,7 @@ viewIn cs h = viewOf (sizesOf (h .edition)) cs h
 -- on the cells `before` the decision d answers r and leaves `after`; no out is lent
 abbrev pub Does : List ℕ → Head → (View → Decision) → Reply → List ℕ → Type 0
 Does before h d r after =
-    (r ≡ reply (viewIn before h) (d (viewIn before h)) 0)
+    (r ≡ reply (viewIn before h) (d (viewIn before h)) 0 (usedAnswers after))
     × (after ≡ change (sizesOf (h .edition)) before h (d (viewIn before h)))
 
 -- the same of a call as a whole

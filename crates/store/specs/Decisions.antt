@@ -1,17 +1,18 @@
--- What a call comes to, before anything is written: refusals 3 to 11 in their order, each record judged where it is
--- read.
-use Prim.Native.Nat.{ℕ, suc, _+_}
+-- What a call comes to, before anything is written: refusals 3 to 11 and 14 to 16 in their order, each record judged
+-- where it is read.
+use Prim.Native.Nat.{ℕ, zero, suc, _+_, _-_, min}
 use mathlib.Core.Bool.{Bool, true, false, _&&_}
-use mathlib.Core.List.{List, []}
+use mathlib.Core.List.{List, [], _∷_}
 use lib.Dec.{eqb, leb, ltb}
 use lib.ListN.{length}
 use Rattle.basis.specs.Choice.{pick}
 use Rattle.forms.specs.Numbering.{met}
-use Rattle.plain.specs.Words.{Word}
+use Rattle.plain.specs.Words.{Word, has, most}
 use Rattle.plain.specs.Coding.{Coding, Reading, refused, accepted}
 use Rattle.plain.specs.Requests.{State, Open, Finished, Request, call, answer, finish, next, load, instance, counts}
 use Rattle.plain.specs.Requests.{Counts, Reply, new, oldSubgoal, oldAnswer, done, at, none, cells, used, refused}
-use Rattle.plain.specs.Requests.{short}
+use Rattle.plain.specs.Requests.{short, join}
+use Rattle.plain.specs.Joins.{Forms, declined, formed, Side, joinOf}
 use Rattle.space.specs.Judging.{subgoalSound, answerSound}
 use Rattle.space.specs.declared.Subgoal.{Subgoal}
 use Rattle.space.specs.declared.Answer.{Answer}
@@ -32,6 +33,8 @@ pub data Decision : Type 0 where
   -- subgoal: the empty answer, whose leaf is the answer root
   entersEmpty : ℕ → Decision
   finishes : ℕ → Decision
+  -- subgoal, forms that are given to it one after another
+  entersAnswers : ℕ → List Word → Decision
 
 abbrev pub refuses : ℕ → Decision
 refuses r = says (refused r)
@@ -153,7 +156,94 @@ instanced c v s d =
 abbrev pub soundPair : View → ℕ → Bool
 soundPair v a = soundAnswer v a && soundSubgoal v (v .answer a .subgoal)
 
--- ---- the seven calls
+-- ---- join
+
+-- the forms of a subgoal's answers; or broken, where a damaged record was met
+pub data Chain : Type 0 where
+  broken : Chain
+  unbroken : List Word → Chain
+
+-- the path of an answer before those of the answers that follow it
+unfoldable pub headed : (Word → Bool) → Path → Chain → Chain
+headed test none later = broken
+headed test (tokens w) broken = broken
+headed test (tokens w) (unbroken ws) = pick (test w) (unbroken (w ∷ ws)) broken
+
+-- from answer a on, by next until 0: each answer is judged as next does, its path as load does. Answers rise, so no chain
+-- has more steps than there are answers.
+unfoldable pub chainFrom : Coding → View → ℕ → ℕ → ℕ → Chain
+chainFrom c v s zero a = pick (eqb a 0) (unbroken []) broken
+chainFrom c v s (suc steps) a =
+    let g = v .subgoal s in
+    let later = chainFrom c v s steps (v .answer a .next) in
+    pick (eqb a 0) (unbroken [])
+    (pick (soundAnswerOf v s a) (headed (λ w. c .legal (g .variables) w) (gather longest (answerTrie v) (g .root) (v .answer a .leaf)) later) broken)
+
+abbrev pub chainOf : Coding → View → ℕ → Chain
+chainOf c v s = chainFrom c v s (v .answers) (v .subgoal s .first)
+
+-- what follows where both sources are read
+unfoldable pub onChains : Chain → Chain → (List Word → List Word → Decision) → Decision
+onChains broken y d = refuses 9
+onChains (unbroken us) broken d = refuses 9
+onChains (unbroken us) (unbroken vs) d = d us vs
+
+-- a subgoal as a source
+unfoldable pub sideIn : View → ℕ → List Word → Side
+sideIn v s ws = record { state = stateOf (v .subgoal s .state); m = v .subgoal s .variables; forms = ws }
+
+-- the search of a form among the answers to s
+abbrev pub walkTo : View → ℕ → Word → Walk
+walkTo v s w = walk (answerTrie v) (v .subgoal s .root) w
+
+-- no damaged record was met: a form found whole ends in its answer's leaf, or it is empty and new
+unfoldable pub metSound : View → Word → Walk → Bool
+metSound v w (whole leaf) =
+    let a = v .node leaf .link in
+    pick (eqb a 0) (eqb (length w) 0) (soundAnswer v a && eqb (v .answer a .leaf) leaf)
+metSound v w (stopped parent last left) = true
+metSound v w damaged = false
+
+unfoldable pub allSound : View → ℕ → List Word → Bool
+allSound v s [] = true
+allSound v s (w ∷ ws) = metSound v w (walkTo v s w) && allSound v s ws
+
+-- the form is not among the answers
+unfoldable pub lacking : View → Walk → Bool
+lacking v (whole leaf) = eqb (v .node leaf .link) 0
+lacking v (stopped parent last left) = true
+lacking v damaged = true
+
+-- its tokens that were not found
+unfoldable pub missing : Walk → ℕ
+missing (whole leaf) = 0
+missing (stopped parent last left) = length left
+missing damaged = 0
+
+-- the nodes that forms take, those before them given: each its tokens that were not found, less those that it shares with a
+-- form before it. Nothing is written for it.
+unfoldable pub nodesNeeded : View → ℕ → List Word → List Word → ℕ
+nodesNeeded v s before [] = 0
+nodesNeeded v s before (w ∷ ws) = min (missing (walkTo v s w)) (length w - most before w) + nodesNeeded v s (w ∷ before) ws
+
+-- and the records: one for each form that is not among the answers and not before it
+unfoldable pub answersNeeded : View → ℕ → List Word → List Word → ℕ
+answersNeeded v s before [] = 0
+answersNeeded v s before (w ∷ ws) = pick (lacking v (walkTo v s w)) (pick (has before w) 0 1) 0 + answersNeeded v s (w ∷ before) ws
+
+-- where a form is new the last answer is read; 10 and 11 are for all new forms together
+unfoldable pub joining : View → ℕ → Forms → Decision
+joining v s (declined r) = refuses r
+joining v s (formed ws) =
+    let more = answersNeeded v s [] ws in
+    sound (allSound v s ws && pick (eqb more 0) true (soundLast v s))
+    (pick (leb (v .nodes + nodesNeeded v s [] ws) (v .N)) (pick (leb (v .answers + more) (v .A)) (entersAnswers s ws) (refuses 11)) (refuses 10))
+
+-- the target's own records are judged with those of the sources
+abbrev pub soundTarget : View → ℕ → Bool
+soundTarget v s = soundSubgoal v s && rootSound (answerTrie v) (v .subgoal s .root)
+
+-- ---- the eight calls
 
 unfoldable pub decide : Coding → View → Request → Decision
 decide c v (call cs) = called v (c .called cs)
@@ -168,3 +258,8 @@ decide c v (instance a out) =
     known (v .answers) a
     (sound (soundPair v a) (loaded c v a (λ w. instanced c v (v .answer a .subgoal) (λ u. gives (c .instanceOf u w)))))
 decide c v counts = says (used (record { nodes = v .nodes; subgoals = v .subgoals; answers = v .answers }))
+decide c v (join f g ps s cs) =
+    known (v .subgoals) f (known (v .subgoals) g (known (v .subgoals) s
+    (sound (soundSubgoal v f && soundSubgoal v g && soundTarget v s)
+    (onChains (chainOf c v f) (chainOf c v g) (λ us vs.
+    joining v s (joinOf c (sideIn v f us) (sideIn v g vs) ps (stateOf (v .subgoal s .state)) (v .subgoal s .variables) cs))))))

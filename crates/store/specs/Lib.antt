@@ -5,3 +5,4 @@ pub mod Calls
 pub mod Contracts
 pub mod Replies
 pub mod Examples
+pub mod JoinExamples

@@ -1,7 +1,7 @@
 -- What each answer of the code says: the number and values that the request's paper gives for each case.
 use mathlib.Core.List.{List}
 use Rattle.plain.specs.Requests.{State, Open, Finished, Counts, Reply, new, oldSubgoal, oldAnswer, done, at, none}
-use Rattle.plain.specs.Requests.{cells, used, refused, short}
+use Rattle.plain.specs.Requests.{cells, used, joined, refused, short}
 use Rattle.forms.specs.declared.Answer.{Answer}
 use Rattle.forms.specs.declared.Answer.the-variants as converted
 use Rattle.store.specs.declared.State as declared-state
@@ -14,6 +14,8 @@ use Rattle.store.specs.declared.FinishAnswer.{FinishAnswer}
 use Rattle.store.specs.declared.FinishAnswer.the-variants as finish
 use Rattle.store.specs.declared.NextAnswer.{NextAnswer}
 use Rattle.store.specs.declared.NextAnswer.the-variants as next
+use Rattle.store.specs.declared.JoinAnswer.{JoinAnswer}
+use Rattle.store.specs.declared.JoinAnswer.the-variants as join
 use Rattle.store.specs.declared.Counts as declared-counts
 use Rattle.store.specs.declared.CountsAnswer.{CountsAnswer}
 use Rattle.store.specs.declared.CountsAnswer.the-variants as counts
@@ -40,6 +42,10 @@ abbrev pub saidNext : NextAnswer → Reply
 saidNext (next.At n) = at n
 saidNext next.NoMore = none
 saidNext (next.Refused r) = refused r
+
+abbrev pub saidJoin : JoinAnswer → Reply
+saidJoin (join.Joined n) = joined n
+saidJoin (join.Refused r) = refused r
 
 -- load and instance answer as the converters do
 abbrev pub saidCells : Answer → Reply

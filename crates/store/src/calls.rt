@@ -51,10 +51,10 @@ ghost use Rattle.basis.specs.Writes.{writes};
 ghost use Rattle.plain.specs.Requests as request;
 ghost use Rattle.space.specs.Layout.{sizesOf};
 ghost use Rattle.space.specs.Sound.{Bounds, SubgoalRoom, answersEnd, subgoalUnder};
-ghost use Rattle.store.specs.Decisions.{stateOf, calledOld, calledNew};
+ghost use Rattle.store.specs.Decisions.{says, stateOf, calledOld, calledNew};
 ghost use Rattle.store.specs.Decisions.{soundLast, answeredNew, answeredOld, entersEmpty};
 ghost use Rattle.store.specs.Changes.{chained, subgoalEntered, answerEntered};
-ghost use Rattle.store.specs.Calls.{reply, Answers};
+ghost use Rattle.store.specs.Calls.{Answers};
 ghost use Rattle.convert.specs.Holds.{RoomForForm};
 ghost use Rattle.store.specs.Contracts.{viewIn, Does, AnswersUnder, StoppedAt};
 ghost use Rattle.store.specs.Contracts.{Held, HeldLast, RefusedBy, refusalOf, calledFrom};
@@ -121,9 +121,7 @@ fn state_of(x: usize) -> State
 // The path was found whole at a leaf whose link is s.
 fn call_old(space: &[u32], h: Head, leaf: usize, s: usize) -> CallAnswer
     requires { ⌜ Bounds (now space) h × (s ≤ h .subgoals) ⌝ }
-    ensures { λ r. ⌜
-        saidCall r ≡ reply (viewIn (now (space .entry)) h) (calledOld (viewIn (now (space .entry)) h) leaf s) 0
-        ⌝ }
+    ensures { λ r. ⌜ says (saidCall r) ≡ calledOld (viewIn (now (space .entry)) h) leaf s ⌝ }
 {
     if s == 0 {
         return CallAnswer::Refused(RECORDS);
@@ -270,7 +268,7 @@ pub fn call(space: &mut [u32], term: &[u32]) -> CallAnswer
 // ---- answer
 
 // The last answer of subgoal s, where there is one, is the subgoal's and has none after it.
-fn last_sound(space: &[u32], h: Head, s: usize, last: usize) -> bool
+pub fn last_sound(space: &[u32], h: Head, s: usize, last: usize) -> bool
     requires { ⌜
         Bounds (now space) h × (last ≤ h .answers) × (last ≡ subgoalUnder (now space) h s .last)
         ⌝ }
@@ -438,7 +436,7 @@ fn answer_old(
 }
 
 // Terms with this form answer subgoal s.
-fn answer_at(space: &mut [u32], h: Head, s: usize, g: Subgoal, tokens: &[u32]) -> AnswerAnswer
+pub fn answer_at(space: &mut [u32], h: Head, s: usize, g: Subgoal, tokens: &[u32]) -> AnswerAnswer
     requires { ⌜ Held (now space) h s g ⌝ }
     ensures { λ r. ⌜
         Does (now (space .entry)) h (answeredFrom s (g .root) (now (tokens .entry)))

@@ -1,4 +1,4 @@
-// The calls on a space that the caller lends: what the seven answer, and those that write.
+// The calls on a space that the caller lends: what the eight answer, and those that write one record.
 pub mod calls;
 
 // A subgoal is open or finished.
@@ -31,6 +31,12 @@ pub enum FinishAnswer {
 pub enum NextAnswer {
     At(u32),
     NoMore,
+    Refused(u32),
+}
+
+// What join answers: how many answers are new.
+pub enum JoinAnswer {
+    Joined(u32),
     Refused(u32),
 }
 

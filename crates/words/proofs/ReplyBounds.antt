@@ -1,4 +1,4 @@
--- Every answer of the seven calls and of fresh is one that a result word holds: no refusal above 11 but 12, and at most 256 * 257 cells.
+-- Every answer of the calls and of fresh is one that a result word holds: no refusal above 16, and at most 256 * 257 cells.
 use Prim.Native.Nat.{ℕ, zero, suc, _+_, _*_, _^_, _≤_, _<_}
 use mathlib.Core.Bool.{Bool, true, false, _&&_}
 use mathlib.Core.List.{List, [], _∷_, map}
@@ -18,8 +18,11 @@ use Rattle.forms.specs.declared.Reading as forms
 use Rattle.forms.specs.declared.Reading.the-variants.{Form, Refusal}
 use Rattle.forms.proofs.RoundTrip.{legal-parts}
 use Rattle.plain.specs.Coding.{Reading, refused, accepted, handedOn, judged, predicate, compacted, substituted, codingOf}
-use Rattle.plain.specs.Requests.{State, Open, Finished, Request, call, answer, finish, next, load, instance, counts, lent, oldSubgoal, oldAnswer, at, none, refused}
+use Rattle.plain.specs.Requests.{State, Open, Finished, Request, call, answer, finish, next, load, instance, counts, join, lent, oldSubgoal, oldAnswer, at, none, refused}
 use Rattle.plain.specs.Words.{Word}
+use Rattle.plain.specs.Joins.{Forms, declined, formed, joinOf}
+use Rattle.plain.proofs.Changes.{Read, all-read, join-cases}
+use Rattle.plain.proofs.CompactCoding.{compact-laws}
 use Rattle.space.specs.Layout.{sizesOf}
 use Rattle.space.specs.Heading.{headerOf, spaceHeader, capacity, counted}
 use Rattle.space.specs.Heading as heading
@@ -32,7 +35,7 @@ use Rattle.trie.specs.Walks.{Walk, whole, stopped, damaged, rootSound, walk}
 use Rattle.trie.specs.Paths.{Path, tokens, gather, longest}
 use Rattle.trie.specs.Paths as path
 use Rattle.store.specs.Views.{View, viewOf, subgoalTrie, answerTrie}
-use Rattle.store.specs.Decisions.{Decision, says, gives, entersSubgoal, entersAnswer, entersEmpty, finishes, refuses, soundSubgoal, soundAnswer, soundAnswerOf, sound, known, stateOf, soundLast, whileOpen, calledOld, calledNew, calledAt, called, answeredNew, answeredOld, answeredAt, answered, starting, handed, onward, onPath, loaded, instanced, soundPair, decide}
+use Rattle.store.specs.Decisions.{Decision, says, gives, entersSubgoal, entersAnswer, entersEmpty, finishes, entersAnswers, refuses, soundSubgoal, soundAnswer, soundAnswerOf, sound, known, stateOf, soundLast, whileOpen, calledOld, calledNew, calledAt, called, answeredNew, answeredOld, answeredAt, answered, starting, handed, onward, onPath, loaded, instanced, soundPair, Chain, broken, unbroken, chainOf, onChains, sideIn, allSound, nodesNeeded, answersNeeded, joining, soundTarget, decide}
 use Rattle.store.specs.Calls.{reply, under, underAny, spaceStep}
 use Rattle.words.specs.Words.{saidFresh}
 use Rattle.words.specs.Bounded.{Bounded}
@@ -85,14 +88,15 @@ Small (entersSubgoal parent last left m) = Unit {0}
 Small (entersAnswer s parent last left) = Unit {0}
 Small (entersEmpty s) = Unit {0}
 Small (finishes s) = Unit {0}
+Small (entersAnswers s ws) = Unit {0}
 
 -- a test and its refusal
-small-pick : (b : Bool) (d : Decision) (r : ℕ) → r ≤ 13 → (b ≡ true → Small d) → Small (pick b d (refuses r))
+small-pick : (b : Bool) (d : Decision) (r : ℕ) → r ≤ 16 → (b ≡ true → Small d) → Small (pick b d (refuses r))
 small-pick true d r h f = f refl
 small-pick false d r h f = h
 
 -- two tests, each with its refusal
-small-tests : (a b : Bool) (d : Decision) (i j : ℕ) → i ≤ 13 → j ≤ 13 → Small d → Small (pick a (pick b d (refuses i)) (refuses j))
+small-tests : (a b : Bool) (d : Decision) (i j : ℕ) → i ≤ 16 → j ≤ 16 → Small d → Small (pick a (pick b d (refuses i)) (refuses j))
 small-tests true b d i j h k f = small-pick b d i h (λ q. f)
 small-tests false b d i j h k f = k
 
@@ -165,12 +169,12 @@ small-path (tokens w) test d f = small-sound (d w) (test w) (f w)
 -- ---- readings
 
 abbrev SmallReading : Reading → Type 0
-SmallReading (refused r) = r ≤ 13
+SmallReading (refused r) = r ≤ 16
 SmallReading (accepted w m) = Unit {0}
 
 abbrev SmallHeader : Header → Type 0
 SmallHeader (header.Sound h) = Unit {0}
-SmallHeader (header.Refused r) = r ≤ 13
+SmallHeader (header.Refused r) = r ≤ 16
 
 -- the calls on a space of edition ed
 module _ (ed : ℕ) where
@@ -227,7 +231,7 @@ module _ (ed : ℕ) where
       (λ q. rw q (omega arith))))
       (λ q. rw q (omega arith))))
 
-  -- ---- the seven calls
+  -- ---- the eight calls
 
   small-load : (v : View) (a : ℕ) → Small (loaded (codingOf ed) v a (λ w. gives (pairForm (arityOf ed) w)))
   unfolding loaded pairForm
@@ -251,6 +255,27 @@ module _ (ed : ℕ) where
       small-path (gather longest (answerTrie v) (g .root) (v .answer a .leaf)) (legalForm (arityOf ed) (g .variables)) (λ w. instanced (codingOf ed) v s (λ u. gives ((codingOf ed) .instanceOf u w)))
       (λ w l. small-instanced v s w (legal-cells (arityOf ed) (g .variables) w l))
 
+  -- a join: reading refuses by 3 to 5, the rule by 8 and 14 to 16
+  small-joining : (v : View) (s m : ℕ) (x : Forms) → Read (codingOf ed) m x → Small (joining v s x)
+  unfolding joining
+  small-joining v s m (declined r) e = omega (arith, compact-laws (arityOf ed) .answered-refused m (e .0) r (e .1) .1)
+  small-joining v s m (formed ws) e =
+      small-sound _ (allSound v s ws && pick (eqb (answersNeeded v s [] ws) 0) true (soundLast v s)) (λ q.
+      small-tests (leb (v .nodes + nodesNeeded v s [] ws) (v .N)) (leb (v .answers + answersNeeded v s [] ws) (v .A)) (entersAnswers s ws) 11 10 (omega arith) (omega arith) tt)
+
+  small-declined : (v : View) (s r : ℕ) → r ≤ 16 → Small (joining v s (declined r))
+  unfolding joining
+  small-declined v s r h = h
+
+  small-chains : (v : View) (s f g : ℕ) (ps cs : List ℕ) (x y : Chain) → Small (onChains x y (λ us vs. joining v s (joinOf (codingOf ed) (sideIn v f us) (sideIn v g vs) ps (stateOf (v .subgoal s .state)) (v .subgoal s .variables) cs)))
+  unfolding onChains
+  small-chains v s f g ps cs broken y = omega arith
+  small-chains v s f g ps cs (unbroken us) broken = omega arith
+  small-chains v s f g ps cs (unbroken us) (unbroken vs) =
+      join-cases (λ x. Small (joining v s x)) (codingOf ed) (sideIn v f us) (sideIn v g vs) ps (stateOf (v .subgoal s .state)) (v .subgoal s .variables) cs
+      (small-declined v s 8 (omega arith)) (small-declined v s 14 (omega arith)) (small-declined v s 15 (omega arith)) (small-declined v s 16 (omega arith))
+      (λ o. small-joining v s (v .subgoal s .variables) _ (all-read (codingOf ed) (v .subgoal s .variables) _))
+
   decide-small : (v : View) (q : Request) → Small (decide (codingOf ed) v q)
   unfolding decide
   decide-small v (call cs) =
@@ -273,19 +298,23 @@ module _ (ed : ℕ) where
       let d = loaded (codingOf ed) v a (λ w. instanced (codingOf ed) v (v .answer a .subgoal) (λ u. gives ((codingOf ed) .instanceOf u w))) in
       small-known (sound (soundPair v a) d) (v .answers) a (small-sound d (soundPair v a) (λ q. small-instance v a))
   decide-small v counts = tt
+  decide-small v (join f g ps s cs) =
+      small-known _ (v .subgoals) f (small-known _ (v .subgoals) g (small-known _ (v .subgoals) s
+      (small-sound _ (soundSubgoal v f && soundSubgoal v g && soundTarget v s) (λ q. small-chains v s f g ps cs (chainOf (codingOf ed) v f) (chainOf (codingOf ed) v g)))))
 
-  reply-bounded : (v : View) (d : Decision) (room : ℕ) → Small d → Bounded (reply v d room)
+  reply-bounded : (v : View) (d : Decision) (room after : ℕ) → Small d → Bounded (reply v d room after)
   unfolding reply
-  reply-bounded v (says r) room f = f
-  reply-bounded v (gives ks) room f = by-cases (leb (length ks) room) (λ q. rw q f) (λ q. rw q f)
-  reply-bounded v (entersSubgoal parent last left m) room f = tt
-  reply-bounded v (entersAnswer s parent last left) room f = tt
-  reply-bounded v (entersEmpty s) room f = tt
-  reply-bounded v (finishes s) room f = tt
+  reply-bounded v (says r) room after f = f
+  reply-bounded v (gives ks) room after f = by-cases (leb (length ks) room) (λ q. rw q f) (λ q. rw q f)
+  reply-bounded v (entersSubgoal parent last left m) room after f = tt
+  reply-bounded v (entersAnswer s parent last left) room after f = tt
+  reply-bounded v (entersEmpty s) room after f = tt
+  reply-bounded v (finishes s) room after f = tt
+  reply-bounded v (entersAnswers s ws) room after f = tt
 
   under-bounded : (s : List ℕ) (q : Request) (h : Header) → SmallHeader h → Bounded (under (sizesOf ed) (codingOf ed) s q h .reply)
   unfolding under
-  under-bounded s q (header.Sound h) f = reply-bounded (viewOf (sizesOf ed) s h) (decide (codingOf ed) (viewOf (sizesOf ed) s h) q) (length (lent q)) (decide-small (viewOf (sizesOf ed) s h) q)
+  under-bounded s q (header.Sound h) f = reply-bounded (viewOf (sizesOf ed) s h) (decide (codingOf ed) (viewOf (sizesOf ed) s h) q) (length (lent q)) _ (decide-small (viewOf (sizesOf ed) s h) q)
   under-bounded s q (header.Refused r) f = f
 
 any-small : (s : List ℕ) → SmallHeader (spaceHeader s)

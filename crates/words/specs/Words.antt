@@ -5,8 +5,8 @@ use mathlib.Core.Path.{_≡_}
 use lib.Dec.{leb}
 use lib.ListN.{length, drop}
 use Rattle.basis.specs.Choice.{pick}
-use Rattle.plain.specs.Requests.{Open, Finished, Request, counts, Counts, Reply, new, oldSubgoal, oldAnswer, done, at}
-use Rattle.plain.specs.Requests.{none, cells, used, refused, short}
+use Rattle.plain.specs.Requests.{Open, Finished, Request, counts, Counts}
+use Rattle.plain.specs.Requests.{Reply, new, oldSubgoal, oldAnswer, done, at, none, cells, used, joined, refused, short}
 use Rattle.space.specs.declared.FreshAnswer.{FreshAnswer}
 use Rattle.space.specs.declared.FreshAnswer.the-variants as fresh
 use Rattle.space.specs.Fresh.{freshAnswerIn, freshSpaceIn}
@@ -27,6 +27,7 @@ word (at n) = worded 5 n
 word none = worded 6 0
 word (cells n) = worded 7 n
 word (used c) = worded 8 3
+word (joined n) = worded 10 n
 word (refused r) = worded (256 + r) 0
 word (short n) = worded (256 + 12) n
 
@@ -57,6 +58,7 @@ counting done f x = x
 counting (at n) f x = x
 counting none f x = x
 counting (cells n) f x = x
+counting (joined n) f x = x
 counting (refused r) f x = x
 counting (short n) f x = x
 

@@ -5,12 +5,14 @@ use space::FreshAnswer;
 use store::AnswerAnswer;
 use store::CallAnswer;
 use store::FinishAnswer;
+use store::JoinAnswer;
 use store::NextAnswer;
 use store::State;
 ghost use mathlib.Core.Path.{_≡_};
 ghost use Prim.Native.Nat.{_≤_};
 ghost use Rattle.plain.specs.Requests as request;
-ghost use Rattle.store.specs.Replies.{saidState, saidCall, saidAnswer, saidFinish, saidNext, saidCells};
+ghost use Rattle.store.specs.Replies.{saidState, saidCall, saidAnswer, saidFinish, saidNext};
+ghost use Rattle.store.specs.Replies.{saidJoin, saidCells};
 ghost use Rattle.words.specs.Words.{worded, word, saidFresh};
 ghost use Rattle.words.specs.Bounded.{Bounded};
 
@@ -34,6 +36,8 @@ const CELLS: u32 = 7;
 
 pub const COUNTS: u32 = 8;
 
+const JOINED: u32 = 10;
+
 pub const REFUSED: u32 = 256;
 
 // ---- result words
@@ -47,7 +51,7 @@ pub fn result_word(what: u32, value: u32) -> u64
 
 // The word of a refusal without a value: of every one but 12. A bound keeps the sum within a cell.
 pub fn refusal_word(r: u32) -> u64
-    requires { ⌜ r ≤ 13 ⌝ }
+    requires { ⌜ r ≤ 16 ⌝ }
     ensures { λ w. ⌜ w ≡ word (request.refused r) ⌝ }
 {
     result_word(REFUSED + r, 0)
@@ -118,6 +122,17 @@ pub fn next_word(answer: NextAnswer) -> u64
         NextAnswer::At(n) => return result_word(AT, n),
         NextAnswer::NoMore => return result_word(NO_MORE, 0),
         NextAnswer::Refused(r) => return refusal_word(r),
+    }
+}
+
+// The value is a count, and 0 where nothing is new.
+pub fn join_word(answer: JoinAnswer) -> u64
+    requires { ⌜ Bounded (saidJoin answer) ⌝ }
+    ensures { λ w. ⌜ w ≡ word (saidJoin answer) ⌝ }
+{
+    match answer {
+        JoinAnswer::Joined(n) => return result_word(JOINED, n),
+        JoinAnswer::Refused(r) => return refusal_word(r),
     }
 }
 

@@ -1,0 +1,57 @@
+-- Cells that hold a table, and what one call on them leaves.
+use mathlib.Core.Path.{_≡_}
+use mathlib.Core.List.{List}
+use Prim.Native.Nat.{ℕ}
+use lib.ListN.{length}
+use Rattle.plain.specs.Coding.{Coding}
+use Rattle.plain.specs.Requests.{Result}
+use Rattle.plain.specs.Table.{Table}
+use Rattle.space.specs.Layout.{Sizes}
+use Rattle.space.specs.Heading.{headerOf}
+use Rattle.space.specs.Fresh.{freshAnswer, freshSpace}
+use Rattle.space.specs.declared.Head.{Head}
+use Rattle.space.specs.declared.Header.the-variants as header
+use Rattle.space.specs.declared.FreshAnswer.the-variants.{Done}
+use Rattle.store.specs.Views.{viewOf}
+use Rattle.store.specs.Decisions.{Decision}
+use Rattle.store.specs.Changes.{change}
+use Rattle.store.specs.Calls.{usedAnswers, reply, outAfter, countedCells}
+use Rattle.agreement.specs.Records.{Alike, freshView, changedView, Fits}
+use Rattle.agreement.proofs.SameRecords.{Same, same-alike}
+use Rattle.agreement.proofs.Agreeing.{Agrees}
+
+-- what holds of the cells of a space: a decision that fits makes of them what it makes of their view, the header counts,
+-- and a fresh space is a fresh view
+pub record Cells (z : Sizes) : Type 0 where
+  pub cells-change : (cs : List ℕ) (h : Head) (d : Decision) → headerOf z cs ≡ header.Sound h → Fits (viewOf z cs h) d
+      → (h′ : Head) × (headerOf z (change z cs h d) ≡ header.Sound h′) × Alike (viewOf z (change z cs h d) h′) (changedView (viewOf z cs h) d)
+  pub cells-counts : (cs : List ℕ) (h : Head) → headerOf z cs ≡ header.Sound h → countedCells cs ≡ record { nodes = h .nodes; subgoals = h .subgoals; answers = h .answers }
+  pub fresh-view : (n f a : ℕ) (s : List ℕ) → freshAnswer z n f a s ≡ Done
+      → (h : Head) × (headerOf z (freshSpace z n f a s) ≡ header.Sound h) × Alike (viewOf z (freshSpace z n f a s) h) (freshView n f a)
+
+-- the cells have a sound header, and their records are those of the table
+pub record Holds (z : Sizes) (c : Coding) (t : Table) (cs : List ℕ) : Type 0 where
+  pub head : Head
+  pub sound : headerOf z cs ≡ header.Sound head
+  pub same : Same c t (viewOf z cs head)
+
+-- what the plain table gives and the decision on the cells: the same answer, the same out, and cells that hold the table left
+pub record AnswersAlike (z : Sizes) (c : Coding) (cs : List ℕ) (h : Head) (out : List ℕ) (r : Result Table) (d : Decision) : Type 0 where
+  pub replies : reply (viewOf z cs h) d (length out) (usedAnswers (change z cs h d)) ≡ r .reply
+  pub leaves : outAfter d out ≡ r .out
+  pub holds : Holds z c (r .state) (change z cs h d)
+
+-- where the decision fits and makes the same records
+pub agrees-answers : (z : Sizes) (c : Coding) → Cells z → (cs : List ℕ) (h : Head) → headerOf z cs ≡ header.Sound h → {out : List ℕ} {r : Result Table} {d : Decision}
+    → Agrees c (viewOf z cs h) out r d → AnswersAlike z c cs h out r d
+agrees-answers z c cells cs h e {out} {r} {d} a =
+    let more = cells .cells-change cs h d e (a .fits) in
+    record {
+      replies = a .replies _;
+      leaves = a .leaves;
+      holds = record {
+        head = more .0;
+        sound = more .1;
+        same = same-alike c (r .state) (changedView (viewOf z cs h) d) (viewOf z (change z cs h d) (more .0)) (a .same) (more .2);
+      };
+    }
