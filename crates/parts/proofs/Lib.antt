@@ -1,0 +1,13 @@
+pub mod GroundForms
+pub mod GroundTest
+pub mod JoinedForms
+pub mod SegmentLaws
+pub mod EqualTokens
+pub mod CopyTokens
+pub mod Counting
+pub mod NamedTerms
+pub mod Matching
+pub mod Gathering
+pub mod HandLaws
+pub mod Scanning
+pub mod Taking

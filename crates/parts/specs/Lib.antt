@@ -1,0 +1,4 @@
+pub mod Parts
+pub mod Segments
+pub mod Hands
+pub mod Examples

@@ -1,0 +1,5 @@
+pub mod CountLaws
+mod Places
+mod NameCases
+mod ChainCases
+mod SearchCases

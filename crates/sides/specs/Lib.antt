@@ -1,0 +1,4 @@
+pub mod Chains
+pub mod Counts
+pub mod Names
+pub mod Searches

@@ -1,0 +1,77 @@
+// The search of one form among the answers to a subgoal, and what two forms share.
+use super::Met;
+use space::AnswerRead;
+use space::Head;
+use space::records::node_in;
+use space::records::read_answer;
+use trie::Walked;
+use trie::walks::walk_tokens;
+ghost use mathlib.Core.Path.{_≡_};
+ghost use Prim.Native.Nat.{_<_, _≤_};
+ghost use Rattle.plain.specs.Words.{common};
+ghost use Rattle.space.specs.Sound.{Bounds};
+ghost use Rattle.store.specs.Contracts.{viewIn};
+ghost use Rattle.sides.specs.Searches.{wholeSound, Searched};
+
+// A form of n tokens was found whole at a leaf whose link is a: that answer ends there, or the form is empty and new.
+fn whole_sound(space: &[u32], h: Head, n: usize, leaf: usize, a: usize) -> bool
+    requires { ⌜ Bounds (now space) h × (a ≤ h .answers) ⌝ }
+    ensures { λ r. ⌜ r ≡ wholeSound (viewIn (now (space .entry)) h) n leaf a ⌝ }
+{
+    if a == 0 {
+        return n == 0;
+    }
+    let AnswerRead::Sound(y) = read_answer(space, h, a) else {
+        return false;
+    };
+    y.leaf == leaf
+}
+
+// The search from an answer root on.
+pub fn search(space: &[u32], h: Head, root: usize, tokens: &[u32]) -> Met
+    requires { ⌜ Bounds (now space) h × (root < h .nodes) ⌝ }
+    ensures { λ r. ⌜ Searched (now (space .entry)) h root (now (tokens .entry)) r ⌝ }
+{
+    let walked = walk_tokens(space, h.nodes, h.answers, root, tokens);
+    match walked {
+        Walked::Whole(leaf) => {
+            let y = node_in(space, h.nodes, leaf);
+            return Met {
+                sound: whole_sound(space, h, tokens.len(), leaf, y.link),
+                lacking: y.link == 0,
+                missing: 0,
+            };
+        }
+        Walked::Stopped(_, _, left) => {
+            return Met {
+                sound: true,
+                lacking: true,
+                missing: left,
+            };
+        }
+        Walked::Damaged => {
+            return Met {
+                sound: false,
+                lacking: true,
+                missing: 0,
+            };
+        }
+    }
+}
+
+// How many leading tokens two forms share.
+pub fn common(a: &[u32], b: &[u32]) -> usize
+    ensures { λ r. ⌜ r ≡ common (now (a .entry)) (now (b .entry)) ⌝ }
+{
+    let mut i = 0;
+    while i < a.len() {
+        if b.len() <= i {
+            return i;
+        }
+        if a[i] != b[i] {
+            return i;
+        }
+        i += 1;
+    }
+    i
+}
