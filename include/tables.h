@@ -16,7 +16,7 @@ extern "C" {
  * 1.2.3.
  */
 #define TABLES_VERSION_MAJOR 1
-#define TABLES_VERSION_MINOR 0
+#define TABLES_VERSION_MINOR 1
 #define TABLES_VERSION_PATCH 0
 #define TABLES_VERSION \
     (TABLES_VERSION_MAJOR * 10000 + TABLES_VERSION_MINOR * 100 + TABLES_VERSION_PATCH)
@@ -149,9 +149,9 @@ static inline uint32_t tables_functor_cell(uint64_t edition, uint64_t name, uint
  * A call that cannot be carried out is refused by one of these numbers and
  * changes nothing: neither a cell of the space nor one of out. Where several
  * apply, the checks are made in this order: header (1) or fresh (2), number
- * (7), the records that the number names (9), state (8), length (4), term (3),
- * variables (5), predicate (6), the other records (9), nodes (10), records left
- * (11), form (13), out (12).
+ * (7), the records that the number names (9), state (8), a join's sources (14,
+ * 15) and names (16), length (4), term (3), variables (5), predicate (6), the
+ * other records (9), nodes (10), records left (11), form (13), out (12).
  */
 enum tables_refusal {
     TABLES_REFUSED_HEADER = 1,     /* the space has no sound header, or is cut short; from a
@@ -169,7 +169,12 @@ enum tables_refusal {
     TABLES_REFUSED_NO_NODE = 10,   /* full: too few nodes left */
     TABLES_REFUSED_NO_RECORD = 11, /* full: no record left for a new subgoal or answer */
     TABLES_REFUSED_OUT = 12,       /* out is too short */
-    TABLES_REFUSED_FORM = 13       /* no compact form of a legal term; tables_expand alone */
+    TABLES_REFUSED_FORM = 13,      /* no compact form of a legal term; tables_expand alone */
+    TABLES_REFUSED_SOURCE_OPEN = 14,     /* a source of a join is open */
+    TABLES_REFUSED_SOURCE_VARIABLE = 15, /* an answer of a join's source holds a variable */
+    TABLES_REFUSED_NAMES = 16            /* a variable or side that a join names is out of
+                                            range, its pairs are over 32, or its copies are
+                                            not one for each variable of the target */
 };
 
 /* A refusal's number in words, for people: a sentence, also for a number that there is not. */
@@ -202,6 +207,12 @@ static inline const char *tables_refusal_text(uint32_t refusal)
         return "The cells lent for the result are too few.";
     case TABLES_REFUSED_FORM:
         return "The cells are not the compact form of a legal term.";
+    case TABLES_REFUSED_SOURCE_OPEN:
+        return "A source of the join is not finished.";
+    case TABLES_REFUSED_SOURCE_VARIABLE:
+        return "An answer of a source of the join holds a variable.";
+    case TABLES_REFUSED_NAMES:
+        return "The pairs or copies of the join do not fit its subgoals.";
     default:
         return "There is no refusal of this number.";
     }
@@ -252,7 +263,7 @@ static inline uint32_t tables_edition(const uint32_t *space, size_t space_cells)
  * run at once. Calls that only read (the space is const: tables_next,
  * tables_load, tables_instance, tables_counts) may run at once on one space.
  * While a call that writes (tables_fresh, tables_call, tables_answer,
- * tables_finish) runs, no other call on the same space may run: the caller
+ * tables_finish, tables_join) runs, no other call on the same space may run: the caller
  * serialises them.
  *
  * The use of the stack is bounded, whatever is lent: see below.
@@ -326,6 +337,7 @@ enum tables_outcome {
     TABLES_NONE = 6,          /* value 0 */
     TABLES_CELLS = 7,         /* the number of cells written to out */
     TABLES_COUNTS = 8,        /* 3, the number of cells written to out */
+    TABLES_JOINED = 10,       /* how many answers are new */
     TABLES_CALL_REFUSED = 256 /* plus the refusal's number; no value, but see tables_need */
 };
 
@@ -428,6 +440,30 @@ uint64_t tables_instance(const uint32_t *space, size_t space_cells, uint32_t ans
  */
 TABLES_MUST_CHECK
 uint64_t tables_counts(const uint32_t *space, size_t space_cells, uint32_t *out, size_t out_cells);
+
+/*
+ * Joins two finished subgoals, as a rule body of two goals does: every answer of
+ * the first is taken with every answer of the second, in order of the first,
+ * then of the second. Where the terms that each pair names are equal, the terms
+ * that the copies name are an answer of the target, which must be open. Every
+ * such answer enters, or none where the table is too full for all of them. An
+ * answer that the target holds already, or that came up before, is old and not
+ * counted.
+ *
+ * pairs   two cells to a pair, at most 32 pairs: a variable of the first and one
+ *         of the second, by rank from 0. None at all: every combination matches.
+ * copies  two cells to a copy: a side, 0 for the first and 1 for the second, and
+ *         a variable of it by rank; one copy for each variable of the target, in
+ *         order.
+ *
+ * A join costs as many comparisons as the first has answers times the second.
+ * First and second may be the same subgoal. TABLES_JOINED with the number of new
+ * answers. Refused by 1, 7, 9, 8, 14, 15, 16, 4, 9, 10, 11.
+ */
+TABLES_MUST_CHECK
+uint64_t tables_join(uint32_t *space, size_t space_cells, uint32_t first, uint32_t second,
+                     const uint32_t *pairs, size_t pairs_cells, uint32_t target,
+                     const uint32_t *copies, size_t copies_cells);
 
 /*
  * The two converters

@@ -16,7 +16,7 @@
 #include <unistd.h>
 
 enum { LISTS = 60000, LONGEST_LIST = 50, MOST_FAILURES = 10, SECONDS = 50 };
-enum { SPACE_CELLS = 12000, OUT_CELLS = TABLES_INSTANCE_CELLS + 20 };
+enum { SPACE_CELLS = 40000, OUT_CELLS = TABLES_INSTANCE_CELLS + 20 };
 
 static uint64_t seed = 1;
 static unsigned lists = LISTS;
@@ -31,6 +31,8 @@ static const uint32_t possible[TALLY_ROWS] = {
     [ANSWER] = RESULT(TABLES_NEW) | RESULT(TABLES_OLD) | REFUSAL(7) | REFUSAL(8) | READER_REFUSALS |
                ROOM_REFUSALS,
     [FINISH] = RESULT(TABLES_DONE) | REFUSAL(7),
+    [JOIN] = RESULT(TABLES_JOINED) | RESULT(JOINED_NONE) | REFUSAL(7) | REFUSAL(8) | REFUSAL(14) |
+             REFUSAL(15) | REFUSAL(16) | REFUSAL(4) | ROOM_REFUSALS,
     [NEXT] = RESULT(TABLES_AT) | RESULT(TABLES_NONE) | REFUSAL(7),
     [LOAD] = RESULT(TABLES_CELLS) | REFUSAL(7) | REFUSAL(12),
     [INSTANCE] = RESULT(TABLES_CELLS) | REFUSAL(7) | REFUSAL(12),
@@ -67,6 +69,43 @@ enum met_case {
     TAKEN_IN_1,
     TAKEN_IN_2,
     TAKEN_IN_BOTH,
+    JOIN_LAST_NODE,
+    JOIN_LAST_RECORD,
+    JOIN_NODE_SHORT,
+    JOIN_RECORD_SHORT,
+    JOIN_BOTH_SHORT,
+    JOIN_FULL,
+    JOIN_OVER_8,
+    JOIN_OVER_32,
+    JOIN_TO_ANSWERED,
+    JOIN_SELF,
+    JOIN_OF_TARGET,
+    JOIN_GROUND,
+    JOIN_NO_PAIRS,
+    JOIN_PAIRS_32,
+    JOIN_PAIRS_33,
+    JOIN_ODD_PAIRS,
+    JOIN_ODD_COPIES,
+    JOIN_COPY_COUNT,
+    JOIN_SIDE,
+    JOIN_PAIR_VARIABLE,
+    JOIN_COPY_VARIABLE,
+    JOIN_NO_ANSWERS,
+    JOIN_AGAIN,
+    JOIN_LISTS,
+    JOIN_WIDE,
+    JOIN_CELLS_256,
+    JOIN_CELLS_257,
+    JOIN_COPIES_32,
+    JOIN_NUMBER_AND_NAMES,
+    JOIN_STATE_AND_OPEN,
+    JOIN_STATE_AND_VARIABLE,
+    JOIN_STATE_AND_NAMES,
+    JOIN_OPEN_AND_VARIABLE,
+    JOIN_OPEN_AND_NAMES,
+    JOIN_VARIABLE_AND_NAMES,
+    JOIN_NAMES_AND_LENGTH,
+    JOIN_LENGTH_AND_NODES,
     MET_CASES
 };
 
@@ -87,9 +126,49 @@ static const char *const case_names[MET_CASES] = {
     [TAKEN_IN_1] = "cells taken in edition 1 alone",
     [TAKEN_IN_2] = "cells taken in edition 2 alone",
     [TAKEN_IN_BOTH] = "cells with functors taken in both",
+    [JOIN_LAST_NODE] = "join takes the last node",
+    [JOIN_LAST_RECORD] = "the last record",
+    [JOIN_NODE_SHORT] = "one node less",
+    [JOIN_RECORD_SHORT] = "one record less",
+    [JOIN_BOTH_SHORT] = "10, 11 too",
+    [JOIN_FULL] = "joined none in a full table",
+    [JOIN_OVER_8] = "over 8 joined",
+    [JOIN_OVER_32] = "over 32 joined",
+    [JOIN_TO_ANSWERED] = "joined to a target with answers",
+    [JOIN_SELF] = "first = second",
+    [JOIN_OF_TARGET] = "source = target",
+    [JOIN_GROUND] = "joined to m = 0",
+    [JOIN_NO_PAIRS] = "no pairs",
+    [JOIN_PAIRS_32] = "32 pairs",
+    [JOIN_PAIRS_33] = "over 32 pairs",
+    [JOIN_ODD_PAIRS] = "odd cells of pairs",
+    [JOIN_ODD_COPIES] = "of copies",
+    [JOIN_COPY_COUNT] = "a copy more or less",
+    [JOIN_SIDE] = "bad side",
+    [JOIN_PAIR_VARIABLE] = "bad variable in a pair",
+    [JOIN_COPY_VARIABLE] = "in a copy",
+    [JOIN_NO_ANSWERS] = "source without answers",
+    [JOIN_AGAIN] = "repeated join",
+    [JOIN_LISTS] = "lists joined",
+    [JOIN_WIDE] = "arity from 16 to 255 joined",
+    [JOIN_CELLS_256] = "256 cells joined",
+    [JOIN_CELLS_257] = "257 cells",
+    [JOIN_COPIES_32] = "32 copies",
+    [JOIN_NUMBER_AND_NAMES] = "7, 16 too",
+    [JOIN_STATE_AND_OPEN] = "8, 14 too",
+    [JOIN_STATE_AND_VARIABLE] = "8, 15 too",
+    [JOIN_STATE_AND_NAMES] = "8, 16 too",
+    [JOIN_OPEN_AND_VARIABLE] = "14, 15 too",
+    [JOIN_OPEN_AND_NAMES] = "14, 16 too",
+    [JOIN_VARIABLE_AND_NAMES] = "15, 16 too",
+    [JOIN_NAMES_AND_LENGTH] = "16, 4 too",
+    [JOIN_LENGTH_AND_NODES] = "4, 10 too",
 };
 
 static uint64_t met[MET_CASES];
+
+/* The lists in which a join was made, by edition, from edition 1. */
+static unsigned lists_with_joins[LAST_EDITION];
 
 /* One list of calls: the space and the plain table beside it */
 
@@ -103,9 +182,16 @@ struct run {
     struct known known;
     uint32_t counts[3];
     struct drawer drawer;
+    bool joins; /* a join was made */
+    /* Of a planned list: its plan, and the join for which the capacities were made, or NULL, with what
+       is used after it if there is room. */
+    const struct plan *plan;
+    const struct request *measured;
+    uint32_t measured_counts[3];
+    bool measured_joined; /* and it is accepted with new answers */
 };
 
-static struct arena space_arena, term_arena, out_arena;
+static struct arena space_arena, term_arena, copy_arena, out_arena;
 static uint32_t space_before[SPACE_CELLS];
 static uint32_t out_expected[OUT_CELLS];
 
@@ -114,9 +200,10 @@ static void fail(const struct run *run, const char *call, const char *what, uint
 {
     if (++failures > MOST_FAILURES)
         return;
-    printf("failed: seed %" PRIu64 ", list %u, edition %u, call %u, %s: %s: %#" PRIx64
+    printf("failed: seed %" PRIu64 ", list %u%s, edition %u, call %u, %s: %s: %#" PRIx64
            " instead of %#" PRIx64 "\n",
-           seed, run->list, (unsigned)run->edition, run->call, call, what, got, expected);
+           seed, run->list, run->plan != NULL ? ", planned" : "", (unsigned)run->edition, run->call,
+           call, what, got, expected);
 }
 
 static void count_result(const struct run *run, unsigned row, uint64_t word)
@@ -215,6 +302,8 @@ static void open_run(struct run *run)
     memset(&run->known, 0, sizeof run->known);
     run->counts[0] = 1;
     run->counts[1] = run->counts[2] = 0;
+    run->call = 0;
+    run->joins = false;
     fill(run->space, run->space_cells);
     memcpy(space_before, run->space, run->space_cells * sizeof *run->space);
     if (chance(20))
@@ -240,6 +329,10 @@ static uint64_t ask_plain(struct plain_table *plain, const struct request *reque
         return plain_table_answer(plain, request->number, argument->cell, argument->count);
     case FINISH:
         return plain_table_finish(plain, request->number);
+    case JOIN:
+        return plain_table_join(plain, request->number, request->second, argument->cell,
+                                argument->count, request->target, request->copies.cell,
+                                request->copies.count);
     case NEXT:
         return plain_table_next(plain, request->number, request->after);
     case LOAD:
@@ -272,6 +365,8 @@ static size_t draw_room(const struct run *run, const struct request *request)
 /* Must a call that had this result leave every cell of the space? */
 static bool leaves_space(const struct request *request, uint64_t word)
 {
+    if (request->kind == JOIN)
+        return tables_value(word) == 0;
     return only_reads(request->kind) ||
            (tables_what(word) != TABLES_NEW && tables_what(word) != TABLES_DONE);
 }
@@ -288,8 +383,11 @@ static void compare_cells(const struct run *run, const struct request *request, 
     if (!same_cells(run->space + end, space_before + end, run->space_cells - end))
         fail(run, name, "cells past the end of the space were changed", word, word);
     if (!same_cells(term_arena.lent, request->argument.cell, request->argument.count))
-        fail(run, name, "the terms were changed", word, word);
-    if (!marks_kept(&space_arena) || !marks_kept(&term_arena) || !marks_kept(&out_arena))
+        fail(run, name, "the terms or pairs were changed", word, word);
+    if (!same_cells(copy_arena.lent, request->copies.cell, request->copies.count))
+        fail(run, name, "the copies were changed", word, word);
+    if (!marks_kept(&space_arena) || !marks_kept(&term_arena) || !marks_kept(&copy_arena) ||
+        !marks_kept(&out_arena))
         fail(run, name, "cells beside those lent were changed", word, word);
 }
 
@@ -312,17 +410,19 @@ static void compare_counts(struct run *run, const char *name)
 /* Makes one request of both and compares all that is seen. */
 static uint64_t compare_request(struct run *run, const struct request *request, size_t room)
 {
-    size_t count = request->argument.count;
+    size_t count = request->argument.count, copy_cells = request->copies.count;
     uint32_t *out = lend(&out_arena, room, chance(50));
     uint32_t *cells = lend(&term_arena, count, chance(50));
+    uint32_t *copies = lend(&copy_arena, copy_cells, chance(50));
     fill(out, room);
     if (room > 0)
         memcpy(out_expected, out, room * sizeof *out);
     memcpy(cells, request->argument.cell, count * sizeof *cells);
+    memcpy(copies, request->copies.cell, copy_cells * sizeof *copies);
     memcpy(space_before, run->space, run->space_cells * sizeof *run->space);
     uint64_t expected = ask_plain(run->plain, request, out_expected, room);
     uint64_t word = make_request(request, run->space, run->space_cells, perhaps_null(cells, count),
-                                 perhaps_null(out, room), room);
+                                 perhaps_null(copies, copy_cells), perhaps_null(out, room), room);
     if (word != expected)
         fail(run, request_names[request->kind], "result", word, expected);
     compare_cells(run, request, expected, room);
@@ -419,17 +519,189 @@ static void count_cases(const struct run *run, const struct request *request, ui
         what == TABLES_NEW && before[0] < run->most_nodes && run->counts[0] == run->most_nodes;
 }
 
-static void learn(struct run *run, const struct request *request, uint64_t word)
+/* Is a variable, every second cell from the first, out of range for so many? */
+static bool has_no_variable(const struct argument *pairs, size_t first, uint32_t variables)
 {
-    if (tables_what(word) != TABLES_NEW)
+    for (size_t i = first; i < pairs->count; i += 2)
+        if (pairs->cell[i] >= variables)
+            return true;
+    return false;
+}
+
+/* Is a side neither 0 nor 1? */
+static bool has_no_side(const struct argument *copies)
+{
+    for (size_t i = 0; i + 1 < copies->count; i += 2)
+        if (copies->cell[i] > 1)
+            return true;
+    return false;
+}
+
+/* Is a copy's variable out of range, its side in range? */
+static bool has_no_copy(const struct argument *copies, const uint32_t variables[2])
+{
+    for (size_t i = 0; i + 1 < copies->count; i += 2)
+        if (copies->cell[i] <= 1 && copies->cell[i + 1] >= variables[copies->cell[i]])
+            return true;
+    return false;
+}
+
+static void count_names(const struct request *request, const uint32_t variables[2], uint32_t due)
+{
+    const struct argument *pairs = &request->argument, *copies = &request->copies;
+    met[JOIN_PAIRS_33] += pairs->count > 64;
+    met[JOIN_ODD_PAIRS] += pairs->count % 2 == 1;
+    met[JOIN_ODD_COPIES] += copies->count % 2 == 1;
+    met[JOIN_COPY_COUNT] += copies->count % 2 == 0 && copies->count != 2 * (size_t)due;
+    met[JOIN_SIDE] += has_no_side(copies);
+    met[JOIN_PAIR_VARIABLE] +=
+        has_no_variable(pairs, 0, variables[0]) || has_no_variable(pairs, 1, variables[1]);
+    met[JOIN_COPY_VARIABLE] += has_no_copy(copies, variables);
+}
+
+/* Of a join refused by one number, which others would refuse it too. */
+static void count_join_refusal(const struct run *run, const struct request *request,
+                               uint32_t refusal, const uint32_t before[3])
+{
+    const struct known *known = &run->known;
+    bool numbered = refusal != 7 && request->number <= KNOWN_SUBGOALS &&
+                    request->second <= KNOWN_SUBGOALS && request->target <= KNOWN_SUBGOALS;
+    met[JOIN_NUMBER_AND_NAMES] += refusal == 7 && request->argument.count > 64;
+    if (!numbered)
         return;
-    if (request->kind == ANSWER) {
-        run->known.answers = tables_value(word);
+    size_t first = request->number - 1, second = request->second - 1, target = request->target - 1;
+    const uint32_t variables[2] = {known->variables[first],
+                                   known->variables[second]};
+    uint32_t due = known->variables[target];
+    bool open = !known->finished[first] || !known->finished[second];
+    bool variable =
+        known->holds_variables[first] || known->holds_variables[second];
+    bool names = has_no_variable(&request->argument, 0, variables[0]) ||
+                 has_no_variable(&request->argument, 1, variables[1]) ||
+                 request->argument.count > 64 || request->argument.count % 2 == 1 ||
+                 request->copies.count != 2 * (size_t)due || has_no_side(&request->copies) ||
+                 has_no_copy(&request->copies, variables);
+    if (refusal == 16)
+        count_names(request, variables, due);
+    met[JOIN_OF_TARGET] += (refusal == 8 || refusal == 14) && (first == target || second == target);
+    met[JOIN_STATE_AND_OPEN] += refusal == 8 && open;
+    met[JOIN_STATE_AND_VARIABLE] += refusal == 8 && variable;
+    met[JOIN_STATE_AND_NAMES] += refusal == 8 && names;
+    met[JOIN_OPEN_AND_VARIABLE] += refusal == 14 && variable;
+    met[JOIN_OPEN_AND_NAMES] += refusal == 14 && names;
+    met[JOIN_VARIABLE_AND_NAMES] += refusal == 15 && names;
+    if (run->plan == NULL || request != run->measured)
+        return;
+    bool node_short = run->measured_joined && run->most_nodes + 1 == run->measured_counts[0];
+    bool record_short = run->measured_joined && run->most_answers + 1 == run->measured_counts[2];
+    met[JOIN_NODE_SHORT] += refusal == 10 && node_short;
+    met[JOIN_RECORD_SHORT] += refusal == 11 && record_short;
+    met[JOIN_BOTH_SHORT] += refusal == 10 && record_short;
+    met[JOIN_CELLS_257] += refusal == 4 && run->plan->joined_cells == 257;
+    met[JOIN_NAMES_AND_LENGTH] += refusal == 16 && run->plan->joined_cells == 257;
+    met[JOIN_LENGTH_AND_NODES] += refusal == 4 && before[0] == run->most_nodes;
+}
+
+/* Of an accepted join. */
+static void count_joined(const struct run *run, const struct request *request, uint32_t joined,
+                         const uint32_t before[3])
+{
+    static const struct request *last;
+    static unsigned last_list;
+    const struct known *known = &run->known;
+    size_t first = request->number - 1, second = request->second - 1, target = request->target - 1;
+    bool more = joined > 0;
+    met[JOIN_LAST_NODE] +=
+        more && before[0] < run->most_nodes && run->counts[0] == run->most_nodes;
+    met[JOIN_LAST_RECORD] += more && run->counts[2] == run->most_answers;
+    met[JOIN_FULL] += !more && before[0] == run->most_nodes && before[2] == run->most_answers;
+    met[JOIN_OVER_8] += joined > 8;
+    met[JOIN_OVER_32] += joined > 32;
+    met[JOIN_TO_ANSWERED] += more && known->answered[target] > 0;
+    met[JOIN_SELF] += more && first == second;
+    met[JOIN_GROUND] += more && known->variables[target] == 0;
+    met[JOIN_NO_PAIRS] += more && request->argument.count == 0;
+    met[JOIN_PAIRS_32] += more && request->argument.count == 64;
+    met[JOIN_COPIES_32] += more && request->copies.count == 64;
+    met[JOIN_NO_ANSWERS] += !more && request->argument.count == 0 &&
+                            (known->answered[first] == 0) !=
+                                (known->answered[second] == 0);
+    met[JOIN_AGAIN] += !more && last_list == run->list && last != NULL && last != request &&
+                       last->target == request->target &&
+                       same_cells(last->argument.cell, request->argument.cell,
+                                  request->argument.count) &&
+                       same_cells(last->copies.cell, request->copies.cell, request->copies.count);
+    last = more ? request : NULL;
+    last_list = run->list;
+}
+
+/* Joins once more */
+
+/*
+ * A join is the same as its new answers given one by one: loaded from the space
+ * in order of their numbers and given to the space as it was before, they make
+ * every cell of it. That space is spoilt by this.
+ */
+static void check_singly(const struct run *run, const struct request *request,
+                         const uint32_t before[3])
+{
+    static uint32_t cells[TABLES_TERM_CELLS];
+    bool lists = false, wide = false;
+    for (uint32_t answer = before[2] + 1; answer <= run->counts[2]; answer++) {
+        uint64_t word = tables_load(run->space, run->space_cells, answer, cells, TABLES_TERM_CELLS);
+        size_t count = tables_value(word);
+        if (tables_what(word) != TABLES_CELLS)
+            fail(run, "join", "load of a new answer", word, answer);
+        word = tables_answer(space_before, run->space_cells, request->target, cells, count);
+        if (word != ((uint64_t)TABLES_NEW << 32) + answer)
+            fail(run, "join", "a new answer by itself", word, answer);
+        for (size_t i = 0; i < count; i++)
+            lists = lists || cells[i] == TABLES_PAIR_CELL;
+        wide = wide || (run->edition == TABLES_EDITION_2 &&
+                        has_arity(cells, count, TABLES_EDITION_2, 16, 255));
+        met[JOIN_CELLS_256] += count == TABLES_TERM_CELLS;
+    }
+    met[JOIN_LISTS] += lists;
+    met[JOIN_WIDE] += wide;
+    if (!same_cells(run->space, space_before, run->space_cells))
+        fail(run, "join", "other cells than by single answers", 0, 0);
+}
+
+/* Every answer of every subgoal, in order, is the plain table's. */
+static void compare_answers(const struct run *run)
+{
+    static uint32_t got[TABLES_TERM_CELLS], expected[TABLES_TERM_CELLS];
+    for (uint32_t subgoal = 1; subgoal <= run->counts[1]; subgoal++) {
+        uint32_t answer = 0;
+        do {
+            uint64_t word = tables_next(run->space, run->space_cells, subgoal, answer);
+            uint64_t expected_word = plain_table_next(run->plain, subgoal, answer);
+            if (word != expected_word)
+                fail(run, "join", "next behind it", word, expected_word);
+            answer = tables_value(expected_word);
+            if (answer == 0)
+                break;
+            word = tables_load(run->space, run->space_cells, answer, got, TABLES_TERM_CELLS);
+            expected_word = plain_table_load(run->plain, answer, expected, TABLES_TERM_CELLS);
+            if (word != expected_word || !same_cells(got, expected, tables_value(expected_word)))
+                fail(run, "join", "load behind it", word, expected_word);
+        } while (failures < MOST_FAILURES);
+    }
+}
+
+static void check_join(struct run *run, const struct request *request, uint64_t word,
+                       const uint32_t before[3])
+{
+    run->joins = true;
+    if (tables_refused_by(word) != 0) {
+        count_join_refusal(run, request, tables_refused_by(word), before);
         return;
     }
-    run->known.subgoals = tables_value(word);
-    run->known.variables[tables_value(word) - 1] =
-        plain_table_variables(run->plain, tables_value(word));
+    count_joined(run, request, tables_value(word), before);
+    if (tables_value(word) != 0 && failures == 0) {
+        check_singly(run, request, before);
+        compare_answers(run);
+    }
 }
 
 /* The lists */
@@ -438,7 +710,7 @@ static enum request_kind draw_kind(const struct known *known)
 {
     static const enum request_kind kinds[] = {CALL,   CALL,   CALL,     CALL,   ANSWER, ANSWER,
                                               ANSWER, ANSWER, ANSWER,   ANSWER, FINISH, NEXT,
-                                              NEXT,   LOAD,   INSTANCE, COUNTS};
+                                              NEXT,   LOAD,   INSTANCE, COUNTS, FINISH, JOIN};
     if (known->subgoals == 0 && chance(70))
         return CALL;
     return kinds[below(sizeof kinds / sizeof *kinds)];
@@ -462,7 +734,16 @@ static uint64_t run_request(struct run *run, const struct request *request)
     uint64_t word = compare_request(run, request, room);
     compare_counts(run, request_names[request->kind]);
     count_cases(run, request, word, room, before);
+    if (request->kind == JOIN)
+        check_join(run, request, word, before);
+    learn_result(&run->known, request, word);
     return word;
+}
+
+static void close_run(struct run *run)
+{
+    lists_with_joins[run->edition - 1] += run->joins;
+    plain_table_close(run->plain);
 }
 
 /* Draws a list for a table of an edition, and makes its requests. */
@@ -475,9 +756,8 @@ static void run_drawn(struct run *run)
         struct request *request = &drawn.request[i];
         draw_request(&run->drawer, draw_kind(&run->known), &run->known, request);
         drawn.word[i] = run_request(run, request);
-        learn(run, request, drawn.word[i]);
     }
-    plain_table_close(run->plain);
+    close_run(run);
 }
 
 /* Was the argument taken, new or old? */
@@ -509,17 +789,96 @@ static void run_again(struct run *run)
         uint64_t word = run_request(run, &drawn.request[i]);
         count_both(&drawn.request[i], run->edition, word, drawn.word[i]);
     }
-    plain_table_close(run->plain);
+    close_run(run);
 }
 
+/* Planned lists, with joins, in tables that are made for one of them */
+
+/* What is used after each of the plan's requests if there is room; the first join, or one that has new answers. */
+static void measure_plan(struct run *run)
+{
+    struct plain_table *roomy = plain_table_open(TABLES_MOST_RECORDS, TABLES_MOST_RECORDS,
+                                                 TABLES_MOST_RECORDS, run->edition);
+    bool later = chance(30);
+    run->measured = NULL;
+    run->measured_joined = false;
+    for (size_t i = 0; i < run->plan->count; i++) {
+        const struct request *request = &run->plan->request[i];
+        uint64_t word = ask_plain(roomy, request, out_expected, OUT_CELLS);
+        bool joined = tables_what(word) == TABLES_JOINED && tables_value(word) > 0;
+        if (request->kind != JOIN ||
+            (run->measured != NULL && (!joined || (run->measured_joined && !later))))
+            continue;
+        run->measured = request;
+        run->measured_joined = joined;
+        plain_table_counts(roomy, run->measured_counts, 3);
+    }
+    plain_table_close(roomy);
+}
+
+/* Just enough for that join, one node less, one record less, both, or more than enough. */
+static void draw_measured(struct run *run)
+{
+    uint32_t nodes = run->measured_counts[0], answers = run->measured_counts[2];
+    switch (below(8)) {
+    case 0:
+        nodes--;
+        answers += (uint32_t)below(3);
+        break;
+    case 1:
+        nodes--;
+        break;
+    case 2:
+        nodes -= nodes > 1;
+        answers -= answers > 0;
+        break;
+    case 3:
+        answers -= answers > 0;
+        nodes += (uint32_t)below(20);
+        break;
+    case 4:
+        answers -= answers > 0;
+        break;
+    case 5:
+        nodes += (uint32_t)between(0, 60);
+        answers += (uint32_t)between(0, 20);
+        break;
+    default:
+        break;
+    }
+    run->most_nodes = nodes;
+    run->most_subgoals = run->measured_counts[1] + (uint32_t)below(2);
+    run->most_answers = answers;
+}
+
+/* A plan of an edition whose table is not too large for the space. */
+static void run_planned(struct run *run, uint32_t edition)
+{
+    static struct plan plan;
+    run->edition = edition;
+    run->plan = &plan;
+    do {
+        draw_plan(edition, &plan);
+        measure_plan(run);
+        draw_measured(run);
+    } while (TABLES_SPACE_CELLS(run->most_nodes, run->most_subgoals, run->most_answers) + 4 >
+             SPACE_CELLS);
+    open_run(run);
+    for (size_t i = 0; i < plan.count; i++)
+        run_request(run, &plan.request[i]);
+    close_run(run);
+    run->plan = NULL;
+}
+
+/* A list for both editions, and a plan for each. */
 static void run_list(unsigned list)
 {
     static struct run run;
     run.list = list;
-    run.call = 0;
     run_drawn(&run);
-    run.call = 0;
     run_again(&run);
+    run_planned(&run, TABLES_EDITION_1);
+    run_planned(&run, TABLES_EDITION_2);
 }
 
 /* The published lists of calls, written for edition 1, which hold the plain table to the request too */
@@ -540,36 +899,73 @@ struct published {
 #define A TABLES_CELL(TABLES_ATOM, 4)
 #define B TABLES_CELL(TABLES_ATOM, 5)
 #define ONE TABLES_CELL(TABLES_INTEGER, 1)
+#define COUNT(...) (sizeof((uint32_t[]){__VA_ARGS__}) / sizeof(uint32_t))
+#define CALL_OF(...) {.kind = CALL, .argument = {COUNT(__VA_ARGS__), {__VA_ARGS__}}}
+#define ANSWER_OF(subgoal, ...) \
+    {.kind = ANSWER, .number = (subgoal), .argument = {COUNT(__VA_ARGS__), {__VA_ARGS__}}}
+#define EMPTY_ANSWER_OF(subgoal) {.kind = ANSWER, .number = (subgoal)}
+#define FINISH_OF(subgoal) {.kind = FINISH, .number = (subgoal)}
+#define NEXT_OF(subgoal, answer) {.kind = NEXT, .number = (subgoal), .after = (answer)}
+#define INSTANCE_OF(answer) {.kind = INSTANCE, .number = (answer)}
+/* Of 1 and 2, where the second variable of the one is the first of the other. */
+#define JOIN_OF(target_number, ...) \
+    {.kind = JOIN, .number = 1, .second = 2, .target = (target_number), .argument = {2, {1, 0}}, \
+     .copies = {COUNT(__VA_ARGS__), {__VA_ARGS__}}}
 
 /* The worked session. */
 static const struct published session[] = {
-    {{CALL, 0, 0, {5, {F2, G1, X, H1, Y}}}, WORD(TABLES_NEW, 1)},
-    {{CALL, 0, 0, {5, {F2, G1, Y, H1, X}}}, WORD(TABLES_OLD_OPEN, 1)},
-    {{ANSWER, 1, 0, {2, {B, B}}}, WORD(TABLES_NEW, 1)},
-    {{ANSWER, 1, 0, {2, {A, A}}}, WORD(TABLES_NEW, 2)},
-    {{ANSWER, 1, 0, {2, {B, B}}}, WORD(TABLES_OLD, 1)},
-    {{NEXT, 1, 1, {0, {0}}}, WORD(TABLES_AT, 2)},
-    {{FINISH, 1, 0, {0, {0}}}, WORD(TABLES_DONE, 0)},
-    {{ANSWER, 1, 0, {2, {A, B}}}, REFUSED_WORD(8)},
-    {{NEXT, 1, 2, {0, {0}}}, WORD(TABLES_NONE, 0)},
-    {{INSTANCE, 2, 0, {0, {0}}}, WORD(TABLES_CELLS, 5)},
+    {CALL_OF(F2, G1, X, H1, Y), WORD(TABLES_NEW, 1)},
+    {CALL_OF(F2, G1, Y, H1, X), WORD(TABLES_OLD_OPEN, 1)},
+    {ANSWER_OF(1, B, B), WORD(TABLES_NEW, 1)},
+    {ANSWER_OF(1, A, A), WORD(TABLES_NEW, 2)},
+    {ANSWER_OF(1, B, B), WORD(TABLES_OLD, 1)},
+    {NEXT_OF(1, 1), WORD(TABLES_AT, 2)},
+    {FINISH_OF(1), WORD(TABLES_DONE, 0)},
+    {ANSWER_OF(1, A, B), REFUSED_WORD(8)},
+    {NEXT_OF(1, 2), WORD(TABLES_NONE, 0)},
+    {INSTANCE_OF(2), WORD(TABLES_CELLS, 5)},
 };
 
 /* M9, with 11 nodes and with 10; M10. */
 static const struct published three_subgoals[] = {
-    {{CALL, 0, 0, {3, {F2, X, A}}}, WORD(TABLES_NEW, 1)},
-    {{CALL, 0, 0, {3, {G2, X, Y}}}, WORD(TABLES_NEW, 2)},
-    {{CALL, 0, 0, {3, {F2, Y, ONE}}}, WORD(TABLES_NEW, 3)},
+    {CALL_OF(F2, X, A), WORD(TABLES_NEW, 1)},
+    {CALL_OF(G2, X, Y), WORD(TABLES_NEW, 2)},
+    {CALL_OF(F2, Y, ONE), WORD(TABLES_NEW, 3)},
 };
 static const struct published node_short[] = {
-    {{CALL, 0, 0, {3, {F2, X, A}}}, WORD(TABLES_NEW, 1)},
-    {{CALL, 0, 0, {3, {G2, X, Y}}}, WORD(TABLES_NEW, 2)},
-    {{CALL, 0, 0, {3, {F2, Y, ONE}}}, REFUSED_WORD(10)},
+    {CALL_OF(F2, X, A), WORD(TABLES_NEW, 1)},
+    {CALL_OF(G2, X, Y), WORD(TABLES_NEW, 2)},
+    {CALL_OF(F2, Y, ONE), REFUSED_WORD(10)},
 };
 static const struct published ground_subgoal[] = {
-    {{CALL, 0, 0, {2, {G1, A}}}, WORD(TABLES_NEW, 1)},
-    {{ANSWER, 1, 0, {0, {0}}}, WORD(TABLES_NEW, 1)},
-    {{ANSWER, 1, 0, {0, {0}}}, WORD(TABLES_OLD, 1)},
+    {CALL_OF(G1, A), WORD(TABLES_NEW, 1)},
+    {EMPTY_ANSWER_OF(1), WORD(TABLES_NEW, 1)},
+    {EMPTY_ANSWER_OF(1), WORD(TABLES_OLD, 1)},
+};
+
+/*
+ * f(X,Y), g(Y,Z) joined to g(g(X),Z): b a and b 1, sharing b, so 3 nodes on top
+ * of 18; with a node less, neither.
+ */
+#define SOURCES \
+    {CALL_OF(F2, X, Y), WORD(TABLES_NEW, 1)}, {CALL_OF(G2, X, Y), WORD(TABLES_NEW, 2)}, \
+        {CALL_OF(G2, G1, X, Y), WORD(TABLES_NEW, 3)}, {ANSWER_OF(1, B, A), WORD(TABLES_NEW, 1)}, \
+        {ANSWER_OF(2, A, A), WORD(TABLES_NEW, 2)}, {ANSWER_OF(2, A, ONE), WORD(TABLES_NEW, 3)}, \
+        {JOIN_OF(3, 0, 0, 1, 1), REFUSED_WORD(14)}, {FINISH_OF(1), WORD(TABLES_DONE, 0)}, \
+        {FINISH_OF(2), WORD(TABLES_DONE, 0)}, {JOIN_OF(3, 0, 0, 2, 1), REFUSED_WORD(16)}
+
+static const struct published joined[] = {
+    SOURCES,
+    {JOIN_OF(3, 0, 0, 1, 1), WORD(TABLES_JOINED, 2)},
+    {JOIN_OF(3, 0, 0, 1, 1), WORD(TABLES_JOINED, 0)},
+    {NEXT_OF(3, 4), WORD(TABLES_AT, 5)},
+    {ANSWER_OF(3, B, A), WORD(TABLES_OLD, 4)},
+    {ANSWER_OF(3, B, ONE), WORD(TABLES_OLD, 5)},
+};
+static const struct published join_short_of_nodes[] = {
+    SOURCES,
+    {JOIN_OF(3, 0, 0, 1, 1), REFUSED_WORD(10)},
+    {NEXT_OF(3, 0), WORD(TABLES_NONE, 0)},
 };
 
 static void recode_argument(struct argument *argument, uint32_t edition)
@@ -588,7 +984,8 @@ static void run_published(const struct published *rows, size_t count, uint32_t e
     open_run(&run);
     for (size_t i = 0; i < count; i++) {
         struct request request = rows[i].request;
-        recode_argument(&request.argument, edition);
+        if (request.kind != JOIN)
+            recode_argument(&request.argument, edition);
         uint64_t word = compare_request(&run, &request, request.kind == INSTANCE ? 9 : 0);
         if (word != rows[i].word)
             fail(&run, request_names[request.kind], "published", word, rows[i].word);
@@ -610,6 +1007,9 @@ static void check_published(uint32_t edition)
     run_published(three_subgoals, 3, edition, 11, 11);
     run_published(node_short, 3, edition, 10, 9);
     run_published(ground_subgoal, 3, edition, 4, 4);
+    run_published(joined, sizeof joined / sizeof *joined, edition, 21, 21);
+    run_published(join_short_of_nodes, sizeof join_short_of_nodes / sizeof *join_short_of_nodes,
+                  edition, 20, 18);
 }
 
 /* The report */
@@ -626,6 +1026,13 @@ static void check_cases(void)
         failures++;
         printf("failed: too seldom: %s\n", case_names[i]);
     }
+    for (unsigned i = 0; i < LAST_EDITION; i++) {
+        printf("  lists with joins in edition %u: %u\n", i + 1, lists_with_joins[i]);
+        if (lists_with_joins[i] >= lists / 3) /* 20,000 of 60,000 */
+            continue;
+        failures++;
+        printf("failed: too few lists with joins\n");
+    }
 }
 
 /* Arguments: the seed, and the number of lists. */
@@ -639,6 +1046,7 @@ int main(int argc, char **argv)
     report_crashes();
     open_arena(&space_arena, SPACE_CELLS);
     open_arena(&term_arena, ARGUMENT_CELLS);
+    open_arena(&copy_arena, ARGUMENT_CELLS);
     open_arena(&out_arena, OUT_CELLS);
     seed_drawing(seed);
     check_published(TABLES_EDITION_1);

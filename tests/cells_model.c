@@ -2,19 +2,24 @@
  * The calls on the cells of a space, sound or damaged: the tests' second opinion.
  *
  * Written from the request alone and for reading beside it. "01" is the request, "Q-7" the later
- * one on editions, "OP 9" the ninth open point; words in quotation marks are theirs. Only the
- * result words (TABLES_...) come from tables.h.
+ * one on editions and "Q-2" that on joins, "OP 9" the ninth open point in 01 and "OP2 9" in the
+ * later ones; words in quotation marks are theirs. Only the result words (TABLES_...) come from
+ * tables.h.
  *
  * Every call reads and judges first, in the order of 01's table of refusals, and writes only when
  * nothing is left to refuse: so "a refusal changes nothing". The parts, from top to bottom: the
  * numbers of the request; pair form to compact form; compact form to pair form; the header and the
- * records; judging a record; the walk down a trie and the path up; writing; the calls.
+ * records; judging a record; the walk down a trie and the path up; writing; the calls; the join,
+ * which alone takes memory of its own for what it has read.
  */
 #include "cells_model.h"
 
 #include "../include/tables.h"
 
 #include <stdbool.h>
+#include <stdio.h>
+#include <stdlib.h>
+#include <string.h>
 
 /* ---- The numbers of the request ------------------------------------------------------------- */
 
@@ -23,12 +28,14 @@ enum kind { VARIABLE = 1, ATOM, INTEGER, FUNCTOR, PAIR, BLIST, ELIST, EPAIR };
 enum { PAYLOAD_BITS = 28, ARITIES_1 = 16, ARITIES_2 = 256 };
 enum { MOST_TERM_CELLS = 256, MOST_VARIABLES = 32, MOST_COMPACT_CELLS = 383 };
 enum { LEAST_NODES = 1, MOST_RECORDS = 1048576 };
+enum { MOST_PAIRS = 32 }; /* Q-2 */
 
 /* 01, "Where each refusal is checked". 13 is the converters' alone: when loaded it is 9 (OP 21). */
 enum refusal {
     ACCEPTED = 0, BAD_HEADER = 1, BAD_FRESH = 2, BAD_TERM = 3, TOO_LONG = 4,
     TOO_MANY_VARIABLES = 5, BAD_PREDICATE = 6, BAD_NUMBER = 7, FINISHED_ALREADY = 8,
-    DAMAGED = 9, NO_NODES_LEFT = 10, NO_RECORD_LEFT = 11, OUT_TOO_SHORT = 12
+    DAMAGED = 9, NO_NODES_LEFT = 10, NO_RECORD_LEFT = 11, OUT_TOO_SHORT = 12,
+    SOURCE_OPEN = 14, SOURCE_VARIABLE = 15, BAD_NAMES = 16
 };
 
 /* 01, "The space": the fields of the header and of each record, in order, and their number. */
@@ -895,4 +902,307 @@ uint64_t cells_model_counts(const uint32_t *space, size_t space_cells, uint32_t 
     out[1] = s.subgoals;
     out[2] = s.answers;
     return result(TABLES_COUNTS, COUNTS);
+}
+
+/* ---- The join ------------------------------------------------------------------------------- */
+
+/* Memory that grows; ends the program if there is none. */
+static void *grown(void *block, size_t bytes)
+{
+    void *moved = realloc(block, bytes);
+    if (moved == NULL) {
+        fputs("cells model: out of memory\n", stderr);
+        exit(EXIT_FAILURE);
+    }
+    return moved;
+}
+
+/* A source as it was read: its m, and its answers in the order of their chain. */
+struct source {
+    uint32_t variables;
+    bool finished;
+    size_t count;
+    struct terms *answers;
+};
+
+/* What a join was given and has read. */
+struct join {
+    struct source side[2];
+    const uint32_t *pairs;
+    size_t pairs_cells;
+    uint32_t target;
+    const uint32_t *copies;
+    size_t copies_cells;
+};
+
+/*
+ * "The sources' answers are judged (9), as next and load do": the subgoal's record, then the chain
+ * from the first answer by next until 0, each of them the same subgoal's, and each path (OP2 9).
+ * The numbers in the chain rise, so it ends; where it ends is not compared with the last answer.
+ * False: 9.
+ */
+static bool read_source(const struct space *s, uint32_t subgoal, struct source *source)
+{
+    if (!is_sound_subgoal(s, subgoal))
+        return false;
+    source->variables = of_subgoal(s, subgoal, M);
+    source->finished = of_subgoal(s, subgoal, STATE) == FINISHED;
+    uint32_t answer = of_subgoal(s, subgoal, FIRST_ANSWER);
+    while (answer != NONE) {
+        source->answers =
+            grown(source->answers, (source->count + 1) * sizeof *source->answers);
+        if (!is_sound_answer_of(s, answer, subgoal) ||
+            !read_answer(s, answer, &source->answers[source->count]))
+            return false;
+        source->count++;
+        answer = of_answer(s, answer, NEXT_ANSWER);
+    }
+    return true;
+}
+
+/* "The target as by answer": what its number names, so its record and its answer root (OP2 10). */
+static bool is_sound_target(const struct space *s, uint32_t target)
+{
+    return is_sound_subgoal(s, target) &&
+           is_sound_root(s, ANSWER_TRIE, of_subgoal(s, target, ANSWER_ROOT));
+}
+
+static bool has_variable(const struct source *source)
+{
+    for (size_t i = 0; i < source->count; i++)
+        if (source->answers[i].variables != 0)
+            return true;
+    return false;
+}
+
+/*
+ * 16: "a variable or side named is out of range, the pairs are over 32 or the copies are not one
+ * for each target variable"; a number of cells that is odd too (OP2 22). Where the side is out of
+ * range its variable is not looked at (OP2 14).
+ */
+static bool are_names(const struct join *join, uint32_t target_variables)
+{
+    if (join->pairs_cells % 2 != 0 || join->pairs_cells > 2 * MOST_PAIRS ||
+        join->copies_cells != 2 * (size_t)target_variables)
+        return false;
+    for (size_t i = 0; i < join->pairs_cells; i++)
+        if (join->pairs[i] >= join->side[i % 2].variables)
+            return false;
+    for (size_t i = 0; i < join->copies_cells; i += 2)
+        if (join->copies[i] > 1 || join->copies[i + 1] >= join->side[join->copies[i]].variables)
+            return false;
+    return true;
+}
+
+/* Where term i of an answer stands, and its cells. */
+static const uint32_t *nth_term(uint32_t edition, const struct terms *answer, uint32_t i,
+                                size_t *cells)
+{
+    size_t before = 0;
+    (void)measure(edition, i, answer->cells, answer->count, &before);
+    (void)measure(edition, 1, answer->cells + before, answer->count - before, cells);
+    return answer->cells + before;
+}
+
+/* "A pair whose named terms are equal": as loaded, nothing is unified (OP2 18). */
+static bool match(uint32_t edition, const struct join *join, const struct terms *one,
+                  const struct terms *other)
+{
+    for (size_t i = 0; i < join->pairs_cells; i += 2) {
+        size_t cells, other_cells;
+        const uint32_t *term = nth_term(edition, one, join->pairs[i], &cells);
+        const uint32_t *other_term = nth_term(edition, other, join->pairs[i + 1], &other_cells);
+        if (cells != other_cells || memcmp(term, other_term, cells * sizeof *term) != 0)
+            return false;
+    }
+    return true;
+}
+
+/* The form of the answer that two answers give: "for each of its variables a side and variable to
+ * copy", one after another. Only 4 can come of it. */
+static enum refusal copy_terms(uint32_t edition, const struct join *join, const struct terms *one,
+                               const struct terms *other, struct form *form)
+{
+    const struct terms *sides[] = {one, other};
+    uint32_t joined[MOST_TERM_CELLS];
+    size_t count = 0;
+    for (size_t i = 0; i < join->copies_cells; i += 2) {
+        size_t cells;
+        const uint32_t *term =
+            nth_term(edition, sides[join->copies[i]], join->copies[i + 1], &cells);
+        if (count + cells > MOST_TERM_CELLS)
+            return TOO_LONG;
+        memcpy(joined + count, term, cells * sizeof *term);
+        count += cells;
+    }
+    return compact(edition, (uint32_t)(join->copies_cells / 2), joined, count, form);
+}
+
+/* The forms of all matching combinations, in order, repeated ones too. */
+struct forms {
+    size_t count;
+    struct form *form;
+};
+
+/* "Answers pair in order of the first, then of the second": the first's outermost (OP2 17). */
+static enum refusal pair_answers(uint32_t edition, const struct join *join, struct forms *forms)
+{
+    for (size_t i = 0; i < join->side[0].count; i++)
+        for (size_t j = 0; j < join->side[1].count; j++) {
+            const struct terms *one = &join->side[0].answers[i];
+            const struct terms *other = &join->side[1].answers[j];
+            if (!match(edition, join, one, other))
+                continue;
+            forms->form = grown(forms->form, (forms->count + 1) * sizeof *forms->form);
+            enum refusal refusal =
+                copy_terms(edition, join, one, other, &forms->form[forms->count]);
+            if (refusal != ACCEPTED)
+                return refusal;
+            forms->count++;
+        }
+    return ACCEPTED;
+}
+
+static size_t shared_tokens(const struct form *one, const struct form *other)
+{
+    size_t shared = 0;
+    while (shared < one->count && shared < other->count &&
+           one->cells[shared] == other->cells[shared])
+        shared++;
+    return shared;
+}
+
+/* What the new answers of a join need. */
+struct need {
+    size_t nodes;
+    size_t answers;
+};
+
+/*
+ * Adds what the form at `at` needs, which the space as lent lacks: nothing if an earlier one is
+ * equal (no form begins another, so equal is shared whole), else a node for each token that
+ * neither the space nor an earlier new form has. An earlier form that the space holds has no more
+ * in common with this one than the space has.
+ */
+static void add_need(const struct forms *forms, size_t at, size_t matched, struct need *need)
+{
+    const struct form *form = &forms->form[at];
+    size_t known = matched;
+    for (size_t i = 0; i < at; i++) {
+        size_t shared = shared_tokens(form, &forms->form[i]);
+        if (shared == form->count && shared == forms->form[i].count)
+            return;
+        known = shared > known ? shared : known;
+    }
+    need->nodes += form->count - known;
+    need->answers++;
+}
+
+/*
+ * The later 9 and the need: "every search runs on the space as lent, before the first write" (OP2
+ * 10), for every combination; an old answer's record; and "where anything is new, the last
+ * answer". False: 9.
+ */
+static bool search_all(const struct space *s, uint32_t target, const struct forms *forms,
+                       struct need *need)
+{
+    *need = (struct need){0, 0};
+    for (size_t i = 0; i < forms->count; i++) {
+        struct walk walk;
+        if (!walk_down(s, ANSWER_TRIE, of_subgoal(s, target, ANSWER_ROOT), &forms->form[i], &walk))
+            return false;
+        if (walk.link == NONE)
+            add_need(forms, i, walk.matched, need);
+        else if (!is_sound_answer(s, walk.link) ||
+                 of_answer(s, walk.link, ANSWER_LEAF) != walk.node)
+            return false;
+    }
+    uint32_t last = of_subgoal(s, target, LAST_ANSWER);
+    return need->answers == 0 || last == NONE ||
+           (is_sound_answer_of(s, last, target) && of_answer(s, last, NEXT_ANSWER) == NONE);
+}
+
+/* What was decided on the space as lent must hold while it is written. */
+static void must(bool holds)
+{
+    if (!holds) {
+        fputs("cells model: a join was written otherwise than it was judged\n", stderr);
+        abort();
+    }
+}
+
+/* Each combination in order, searched and written as a single answer is, in the space as the one
+ * before left it. */
+static void write_joined(uint32_t *space, size_t space_cells, uint32_t target,
+                         const struct forms *forms)
+{
+    for (size_t i = 0; i < forms->count; i++) {
+        struct space s;
+        struct walk walk;
+        must(read_header(space, space_cells, &s));
+        must(walk_down(&s, ANSWER_TRIE, of_subgoal(&s, target, ANSWER_ROOT), &forms->form[i],
+                       &walk));
+        if (walk.link != NONE)
+            continue;
+        must(room_for(&s, forms->form[i].count - walk.matched, s.answers, s.answer_room) ==
+             ACCEPTED);
+        write_answer(space, &s, target, &forms->form[i], &walk);
+    }
+}
+
+/*
+ * From the sources' answers to the last refusal: 8, "14 when a source is open, 15 when a source
+ * answer holds a variable, 16 ...: in this order after 7 and 8, before 4"; 9; 10 "by the total",
+ * and "only then 11" (OP2 21).
+ */
+static enum refusal judge_join(const struct space *s, const struct join *join,
+                               struct forms *forms, struct need *need)
+{
+    if (of_subgoal(s, join->target, STATE) == FINISHED)
+        return FINISHED_ALREADY;
+    if (!join->side[0].finished || !join->side[1].finished)
+        return SOURCE_OPEN;
+    if (has_variable(&join->side[0]) || has_variable(&join->side[1]))
+        return SOURCE_VARIABLE;
+    if (!are_names(join, of_subgoal(s, join->target, M)))
+        return BAD_NAMES;
+    enum refusal refusal = pair_answers(s->edition, join, forms);
+    if (refusal != ACCEPTED)
+        return refusal;
+    if (!search_all(s, join->target, forms, need))
+        return DAMAGED;
+    if (need->nodes > s->node_room - s->nodes)
+        return NO_NODES_LEFT;
+    if (need->answers > s->answer_room - s->answers)
+        return NO_RECORD_LEFT;
+    return ACCEPTED;
+}
+
+/* 9's first place stands "straight after 7", which looks at all three numbers (OP2 8). */
+uint64_t cells_model_join(uint32_t *space, size_t space_cells, uint32_t first, uint32_t second,
+                          const uint32_t *pairs, size_t pairs_cells, uint32_t target,
+                          const uint32_t *copies, size_t copies_cells)
+{
+    struct space s;
+    struct join join = {.pairs = pairs, .pairs_cells = pairs_cells, .target = target,
+                        .copies = copies, .copies_cells = copies_cells};
+    struct forms forms = {0, NULL};
+    struct need need = {0, 0};
+    if (!read_header(space, space_cells, &s))
+        return refused(BAD_HEADER);
+    if (!is_subgoal(&s, first) || !is_subgoal(&s, second) || !is_subgoal(&s, target))
+        return refused(BAD_NUMBER);
+    enum refusal refusal = DAMAGED;
+    if (read_source(&s, first, &join.side[0]) && read_source(&s, second, &join.side[1]) &&
+        is_sound_target(&s, target))
+        refusal = judge_join(&s, &join, &forms, &need);
+    if (refusal == ACCEPTED) {
+        write_joined(space, space_cells, target, &forms);
+        must(space[NODES_USED] == s.nodes + need.nodes &&
+             space[ANSWERS_USED] == s.answers + need.answers);
+    }
+    free(join.side[0].answers);
+    free(join.side[1].answers);
+    free(forms.form);
+    return refusal == ACCEPTED ? result(TABLES_JOINED, (uint32_t)need.answers) : refused(refusal);
 }

@@ -18,5 +18,7 @@ uint64_t cells_model_next(const uint32_t *space, size_t space_cells, uint32_t su
 uint64_t cells_model_load(const uint32_t *space, size_t space_cells, uint32_t answer, uint32_t *out, size_t out_cells);
 uint64_t cells_model_instance(const uint32_t *space, size_t space_cells, uint32_t answer, uint32_t *out, size_t out_cells);
 uint64_t cells_model_counts(const uint32_t *space, size_t space_cells, uint32_t *out, size_t out_cells);
+uint64_t cells_model_join(uint32_t *space, size_t space_cells, uint32_t first, uint32_t second, const uint32_t *pairs,
+                          size_t pairs_cells, uint32_t target, const uint32_t *copies, size_t copies_cells);
 
 #endif

@@ -18,7 +18,8 @@
 #include <string.h>
 #include <unistd.h>
 
-enum { ROUNDS = 90000, MOST_FAILURES = 10, SPACE_CELLS = 4000, OUT_CELLS = 2000, SECONDS = 20 };
+enum { ROUNDS = 150000, MOST_FAILURES = 10, SPACE_CELLS = 6000, OUT_CELLS = 2000, SECONDS = 20 };
+enum { ROOMY_NODES = 3000, ROOMY_SUBGOALS = 20, ROOMY_ANSWERS = 1000 };
 
 static uint64_t seed = 1;
 static unsigned rounds = ROUNDS;
@@ -31,6 +32,8 @@ static const uint32_t possible[TALLY_ROWS] = {
     [ANSWER] = RESULT(TABLES_NEW) | RESULT(TABLES_OLD) | REFUSAL(7) | REFUSAL(8) | READER_REFUSALS |
                ROOM_REFUSALS | REFUSAL(1) | REFUSAL(9),
     [FINISH] = RESULT(TABLES_DONE) | REFUSAL(7) | REFUSAL(1) | REFUSAL(9),
+    [JOIN] = RESULT(TABLES_JOINED) | RESULT(JOINED_NONE) | REFUSAL(7) | REFUSAL(8) | REFUSAL(14) |
+             REFUSAL(15) | REFUSAL(16) | REFUSAL(4) | ROOM_REFUSALS | REFUSAL(1) | REFUSAL(9),
     [NEXT] = RESULT(TABLES_AT) | RESULT(TABLES_NONE) | REFUSAL(7) | REFUSAL(1) | REFUSAL(9),
     [LOAD] = RESULT(TABLES_CELLS) | REFUSAL(7) | REFUSAL(12) | REFUSAL(1) | REFUSAL(9),
     [INSTANCE] = RESULT(TABLES_CELLS) | REFUSAL(7) | REFUSAL(12) | REFUSAL(1) | REFUSAL(9),
@@ -54,9 +57,80 @@ struct image {
     uint32_t cell[SPACE_CELLS];
 };
 
-static struct arena space_arena, term_arena, out_arena;
+static struct arena space_arena, term_arena, copy_arena, out_arena;
 static struct drawer drawer;
 static struct known known;
+
+/* The plan that the space was made by, and the join that it was made for; none for another space. */
+static struct plan plan;
+static const struct request *planned;
+
+/* Makes a request of cells that are lent as they are, and learns from what comes of it. */
+static void enter(const struct request *request, uint32_t *space, size_t space_cells)
+{
+    static uint32_t out[TABLES_INSTANCE_CELLS];
+    uint64_t word = make_request(request, space, space_cells, request->argument.cell,
+                                 request->copies.cell, out, TABLES_INSTANCE_CELLS);
+    learn_result(&known, request, word);
+}
+
+static void make_fresh(uint32_t *space, size_t space_cells, uint32_t nodes, uint32_t subgoals,
+                       uint32_t answers, uint32_t edition)
+{
+    uint64_t made = tables_fresh(space, space_cells, nodes, subgoals, answers, edition);
+    if (made != TABLES_DONE)
+        fail(0, "fresh", "no space to damage", made);
+}
+
+/* One of the plan's joins, most likely its first. */
+static size_t draw_planned(void)
+{
+    size_t first = 0, found;
+    while (plan.request[first].kind != JOIN)
+        first++;
+    found = first;
+    for (size_t i = first + 1; i < plan.count; i++)
+        if (plan.request[i].kind == JOIN && chance(20))
+            found = i;
+    return found;
+}
+
+/* How many records it is, or about as many. */
+static uint32_t about(uint32_t records)
+{
+    uint32_t near = records - (records > 1 && chance(15));
+    return chance(30) ? near + (uint32_t)below(30) : near;
+}
+
+/*
+ * A sound space made by a plan up to one of its joins, which is still to be made
+ * or was made once, with room for it, or with little less or more. False: it
+ * would be too large.
+ */
+static bool draw_for_join(struct image *image)
+{
+    static uint32_t roomy[TABLES_SPACE_CELLS(ROOMY_NODES, ROOMY_SUBGOALS, ROOMY_ANSWERS)];
+    size_t roomy_cells = sizeof roomy / sizeof *roomy;
+    image->edition = draw_edition();
+    draw_plan(image->edition, &plan);
+    size_t join = draw_planned(), made = join + chance(35);
+    memset(&known, 0, sizeof known);
+    make_fresh(roomy, roomy_cells, ROOMY_NODES, ROOMY_SUBGOALS, ROOMY_ANSWERS, image->edition);
+    for (size_t i = 0; i <= join; i++)
+        enter(&plan.request[i], roomy, roomy_cells);
+    uint32_t nodes = about(roomy[1]), subgoals = roomy[2] + (uint32_t)below(2);
+    uint32_t answers = about(roomy[3]);
+    image->count = TABLES_SPACE_CELLS(nodes, subgoals, answers) + below(3);
+    if (image->count > SPACE_CELLS || known.subgoals == 0)
+        return false;
+    memset(&known, 0, sizeof known);
+    open_drawer(&drawer, image->edition, 2, 5, 4);
+    make_fresh(image->cell, image->count, nodes, subgoals, answers, image->edition);
+    for (size_t i = 0; i < made; i++)
+        enter(&plan.request[i], image->cell, image->count);
+    planned = &plan.request[join];
+    return true;
+}
 
 /* A sound space: random calls on a fresh one. */
 static void draw_sound(struct image *image)
@@ -66,23 +140,16 @@ static void draw_sound(struct image *image)
     uint32_t subgoals = (uint32_t)between(1, 7), answers = (uint32_t)between(1, 12);
     image->edition = draw_edition();
     image->count = TABLES_SPACE_CELLS(nodes, subgoals, answers) + below(3);
+    planned = NULL;
     memset(&known, 0, sizeof known);
     open_drawer(&drawer, image->edition, nodes > 100 ? 20 : 2, 5, chance(50) ? 4 : 8);
-    uint64_t made =
-        tables_fresh(image->cell, image->count, nodes, subgoals, answers, image->edition);
-    if (made != TABLES_DONE)
-        fail(0, "fresh", "no space to damage", made);
+    make_fresh(image->cell, image->count, nodes, subgoals, answers, image->edition);
     for (size_t calls = between(3, 40); calls > 0; calls--) {
         static const enum request_kind kinds[] = {CALL,   CALL,   CALL,   ANSWER,
                                                   ANSWER, ANSWER, ANSWER, ANSWER};
         enum request_kind kind = chance(4) ? FINISH : kinds[below(8)];
         draw_request(&drawer, kind, &known, &request);
-        uint64_t word =
-            make_request(&request, image->cell, image->count, request.argument.cell, NULL, 0);
-        if (kind == CALL && tables_what(word) == TABLES_NEW)
-            known.variables[known.subgoals++] = (uint32_t)distinct_variables(&request.argument);
-        if (kind == ANSWER && tables_what(word) == TABLES_NEW)
-            known.answers++;
+        enter(&request, image->cell, image->count);
     }
 }
 
@@ -214,41 +281,174 @@ static void damage_tokens(struct image *image)
             raw_cell(below(10), below(payloads[below(4)]));
 }
 
-static void draw_damaged(struct image *image)
+/* A record in use, of nodes (0), subgoals (1) or answers (2), which has one. */
+static uint32_t *draw_record(struct image *image, size_t sort)
 {
-    draw_sound(image);
-    switch (below(14)) {
+    static const size_t sizes[] = {5, 6, 3};
+    const size_t from[] = {8, image->cell[5], image->cell[6]};
+    return &image->cell[from[sort] + sizes[sort] * below(image->cell[1 + sort])];
+}
+
+/* A number from 0 to those used of a sort, as a field may hold it. */
+static uint32_t draw_used(const struct image *image, size_t sort)
+{
+    return (uint32_t)below(image->cell[1 + sort] + (sort > 0));
+}
+
+/* Records of the planned join's target: the subgoal, its last answer, and a node on that one's path. */
+static void aim(struct image *image, uint32_t **subgoal, uint32_t **answer, uint32_t **node)
+{
+    uint32_t *cells = image->cell;
+    uint32_t target = planned->target;
+    if (target == 0 || target > cells[2])
+        return;
+    *subgoal = &cells[cells[5] + 6 * (target - 1)];
+    uint32_t last = (*subgoal)[5];
+    if (last == 0 || last > cells[3])
+        return;
+    *answer = &cells[cells[6] + 3 * (last - 1)];
+    uint32_t on_path = (*answer)[0];
+    for (size_t up = below(4); up > 0 && on_path < cells[1]; up--)
+        on_path = cells[8 + 5 * (size_t)on_path + 3];
+    if (on_path < cells[1])
+        *node = &cells[8 + 5 * (size_t)on_path];
+}
+
+/*
+ * A field that names a record, or a state, or an m, bent to what another such
+ * field may hold, so that it is in range: tries that share a root, chains that
+ * pass into others, leaves of other answers, links that lead elsewhere.
+ */
+static void bend(struct image *image)
+{
+    enum { LEAF, ROOT, M, STATE, FIRST, LAST, SUBGOAL_FIELDS };
+    if (image->cell[2] == 0 || image->cell[3] == 0)
+        return;
+    uint32_t *subgoal = draw_record(image, 1), *other = draw_record(image, 1);
+    uint32_t *answer = draw_record(image, 2), *node = draw_record(image, 0);
+    if (planned != NULL && chance(50))
+        aim(image, &subgoal, &answer, &node);
+    size_t field = below(SUBGOAL_FIELDS);
+    uint32_t moved = subgoal[field];
+    switch (below(10)) {
     case 0:
-        randomise(image);
+        subgoal[STATE] = 1 - subgoal[STATE];
         break;
     case 1:
-        damage_header(image);
+        subgoal[M] += chance(50) ? 1u : UINT32_MAX;
         break;
-    case 2:
-        image->count = chance(30) ? below(12) : image->count - between(1, 12);
+    case 2: /* exchanged */
+        subgoal[field] = other[field];
+        other[field] = moved;
         break;
     case 3:
-        damage_tokens(image);
+        subgoal[field] = other[field];
         break;
     case 4:
-        damage_edition(image);
+        subgoal[FIRST] = draw_used(image, 2);
+        if (chance(50))
+            subgoal[LAST] = draw_used(image, 2);
         break;
-    case 5: /* sound as it is */
+    case 5:
+        answer[0] = chance(50) ? draw_record(image, 2)[0] : draw_used(image, 0);
         break;
     case 6:
-        exchange_cells(image);
+        answer[1] = draw_used(image, 1);
         break;
     case 7:
-        damage_record(image);
+        answer[2] = draw_used(image, 2);
         break;
     case 8:
+        node[4] = chance(30) ? 0 : draw_used(image, 2);
+        break;
+    default: /* the child, the sibling or the parent of a node */
+        node[between(1, 3)] = chance(30) ? 0 : draw_used(image, 0);
+    }
+}
+
+/* The kinds of damage; how often a join was made of a space with each. */
+enum damage {
+    RANDOM_RECORDS,
+    BENT_HEADER,
+    CUT_SHORT,
+    OTHER_TOKENS,
+    OTHER_EDITION,
+    SOUND,
+    EXCHANGED_CELLS,
+    RANDOM_RECORD,
+    FILLED_BEYOND,
+    BENT_FIELDS,
+    CHANGED_CELLS,
+    DAMAGES
+};
+
+static const char *const damage_names[DAMAGES] = {
+    [RANDOM_RECORDS] = "all records random", [BENT_HEADER] = "bent header",
+    [CUT_SHORT] = "cut short",               [OTHER_TOKENS] = "other tokens",
+    [OTHER_EDITION] = "other edition",       [SOUND] = "sound",
+    [EXCHANGED_CELLS] = "exchanged cells",   [RANDOM_RECORD] = "random record",
+    [FILLED_BEYOND] = "records beyond the counts filled, half of them with changed cells too",
+    [BENT_FIELDS] = "bent fields",           [CHANGED_CELLS] = "changed cells",
+};
+
+static uint64_t joins_by_damage[DAMAGES];
+
+static enum damage draw_damage(void)
+{
+    static const enum damage often[] = {EXCHANGED_CELLS, BENT_FIELDS,   BENT_FIELDS,  BENT_FIELDS,
+                                        CHANGED_CELLS,   CHANGED_CELLS, CHANGED_CELLS};
+    size_t drawn = below(DAMAGES + 7);
+    return drawn < DAMAGES ? (enum damage)drawn : often[drawn - DAMAGES];
+}
+
+static void damage(struct image *image, enum damage kind)
+{
+    switch (kind) {
+    case RANDOM_RECORDS:
+        randomise(image);
+        break;
+    case BENT_HEADER:
+        damage_header(image);
+        break;
+    case CUT_SHORT:
+        image->count = chance(30) ? below(12) : image->count - between(1, 12);
+        break;
+    case OTHER_TOKENS:
+        damage_tokens(image);
+        break;
+    case OTHER_EDITION:
+        damage_edition(image);
+        break;
+    case EXCHANGED_CELLS:
+        exchange_cells(image);
+        break;
+    case RANDOM_RECORD:
+        damage_record(image);
+        break;
+    case FILLED_BEYOND:
         fill_beyond(image);
         if (chance(50))
             damage_cells(image);
         break;
-    default:
+    case BENT_FIELDS:
+        for (size_t times = chance(60) ? 1 : between(2, 4); times > 0; times--)
+            bend(image);
+        break;
+    case CHANGED_CELLS:
         damage_cells(image);
+        break;
+    default:
+        break;
     }
+}
+
+static enum damage draw_damaged(struct image *image)
+{
+    if (!chance(50) || !draw_for_join(image))
+        draw_sound(image);
+    enum damage kind = draw_damage();
+    damage(image, kind);
+    return kind;
 }
 
 /* Checking */
@@ -262,7 +462,7 @@ static bool same_cells(const uint32_t *one, const uint32_t *other, size_t count)
 struct loan {
     const struct image *image;
     size_t room;
-    uint32_t *space, *terms, *out;
+    uint32_t *space, *terms, *copies, *out;
 };
 
 static uint32_t out_before[OUT_CELLS];
@@ -284,8 +484,11 @@ static void check_cells(unsigned round, const struct request *request, const str
     else if (!same_cells(loan->out + written, out_before + written, loan->room - written))
         fail(round, name, "out was changed beyond the cells written", word);
     if (!same_cells(loan->terms, request->argument.cell, request->argument.count))
-        fail(round, name, "the terms were changed", word);
-    if (!marks_kept(&space_arena) || !marks_kept(&term_arena) || !marks_kept(&out_arena))
+        fail(round, name, "the terms or pairs were changed", word);
+    if (!same_cells(loan->copies, request->copies.cell, request->copies.count))
+        fail(round, name, "the copies were changed", word);
+    if (!marks_kept(&space_arena) || !marks_kept(&term_arena) || !marks_kept(&copy_arena) ||
+        !marks_kept(&out_arena))
         fail(round, name, "cells beside those lent were changed", word);
 }
 
@@ -299,7 +502,10 @@ static void check_edition(unsigned round, const struct request *request, const s
         fail(round, request_names[request->kind], "not refused by 1", word);
 }
 
-/* What an accepted call may have changed: numbers grow by one at most, and nothing past the end. */
+/*
+ * What an accepted call may have changed: the subgoals or the answers grow by one, the answers by as
+ * many as a join says, and nothing past the end.
+ */
 static void check_written(unsigned round, const struct request *request, const struct loan *loan,
                           uint64_t word)
 {
@@ -308,9 +514,10 @@ static void check_written(unsigned round, const struct request *request, const s
     if (tables_refused_by(word) != 0 || only_reads(request->kind))
         return;
     size_t end = before[7];
-    bool enters = tables_what(word) == TABLES_NEW;
+    bool joins = request->kind == JOIN && tables_value(word) > 0;
+    bool enters = tables_what(word) == TABLES_NEW || joins;
     uint32_t subgoals = before[2] + (enters && request->kind == CALL);
-    uint32_t answers = before[3] + (enters && request->kind == ANSWER);
+    uint32_t answers = before[3] + (joins ? tables_value(word) : enters && request->kind == ANSWER);
     if (!same_cells(after + end, before + end, loan->image->count - end))
         fail(round, name, "cells past the end were changed", word);
     if (after[0] != before[0] || !same_cells(after + 4, before + 4, 4))
@@ -334,6 +541,9 @@ static uint64_t ask_model(const struct request *request, uint32_t *space, size_t
         return cells_model_answer(space, space_cells, request->number, cells, count);
     case FINISH:
         return cells_model_finish(space, space_cells, request->number);
+    case JOIN:
+        return cells_model_join(space, space_cells, request->number, request->second, cells, count,
+                                request->target, request->copies.cell, request->copies.count);
     case NEXT:
         return cells_model_next(space, space_cells, request->number, request->after);
     case LOAD:
@@ -366,21 +576,23 @@ static void check_model(unsigned round, const struct request *request, const str
         fail(round, name, "another out than the model's", word);
 }
 
-/* Each of the three lies against its upper or its lower guard page, by a bit of `sides`. */
+/* Each of the four lies against its upper or its lower guard page, by a bit of `sides`. */
 static void check_request(unsigned round, const struct image *image, const struct request *request,
                           unsigned sides)
 {
-    size_t count = request->argument.count;
+    size_t count = request->argument.count, copy_cells = request->copies.count;
     struct loan loan = {.image = image, .room = chance(50) ? below(12) : between(100, OUT_CELLS)};
     loan.space = lend(&space_arena, image->count, (sides & 1) != 0);
     loan.terms = lend(&term_arena, count, (sides & 2) != 0);
     loan.out = lend(&out_arena, loan.room, (sides & 4) != 0);
+    loan.copies = lend(&copy_arena, copy_cells, (sides & 8) != 0);
     memcpy(loan.space, image->cell, image->count * sizeof *loan.space);
     memcpy(loan.terms, request->argument.cell, count * sizeof *loan.terms);
+    memcpy(loan.copies, request->copies.cell, copy_cells * sizeof *loan.copies);
     for (size_t i = 0; i < loan.room; i++)
         loan.out[i] = out_before[i] = (uint32_t)(0x9e3779b9u * (i + 1));
     uint64_t word =
-        make_request(request, loan.space, image->count, loan.terms, loan.out, loan.room);
+        make_request(request, loan.space, image->count, loan.terms, loan.copies, loan.out, loan.room);
     if (!tally_result(possible, image->edition, request->kind, word))
         fail(round, request_names[request->kind], "no result of this call", word);
     check_edition(round, request, image, word);
@@ -415,18 +627,57 @@ static void check_fresh(unsigned round, const struct image *image, bool at_end)
         fail(round, "fresh", "cells beside those lent were changed", word);
 }
 
+/* A join of the damaged space: the one that it was made for, or another. */
+static void draw_join_of(struct request *request)
+{
+    if (planned != NULL && chance(75))
+        *request = *planned;
+    else
+        draw_request(&drawer, JOIN, &known, request);
+    if (planned != NULL && chance(5)) { /* sources and target exchanged */
+        uint32_t number = request->number;
+        request->number = chance(50) ? request->second : request->target;
+        request->second = number;
+    }
+}
+
+static unsigned times_of(unsigned kind)
+{
+    return kind == COUNTS || kind == FINISH ? 1 : kind == JOIN && planned != NULL ? 4 : 2;
+}
+
 static void check_round(unsigned round)
 {
     static struct image image;
     static struct request request;
-    draw_damaged(&image);
+    enum damage kind_of_damage = draw_damaged(&image);
     check_fresh(round, &image, round % 2 == 0);
     for (unsigned kind = 0; kind < REQUEST_KINDS; kind++) {
-        for (unsigned times = kind == COUNTS || kind == FINISH ? 1 : 2; times > 0; times--) {
-            draw_request(&drawer, (enum request_kind)kind, &known, &request);
-            check_request(round, &image, &request, (round + kind + times) % 8);
+        for (unsigned times = times_of(kind); times > 0; times--) {
+            if (kind == JOIN)
+                draw_join_of(&request);
+            else
+                draw_request(&drawer, (enum request_kind)kind, &known, &request);
+            joins_by_damage[kind_of_damage] += kind == JOIN;
+            check_request(round, &image, &request, (unsigned)random_word() % 16);
         }
     }
+}
+
+/* Joins of spaces with every kind of damage, and 200,000 of damaged ones in 150,000 rounds. */
+static void check_joins(void)
+{
+    uint64_t damaged = 0;
+    printf("  joins:");
+    for (unsigned i = 0; i < DAMAGES; i++) {
+        printf("%s %s %" PRIu64, i == 0 ? "" : ",", damage_names[i], joins_by_damage[i]);
+        damaged += i == SOUND || i == FILLED_BEYOND ? 0 : joins_by_damage[i];
+    }
+    printf("\n  joins of damaged spaces, those two apart: %" PRIu64 "\n", damaged);
+    if (damaged * 3 >= rounds * UINT64_C(4))
+        return;
+    failures++;
+    printf("failed: too few joins of damaged spaces\n");
 }
 
 /* Arguments: the seed, and the number of rounds. */
@@ -440,6 +691,7 @@ int main(int argc, char **argv)
     report_crashes();
     open_arena(&space_arena, SPACE_CELLS);
     open_arena(&term_arena, ARGUMENT_CELLS);
+    open_arena(&copy_arena, ARGUMENT_CELLS);
     open_arena(&out_arena, OUT_CELLS);
     seed_drawing(seed);
     for (unsigned round = 1; round <= rounds && failures < MOST_FAILURES; round++) {
@@ -447,8 +699,10 @@ int main(int argc, char **argv)
         note_place("seed %" PRIu64 ", round %u", seed, round);
         check_round(round);
     }
-    if (failures == 0) /* each in each edition, one round in 2,000 at least */
-        failures += check_tally(possible, rounds / 2000);
+    if (failures == 0) { /* each in each edition, one round in 4,000 at least */
+        failures += check_tally(possible, rounds / 4000);
+        check_joins();
+    }
     printf("damaged_spaces_test: seed %" PRIu64 ", %u spaces, %lu calls compared, %u failures\n", seed,
            rounds, compared, failures);
     return failures == 0 ? 0 : 1;

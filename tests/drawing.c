@@ -337,17 +337,175 @@ static void draw_answered(struct drawer *drawer, size_t terms, struct argument *
 /* Requests */
 
 const char *const request_names[REQUEST_KINDS] = {
-    [CALL] = "call", [ANSWER] = "answer",     [FINISH] = "finish", [NEXT] = "next",
-    [LOAD] = "load", [INSTANCE] = "instance", [COUNTS] = "counts",
+    [CALL] = "call", [ANSWER] = "answer", [FINISH] = "finish",     [JOIN] = "join",
+    [NEXT] = "next", [LOAD] = "load",     [INSTANCE] = "instance", [COUNTS] = "counts",
 };
+
+/* A number that is far from any. */
+static uint32_t draw_far(void)
+{
+    static const uint32_t far[] = {0, UINT32_MAX, UINT32_C(1) << 31, 1000};
+    return far[below(4)];
+}
 
 /* A number from 1 to the count, or seldom one that is none. */
 static uint32_t draw_number(uint32_t count)
 {
-    static const uint32_t far[] = {0, UINT32_MAX, UINT32_C(1) << 31, 1000};
     if (count == 0 || chance(6))
-        return chance(50) ? count + 1 : far[below(4)];
+        return chance(50) ? count + 1 : draw_far();
     return (uint32_t)between(1, count);
+}
+
+static bool is_known(const struct known *known, uint32_t subgoal)
+{
+    return subgoal >= 1 && subgoal <= known->subgoals && subgoal <= KNOWN_SUBGOALS;
+}
+
+/* The variables of a subgoal; any small number if there is no such. */
+static uint32_t variables_of(const struct known *known, uint32_t subgoal)
+{
+    return is_known(known, subgoal) ? known->variables[subgoal - 1] : 1;
+}
+
+void learn_result(struct known *known, const struct request *request, uint64_t word)
+{
+    uint32_t what = tables_what(word), value = tables_value(word);
+    size_t place = (request->kind == JOIN ? request->target : request->number) - (size_t)1;
+    if (request->kind == CALL && what == TABLES_NEW && value <= KNOWN_SUBGOALS) {
+        known->subgoals = value;
+        known->variables[value - 1] = (uint32_t)distinct_variables(&request->argument);
+    }
+    if (request->kind == ANSWER && what == TABLES_NEW && place < KNOWN_SUBGOALS) {
+        known->answers = value;
+        known->answered[place]++;
+        if (distinct_variables(&request->argument) > 0)
+            known->holds_variables[place] = true;
+    }
+    if (request->kind == FINISH && what == TABLES_DONE && place < KNOWN_SUBGOALS)
+        known->finished[place] = true;
+    if (request->kind == JOIN && what == TABLES_JOINED && place < KNOWN_SUBGOALS) {
+        known->answers += value;
+        known->answered[place] += value;
+    }
+}
+
+/* Joins */
+
+/* A subgoal's number: most likely a finished one whose answers are ground, or an open one. */
+static uint32_t draw_joined(const struct known *known, bool source)
+{
+    uint32_t number = 0;
+    bool any_answers = chance(12);
+    if (known->subgoals == 0 || chance(2))
+        return chance(50) ? known->subgoals + 1 : draw_far();
+    for (int tries = chance(6) ? 1 : 8; tries > 0; tries--) {
+        number = (uint32_t)between(1, known->subgoals);
+        bool finished = is_known(known, number) && known->finished[number - 1];
+        bool ground = is_known(known, number) && !known->holds_variables[number - 1];
+        if (source ? finished && (ground || any_answers) : !finished)
+            break;
+    }
+    return number;
+}
+
+/* A number that is out of range for a variable, of which there are so many, by little or by far. */
+static uint32_t draw_no_variable(uint32_t variables)
+{
+    static const uint32_t far[] = {32, 256, UINT32_C(1) << 31, UINT32_MAX};
+    return chance(70) ? variables + (uint32_t)below(2) : far[below(4)];
+}
+
+/* How many pairs: mostly one or none, now and then exactly 32, or more. */
+static size_t draw_pair_count(void)
+{
+    static const size_t counts[] = {33, 33, 34, 64, 140};
+    size_t drawn = below(100);
+    if (drawn < 20)
+        return 0;
+    if (drawn < 74)
+        return 1;
+    if (drawn < 86)
+        return 2;
+    if (drawn < 89)
+        return between(3, 31);
+    return drawn < 97 ? 32 : counts[below(5)];
+}
+
+/* Pairs of variables of two subgoals, few distinct ones; legal but for a few. */
+static void draw_pairs(uint32_t of_first, uint32_t of_second, struct argument *pairs)
+{
+    size_t count = draw_pair_count(), distinct = chance(85) ? 1 : 2;
+    if ((of_first == 0 || of_second == 0) && chance(90))
+        count = 0;
+    for (size_t i = 0; i < count; i++) {
+        uint32_t *pair = &pairs->cell[2 * i];
+        pair[0] = (uint32_t)below(of_first + (of_first == 0));
+        pair[1] = (uint32_t)below(of_second + (of_second == 0));
+        if (i >= distinct)
+            memcpy(pair, &pairs->cell[2 * below(distinct)], 2 * sizeof *pair);
+    }
+    pairs->count = 2 * count;
+    if (count > 0 && chance(3)) {
+        size_t place = below(pairs->count);
+        pairs->cell[place] = draw_no_variable(place % 2 == 0 ? of_first : of_second);
+    }
+    if (chance(2)) {
+        pairs->cell[pairs->count] = 0;
+        pairs->count += count == 0 || chance(50) ? 1 : SIZE_MAX;
+    }
+}
+
+/* Makes copies illegal: their number, a side or a variable. */
+static void spoil_copies(const uint32_t variables[2], struct argument *copies)
+{
+    static const uint32_t no_sides[] = {2, 2, 3, 256, UINT32_C(1) << 31, UINT32_MAX};
+    size_t place = copies->count < 2 ? 0 : 2 * below(copies->count / 2);
+    unsigned way = copies->count < 2 ? 0 : (unsigned)below(4);
+    if (way == 0) { /* one cell or one copy more, or cells where none are due */
+        size_t more = between(1, 2);
+        memset(&copies->cell[copies->count], 0, more * sizeof *copies->cell);
+        copies->count += more;
+    } else if (way == 1) {
+        copies->count -= chance(20) ? copies->count : between(1, 2);
+    } else if (way == 2) {
+        copies->cell[place] = no_sides[below(6)];
+        if (chance(30))
+            copies->cell[place + 1] = draw_no_variable(variables[0]);
+    } else {
+        copies->cell[place + 1] = draw_no_variable(variables[copies->cell[place] & 1]);
+    }
+}
+
+/* One copy for each of so many variables; legal but for a few, if either side has a variable. */
+static void draw_copies(const uint32_t variables[2], uint32_t due, struct argument *copies)
+{
+    copies->count = 0;
+    for (uint32_t i = 0; i < due; i++) {
+        uint32_t side = (uint32_t)below(2);
+        if (variables[side] == 0)
+            side = 1 - side;
+        copies->cell[copies->count++] = side;
+        copies->cell[copies->count++] = (uint32_t)below(variables[side] + (variables[side] == 0));
+    }
+    if (chance(6))
+        spoil_copies(variables, copies);
+}
+
+/* Pairs and copies for the subgoals that the request names. */
+static void draw_names(const struct known *known, struct request *request)
+{
+    const uint32_t variables[2] = {variables_of(known, request->number),
+                                   variables_of(known, request->second)};
+    draw_pairs(variables[0], variables[1], &request->argument);
+    draw_copies(variables, variables_of(known, request->target), &request->copies);
+}
+
+static void draw_join(const struct known *known, struct request *request)
+{
+    request->number = draw_joined(known, true);
+    request->second = chance(15) ? request->number : draw_joined(known, true);
+    request->target = chance(4) ? request->number : draw_joined(known, false);
+    draw_names(known, request);
 }
 
 void draw_request(struct drawer *drawer, enum request_kind kind, const struct known *known,
@@ -357,18 +515,319 @@ void draw_request(struct drawer *drawer, enum request_kind kind, const struct kn
     request->kind = kind;
     request->number = draw_number(of_answer ? known->answers : known->subgoals);
     request->after = chance(30) ? 0 : draw_number(known->answers);
-    request->argument.count = 0;
+    request->second = request->target = 0;
+    request->argument.count = request->copies.count = 0;
     if (kind == CALL)
         draw_called(drawer, &request->argument);
     if (kind == ANSWER) {
-        size_t terms = 1;
-        if (request->number >= 1 && request->number <= known->subgoals &&
-            request->number <= KNOWN_SUBGOALS)
-            terms = known->variables[request->number - 1];
+        size_t terms = variables_of(known, request->number);
         if (chance(3))
             terms += 1 - 2 * (terms > 0);
         draw_answered(drawer, terms, &request->argument);
     }
+    if (kind == JOIN)
+        draw_join(known, request);
+}
+
+/* Lists of requests with joins */
+
+/* What a plan is drawn from: its table, and the few ground terms that its answers are made of, which
+   are the first so many. */
+enum { PLAN_SUBGOALS = 5, PLAN_TERMS = 4 };
+
+struct planning {
+    uint32_t edition;
+    struct plan *plan;
+    struct drawer drawer;
+    size_t terms;
+    struct argument term[PLAN_TERMS];
+};
+
+static struct style ground_style(uint32_t edition)
+{
+    struct style style = small_style(edition);
+    style.variable_chance = 0;
+    return style;
+}
+
+static void draw_ground_term(uint32_t edition, size_t cells, struct argument *term)
+{
+    static const unsigned chances[] = {0, 50, 100};
+    struct style style = ground_style(edition);
+    if (cells > 40) {
+        style.pair_chance = chances[below(3)];
+        style.wide = edition == TABLES_EDITION_2 && chance(50);
+        style.leaf_chance = chances[below(2)];
+    }
+    draw_terms(&style, 1, cells, false, term);
+}
+
+/* The few terms: of one to some cells, in edition 2 seldom with a functor of 40 arguments. */
+static void draw_stock(struct planning *planning)
+{
+    size_t most = chance(50) ? 2 : 7;
+    planning->terms = between(1, PLAN_TERMS);
+    for (size_t i = 0; i < PLAN_TERMS; i++) {
+        bool wide = planning->edition == TABLES_EDITION_2 && chance(2);
+        draw_ground_term(planning->edition, wide ? between(41, 48) : between(1, most),
+                         &planning->term[i]);
+    }
+}
+
+static void add_cells(struct argument *argument, const uint32_t *cells, size_t count)
+{
+    memcpy(&argument->cell[argument->count], cells, count * sizeof *cells);
+    argument->count += count;
+}
+
+static void add_cell(struct argument *argument, uint32_t cell)
+{
+    add_cells(argument, &cell, 1);
+}
+
+/* The next request of a plan, with nothing in it yet. */
+static struct request *plan_request(struct planning *planning, enum request_kind kind,
+                                    uint32_t number)
+{
+    struct request *request = &planning->plan->request[planning->plan->count++];
+    request->kind = kind;
+    request->number = number;
+    request->after = request->second = request->target = 0;
+    request->argument.count = request->copies.count = 0;
+    return request;
+}
+
+/* Takes notice of the last request of a plan, which has this result if there is room. */
+static void plan_result(struct planning *planning, uint32_t what, uint32_t value)
+{
+    struct plan *plan = planning->plan;
+    learn_result(&plan->known, &plan->request[plan->count - 1], (uint64_t)what << 32 | value);
+}
+
+/* Calls a subgoal that no other of the plan equals, of so many variables, up to 32. */
+static void plan_call(struct planning *planning, uint32_t variables)
+{
+    enum { GROUP = 15 };
+    uint32_t edition = planning->edition, name = planning->plan->known.subgoals + 1;
+    uint32_t groups = (variables + GROUP - 1) / GROUP, met = 0;
+    bool repeats = variables > 0 && variables < 10 && chance(15);
+    struct argument *goal = &plan_request(planning, CALL, 0)->argument;
+    if (variables == 0 && chance(50))
+        add_cell(goal, tables_functor_cell(edition, name, 1));
+    if (variables == 0)
+        add_cell(goal, tables_cell(TABLES_ATOM, name));
+    if (groups > 1)
+        add_cell(goal, tables_functor_cell(edition, name, groups));
+    for (uint32_t group = 0; group < groups; group++) {
+        uint32_t size = variables - met < GROUP ? variables - met : GROUP;
+        add_cell(goal, tables_functor_cell(edition, name, size + repeats));
+        for (uint32_t i = 0; i < size; i++)
+            add_cell(goal, tables_cell(TABLES_VARIABLE, met++));
+    }
+    if (repeats)
+        add_cell(goal, tables_cell(TABLES_VARIABLE, below(variables)));
+    plan_result(planning, TABLES_NEW, name);
+}
+
+/* Answers a subgoal with so many of the few terms; its answers are learnt as if new. */
+static struct argument *plan_answer(struct planning *planning, uint32_t subgoal)
+{
+    struct argument *answer = &plan_request(planning, ANSWER, subgoal)->argument;
+    for (uint32_t i = variables_of(&planning->plan->known, subgoal); i > 0; i--) {
+        const struct argument *term = &planning->term[below(planning->terms)];
+        if (answer->count + term->count + i <= TABLES_TERM_CELLS)
+            add_cells(answer, term->cell, term->count);
+        else
+            add_cell(answer, TABLES_EMPTY_LIST);
+    }
+    return answer;
+}
+
+static void learn_answer(struct planning *planning)
+{
+    plan_result(planning, TABLES_NEW, planning->plan->known.answers + 1);
+}
+
+/* Puts a variable for the first cell without arguments. */
+static void add_variable(uint32_t edition, struct argument *answer)
+{
+    for (size_t i = 0; i < answer->count; i++)
+        if (arguments_of(edition, answer->cell[i]) == 0) {
+            answer->cell[i] = tables_cell(TABLES_VARIABLE, below(9));
+            return;
+        }
+}
+
+/* How many variables a subgoal of a plan has. */
+static uint32_t draw_variables(void)
+{
+    static const uint32_t many[] = {5, 15, 16, 31, 32, 32};
+    return chance(5) ? many[below(6)] : chance(8) ? 0 : (uint32_t)between(1, 3);
+}
+
+/* So many answers in turn to the subgoals, to some of them none; one source's may hold a variable. */
+static void plan_answers(struct planning *planning, size_t count,
+                         const bool answered[PLAN_SUBGOALS], uint32_t with_variable)
+{
+    uint32_t subgoals = planning->plan->known.subgoals;
+    for (; count > 0; count--) {
+        uint32_t subgoal = (uint32_t)between(1, subgoals);
+        if (!answered[subgoal - 1])
+            continue;
+        struct argument *answer = plan_answer(planning, subgoal);
+        if (subgoal == with_variable && chance(40))
+            add_variable(planning->edition, answer);
+        learn_answer(planning);
+    }
+}
+
+static void plan_finish(struct planning *planning, uint32_t subgoal)
+{
+    plan_request(planning, FINISH, subgoal);
+    plan_result(planning, TABLES_DONE, 0);
+}
+
+/* A join of two subgoals to a third, with names drawn for them. */
+static void plan_join(struct planning *planning, uint32_t first, uint32_t second, uint32_t target)
+{
+    struct request *request = plan_request(planning, JOIN, first);
+    request->second = second;
+    request->target = target;
+    draw_names(&planning->plan->known, request);
+    plan_result(planning, TABLES_JOINED, 1);
+}
+
+/* What follows the first join of a plan: the same again, others, the target as a source. */
+static void plan_more(struct planning *planning)
+{
+    struct plan *plan = planning->plan;
+    size_t joined = plan->count - 1;
+    uint32_t target = plan->request[joined].target;
+    if (chance(35))
+        plan->request[plan->count++] = plan->request[joined];
+    for (size_t more = below(3); more > 0; more--) {
+        draw_join(&plan->known, plan_request(planning, JOIN, 0));
+        plan_result(planning, TABLES_JOINED, 1);
+    }
+    if (chance(30)) {
+        plan_finish(planning, target);
+        if (chance(30))
+            plan->request[plan->count++] = plan->request[joined];
+        else
+            plan_join(planning, target, draw_joined(&plan->known, true),
+                      draw_joined(&plan->known, false));
+    }
+    for (size_t more = below(4); more > 0; more--) {
+        static const enum request_kind kinds[] = {NEXT, LOAD, INSTANCE, COUNTS, ANSWER, CALL};
+        draw_request(&planning->drawer, kinds[below(6)], &plan->known,
+                     plan_request(planning, COUNTS, 0));
+    }
+    if (chance(20))
+        plan->request[plan->count++] = plan->request[joined];
+}
+
+/*
+ * Two to five subgoals, answers, the sources finished but for a few, and joins.
+ * Many: few subgoals of several variables with many answers, so that a join has
+ * dozens of them.
+ */
+static void plan_small(struct planning *planning, bool many)
+{
+    struct plan *plan = planning->plan;
+    uint32_t subgoals = (uint32_t)between(2, many ? 3 : PLAN_SUBGOALS);
+    uint32_t target = (uint32_t)between(1, subgoals);
+    uint32_t with_variable = chance(8) ? (uint32_t)between(1, subgoals) : 0;
+    bool answered[PLAN_SUBGOALS];
+    if (many)
+        planning->terms = PLAN_TERMS;
+    for (uint32_t i = 0; i < subgoals; i++) {
+        plan_call(planning, many ? (uint32_t)between(2, 4) : draw_variables());
+        answered[i] = chance(i + 1 == target ? 50 : 95);
+    }
+    plan_answers(planning, many ? between(12, 30) : between(0, chance(50) ? 6 : 16), answered,
+                 with_variable);
+    for (uint32_t subgoal = 1; subgoal <= subgoals; subgoal++)
+        if (chance(subgoal == target ? 4 : 93))
+            plan_finish(planning, subgoal);
+    if (chance(90)) {
+        uint32_t first = draw_joined(&plan->known, true);
+        uint32_t second = chance(20) ? first : draw_joined(&plan->known, true);
+        if (with_variable != 0 && chance(50))
+            first = with_variable;
+        plan_join(planning, first, second, target);
+        if (many && chance(50)) /* every combination */
+            plan->request[plan->count - 1].argument.count = 0;
+    } else {
+        draw_join(&plan->known, plan_request(planning, JOIN, 0));
+        plan_result(planning, TABLES_JOINED, 1);
+    }
+    plan_more(planning);
+}
+
+/* An answer of a key, which is an atom, and a term. */
+static void plan_keyed(struct planning *planning, uint32_t subgoal, uint32_t key,
+                       const struct argument *term)
+{
+    struct argument *answer = &plan_request(planning, ANSWER, subgoal)->argument;
+    add_cell(answer, tables_cell(TABLES_ATOM, key));
+    add_cells(answer, term->cell, term->count);
+    learn_answer(planning);
+}
+
+/*
+ * Two sources of a key and a term each. A term of the first, copied so many
+ * times, and one of the second make an answer of 255 to 257 cells together, if
+ * their keys are paired, which they mostly are.
+ */
+static void plan_long(struct planning *planning)
+{
+    enum { FIRST = 1, SECOND = 2, TARGET = 3, KEY = 7 };
+    struct plan *plan = planning->plan;
+    size_t joined_cells = chance(45) ? 256 : chance(90) ? 257 : 255;
+    size_t copies = between(1, 4), last = below(copies + 1);
+    size_t cells = between(2, chance(50) ? 12 : 200 / copies);
+    struct argument long_term, short_term;
+    bool meet = chance(90);
+    draw_ground_term(planning->edition, cells, &short_term);
+    draw_ground_term(planning->edition, joined_cells - copies * cells, &long_term);
+    plan_call(planning, 2);
+    plan_call(planning, 2);
+    plan_call(planning, (uint32_t)copies + 1);
+    for (size_t others = below(3); others > 0; others--)
+        plan_keyed(planning, chance(50) ? FIRST : SECOND, (uint32_t)between(KEY - 1, KEY + 1),
+                   &planning->term[0]);
+    plan_keyed(planning, FIRST, KEY, &short_term);
+    plan_keyed(planning, SECOND, meet ? KEY : KEY + 2, &long_term);
+    for (size_t others = below(3); others > 0; others--)
+        plan_keyed(planning, chance(50) ? FIRST : SECOND, (uint32_t)between(KEY - 1, KEY + 1),
+                   &planning->term[0]);
+    plan_finish(planning, FIRST);
+    plan_finish(planning, SECOND);
+    struct request *request = plan_request(planning, JOIN, FIRST);
+    request->second = SECOND;
+    request->target = TARGET;
+    for (size_t pairs = chance(85) ? 1 : chance(50) ? 32 : 33; pairs > 0; pairs--)
+        add_cells(&request->argument, (const uint32_t[]){0, 0}, 2);
+    for (size_t i = 0; i <= copies; i++)
+        add_cells(&request->copies, (const uint32_t[]){i == last, 1}, 2);
+    plan_result(planning, TABLES_JOINED, 1);
+    plan->joined_cells = meet ? joined_cells : 0;
+    plan_more(planning);
+}
+
+void draw_plan(uint32_t edition, struct plan *plan)
+{
+    static struct planning planning;
+    planning.edition = edition;
+    planning.plan = plan;
+    plan->joined_cells = plan->count = 0;
+    memset(&plan->known, 0, sizeof plan->known);
+    open_drawer(&planning.drawer, edition, 2, 5, 5);
+    draw_stock(&planning);
+    if (chance(10))
+        plan_long(&planning);
+    else
+        plan_small(&planning, chance(8));
 }
 
 bool only_reads(enum request_kind kind)

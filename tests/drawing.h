@@ -26,24 +26,33 @@ struct argument {
 };
 
 /* The calls, fresh apart. */
-enum request_kind { CALL, ANSWER, FINISH, NEXT, LOAD, INSTANCE, COUNTS, REQUEST_KINDS };
+enum request_kind { CALL, ANSWER, FINISH, JOIN, NEXT, LOAD, INSTANCE, COUNTS, REQUEST_KINDS };
 
 extern const char *const request_names[REQUEST_KINDS];
 
 struct request {
     enum request_kind kind;
-    uint32_t number; /* the subgoal of answer, finish and next, the answer of load and instance */
+    uint32_t number; /* the subgoal of answer, finish and next, the answer of load and instance, the
+                        first of join */
     uint32_t after;  /* of next */
-    struct argument argument; /* of call and answer */
+    uint32_t second, target;  /* of join */
+    struct argument argument; /* the terms of call and answer, the pairs of join */
+    struct argument copies;   /* of join */
 };
 
-/* What a drawer knows of a table, so that most requests fit it. */
+/* What a drawer knows of a table, so that most requests fit it; subgoal s at s - 1. */
 enum { KNOWN_SUBGOALS = 64 };
 
 struct known {
     uint32_t subgoals, answers;
-    uint32_t variables[KNOWN_SUBGOALS]; /* of subgoal s at s - 1 */
+    uint32_t variables[KNOWN_SUBGOALS];
+    uint32_t answered[KNOWN_SUBGOALS]; /* how many answers it has */
+    bool finished[KNOWN_SUBGOALS];
+    bool holds_variables[KNOWN_SUBGOALS]; /* some answer has a variable */
 };
+
+/* Takes notice of a request that had this result. */
+void learn_result(struct known *known, const struct request *request, uint64_t word);
 
 /*
  * A source of requests for spaces of one edition. Its terms are small or long,
@@ -66,6 +75,23 @@ void open_drawer(struct drawer *drawer, uint32_t edition, unsigned long_chance,
                  unsigned spoil_chance, size_t small_cells);
 void draw_request(struct drawer *drawer, enum request_kind kind, const struct known *known,
                   struct request *request);
+
+/*
+ * A list of requests for a fresh table of an edition, which are all accepted but
+ * for a few, given room: some subgoals, ground answers over few terms, so that
+ * many of them match, and joins. In some lists the first join gives an answer of
+ * `joined_cells` cells, 255 to 257; in the others that is 0.
+ */
+enum { PLAN_REQUESTS = 64 };
+
+struct plan {
+    size_t joined_cells;
+    size_t count;
+    struct request request[PLAN_REQUESTS];
+    struct known known; /* after the last request, given room */
+};
+
+void draw_plan(uint32_t edition, struct plan *plan);
 
 /* Does the kind of request only read the space? */
 bool only_reads(enum request_kind kind);

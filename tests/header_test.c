@@ -127,16 +127,16 @@ static void test_words(void)
 /* A sentence for each number, none twice, and one for all others. */
 static void test_texts(void)
 {
-    for (uint32_t i = 0; i <= 14; i++) {
+    for (uint32_t i = 0; i <= 17; i++) {
         const char *text = tables_refusal_text(i);
         size_t length = strlen(text);
         check(length > 10 && text[length - 1] == '.', "a sentence");
-        for (uint32_t j = 1; j < i && i <= 13; j++)
+        for (uint32_t j = 1; j < i && i <= 16; j++)
             check(strcmp(text, tables_refusal_text(j)) != 0, "a sentence of its own");
     }
-    check(strcmp(tables_refusal_text(0), tables_refusal_text(14)) == 0, "no refusal");
-    check(strcmp(tables_refusal_text(14), tables_refusal_text(UINT32_MAX)) == 0, "unknown");
-    check(strcmp(tables_refusal_text(13), tables_refusal_text(14)) != 0, "13 is known");
+    check(strcmp(tables_refusal_text(0), tables_refusal_text(17)) == 0, "no refusal");
+    check(strcmp(tables_refusal_text(17), tables_refusal_text(UINT32_MAX)) == 0, "unknown");
+    check(strcmp(tables_refusal_text(16), tables_refusal_text(17)) != 0, "16 is known");
 }
 
 /* Cells out of range are refused by 3, the need is the need, and a space knows its edition. */

@@ -1,5 +1,5 @@
-/* The plain table of document 01, with the editions of Q-7: subgoals and answers as lists of
-   compact forms, no trie. */
+/* The plain table of document 01, with the editions of Q-7 and the joins of Q-2: subgoals and
+   answers as lists of compact forms, no trie. */
 #include "plain_table.h"
 
 #include <stdbool.h>
@@ -29,7 +29,8 @@ static const uint32_t EPAIR = KIND_EPAIR * KIND_UNIT;
 enum limit {
     MOST_CELLS = 256,
     MOST_VARIABLES = 32,
-    MOST_TOKENS = (3 * MOST_CELLS - 1) / 2
+    MOST_TOKENS = (3 * MOST_CELLS - 1) / 2,
+    MOST_PAIRS = 32
 };
 
 /* What came of a call: the upper 32 bits of the result word. */
@@ -43,6 +44,7 @@ enum outcome {
     OUTCOME_NONE = 6,
     OUTCOME_CELLS = 7,
     OUTCOME_COUNTS = 8,
+    OUTCOME_JOINED = 10,
     OUTCOME_REFUSED = 256
 };
 
@@ -51,6 +53,9 @@ enum refusal {
     REFUSAL_NONE = 0,
     REFUSAL_NUMBER = 7,
     REFUSAL_STATE = 8,
+    REFUSAL_SOURCE_OPEN = 14,
+    REFUSAL_SOURCE_VARIABLE = 15,
+    REFUSAL_NAMES = 16,
     REFUSAL_LENGTH = 4,
     REFUSAL_TERM = 3,
     REFUSAL_VARIABLES = 5,
@@ -586,6 +591,174 @@ static void write_instance(const struct pair_form *subgoal, const struct pair_fo
     }
 }
 
+/* Joins */
+
+/* What a join is given; two cells to a pair, two to a copy. */
+struct join {
+    uint32_t first, second, target;
+    const uint32_t *pairs;
+    size_t pairs_cells;
+    const uint32_t *copies;
+    size_t copies_cells;
+};
+
+/* A copy's side: 0 the first, 1 the second. */
+enum side {
+    SIDE_FIRST = 0,
+    SIDE_SECOND = 1
+};
+
+/* Terms one after another before it is known that they are not over 256 cells: up to as many terms
+   as a target has variables, each as long as an answer may be. */
+struct joined {
+    size_t length;
+    uint32_t cells[MOST_VARIABLES * MOST_CELLS];
+};
+
+/* Whether one of a subgoal's answers holds a variable. */
+static bool has_variable_answer(const struct plain_table *table, uint32_t subgoal)
+{
+    for (uint32_t number = 1; number <= table->answer_count; number++) {
+        if (is_answer_of(table, number, subgoal) && answer_at(table, number)->form.variables > 0) {
+            return true;
+        }
+    }
+    return false;
+}
+
+/* At most 32 whole pairs, each of a variable of the first and one of the second. */
+static bool are_pairs(const struct plain_table *table, const struct join *join)
+{
+    if (join->pairs_cells % 2 != 0 || join->pairs_cells / 2 > MOST_PAIRS) {
+        return false;
+    }
+    for (size_t i = 0; i < join->pairs_cells; i += 2) {
+        if (join->pairs[i] >= plain_table_variables(table, join->first) ||
+            join->pairs[i + 1] >= plain_table_variables(table, join->second)) {
+            return false;
+        }
+    }
+    return true;
+}
+
+/* One whole copy for each variable of the target, each of a side and a variable of that side. */
+static bool are_copies(const struct plain_table *table, const struct join *join)
+{
+    if (join->copies_cells % 2 != 0 ||
+        join->copies_cells / 2 != plain_table_variables(table, join->target)) {
+        return false;
+    }
+    for (size_t i = 0; i < join->copies_cells; i += 2) {
+        uint32_t side = join->copies[i];
+        if (side != SIDE_FIRST && side != SIDE_SECOND) {
+            return false;
+        }
+        uint32_t source = side == SIDE_FIRST ? join->first : join->second;
+        if (join->copies[i + 1] >= plain_table_variables(table, source)) {
+            return false;
+        }
+    }
+    return true;
+}
+
+/* Refusals 7, 8 and 14 to 16. */
+static enum refusal judge_join(const struct plain_table *table, const struct join *join)
+{
+    if (!is_number_within(join->first, table->subgoal_count) ||
+        !is_number_within(join->second, table->subgoal_count) ||
+        !is_number_within(join->target, table->subgoal_count)) {
+        return REFUSAL_NUMBER;
+    }
+    if (subgoal_at(table, join->target)->finished) {
+        return REFUSAL_STATE;
+    }
+    if (!subgoal_at(table, join->first)->finished || !subgoal_at(table, join->second)->finished) {
+        return REFUSAL_SOURCE_OPEN;
+    }
+    if (has_variable_answer(table, join->first) || has_variable_answer(table, join->second)) {
+        return REFUSAL_SOURCE_VARIABLE;
+    }
+    if (!are_pairs(table, join) || !are_copies(table, join)) {
+        return REFUSAL_NAMES;
+    }
+    return REFUSAL_NONE;
+}
+
+static bool are_equal_runs(struct run one, struct run other)
+{
+    if (one.length != other.length) {
+        return false;
+    }
+    for (size_t i = 0; i < one.length; i++) {
+        if (one.cells[i] != other.cells[i]) {
+            return false;
+        }
+    }
+    return true;
+}
+
+/* The answer that two answers, one of the first and one of the second, give to the target; false
+   if the terms that some pair names are not equal. */
+static bool join_answers(const struct plain_table *table, const struct join *join, uint32_t one,
+                         uint32_t other, struct joined *joined)
+{
+    struct pair_form terms[2];
+    expand_terms(&answer_at(table, one)->form, &terms[SIDE_FIRST], table->edition);
+    expand_terms(&answer_at(table, other)->form, &terms[SIDE_SECOND], table->edition);
+    for (size_t i = 0; i < join->pairs_cells; i += 2) {
+        if (!are_equal_runs(term_at(&terms[SIDE_FIRST], join->pairs[i], table->edition),
+                            term_at(&terms[SIDE_SECOND], join->pairs[i + 1], table->edition))) {
+            return false;
+        }
+    }
+    joined->length = 0;
+    for (size_t i = 0; i < join->copies_cells; i += 2) {
+        struct run run = term_at(&terms[join->copies[i]], join->copies[i + 1], table->edition);
+        copy_cells(joined->cells + joined->length, run.cells, run.length);
+        joined->length += run.length;
+    }
+    return true;
+}
+
+/* Whether an answer of the join is over 256 cells. */
+static bool is_too_long(const struct plain_table *table, const struct join *join)
+{
+    struct joined joined;
+    for (uint32_t one = 1; one <= table->answer_count; one++) {
+        for (uint32_t other = 1; other <= table->answer_count; other++) {
+            if (is_answer_of(table, one, join->first) &&
+                is_answer_of(table, other, join->second) &&
+                join_answers(table, join, one, other, &joined) && joined.length > MOST_CELLS) {
+                return true;
+            }
+        }
+    }
+    return false;
+}
+
+/* Appends what the join gives, in order of the first, then of the second, each as by answer,
+   without a thought for room. */
+static void append_joined(struct plain_table *table, const struct join *join)
+{
+    uint32_t given = table->answer_count;
+    struct joined joined;
+    struct form form;
+    for (uint32_t one = 1; one <= given; one++) {
+        for (uint32_t other = 1; other <= given; other++) {
+            if (!is_answer_of(table, one, join->first) ||
+                !is_answer_of(table, other, join->second) ||
+                !join_answers(table, join, one, other, &joined)) {
+                continue;
+            }
+            (void)read_terms(joined.cells, joined.length, join->copies_cells / 2, &form,
+                             table->edition);
+            if (find_answer(table, join->target, &form) == 0) {
+                append_answer(table, join->target, &form);
+            }
+        }
+    }
+}
+
 /* The interface */
 
 struct plain_table *plain_table_open(uint32_t nodes, uint32_t subgoals, uint32_t answers,
@@ -731,6 +904,42 @@ uint64_t plain_table_counts(const struct plain_table *table, uint32_t *out, size
     out[1] = table->subgoal_count;
     out[2] = table->answer_count;
     return result(OUTCOME_COUNTS, 3);
+}
+
+/* Every answer enters, or none: where the table with all of them is too full, they are taken off its
+   list again. */
+uint64_t plain_table_join(struct plain_table *table, uint32_t first, uint32_t second,
+                          const uint32_t *pairs, size_t pairs_cells, uint32_t target,
+                          const uint32_t *copies, size_t copies_cells)
+{
+    const struct join join = {
+        .first = first,
+        .second = second,
+        .target = target,
+        .pairs = pairs,
+        .pairs_cells = pairs_cells,
+        .copies = copies,
+        .copies_cells = copies_cells,
+    };
+    enum refusal refusal = judge_join(table, &join);
+    if (refusal != REFUSAL_NONE) {
+        return refused(refusal);
+    }
+    if (is_too_long(table, &join)) {
+        return refused(REFUSAL_LENGTH);
+    }
+    uint32_t before = table->answer_count;
+    append_joined(table, &join);
+    uint32_t after = table->answer_count;
+    if (nodes_used(table) > table->node_capacity) {
+        table->answer_count = before;
+        return refused(REFUSAL_NODES);
+    }
+    if (after > table->answer_capacity) {
+        table->answer_count = before;
+        return refused(REFUSAL_RECORDS_LEFT);
+    }
+    return result(OUTCOME_JOINED, after - before);
 }
 
 uint32_t plain_table_variables(const struct plain_table *table, uint32_t subgoal)

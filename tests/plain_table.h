@@ -25,6 +25,12 @@ uint64_t plain_table_instance(const struct plain_table *table, uint32_t answer, 
                               size_t out_cells);
 uint64_t plain_table_counts(const struct plain_table *table, uint32_t *out, size_t out_cells);
 
+/* Joins two finished subgoals into an open one, by the rule of Q-2: two cells to a pair, two to a
+   copy. The word that the export must return. */
+uint64_t plain_table_join(struct plain_table *table, uint32_t first, uint32_t second,
+                          const uint32_t *pairs, size_t pairs_cells, uint32_t target,
+                          const uint32_t *copies, size_t copies_cells);
+
 /* The distinct variables of a subgoal, which exists. */
 uint32_t plain_table_variables(const struct plain_table *table, uint32_t subgoal);
 

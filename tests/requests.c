@@ -4,7 +4,8 @@
 #include "../include/tables.h"
 
 uint64_t make_request(const struct request *request, uint32_t *space, size_t space_cells,
-                      const uint32_t *cells, uint32_t *out, size_t out_cells)
+                      const uint32_t *cells, const uint32_t *copies, uint32_t *out,
+                      size_t out_cells)
 {
     switch (request->kind) {
     case CALL:
@@ -13,6 +14,10 @@ uint64_t make_request(const struct request *request, uint32_t *space, size_t spa
         return tables_answer(space, space_cells, request->number, cells, request->argument.count);
     case FINISH:
         return tables_finish(space, space_cells, request->number);
+    case JOIN:
+        return tables_join(space, space_cells, request->number, request->second, cells,
+                           request->argument.count, request->target, copies,
+                           request->copies.count);
     case NEXT:
         return tables_next(space, space_cells, request->number, request->after);
     case LOAD:

@@ -4,8 +4,9 @@
 
 #include "drawing.h"
 
-/* Makes the request, with its argument's cells lent at `cells`. */
+/* Makes the request, with its argument's cells lent at `cells`, and a join's copies at `copies`. */
 uint64_t make_request(const struct request *request, uint32_t *space, size_t space_cells,
-                      const uint32_t *cells, uint32_t *out, size_t out_cells);
+                      const uint32_t *cells, const uint32_t *copies, uint32_t *out,
+                      size_t out_cells);
 
 #endif

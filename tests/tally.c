@@ -19,16 +19,20 @@ bool tally_result(const uint32_t possible[TALLY_ROWS], uint32_t edition, unsigne
 {
     uint32_t refusal = tables_refused_by(word);
     uint32_t result = refusal > 0 ? RESULT_WHATS + refusal - 1 : tables_what(word);
-    if ((refusal == 0 && result >= RESULT_WHATS) || result >= RESULTS)
+    if ((refusal == 0 && result > TABLES_JOINED) || result >= RESULTS)
         return false;
+    if (refusal == 0 && result == TABLES_JOINED && tables_value(word) == 0)
+        result = JOINED_NONE;
     came[edition - 1][row][result]++;
     return (possible[row] >> result & 1) != 0;
 }
 
 static void print_row(uint32_t edition, unsigned row)
 {
-    static const char *const whats[RESULT_WHATS] = {"done", "new",  "old",   "open",  "finished",
-                                                    "at",   "none", "cells", "counts"};
+    static const char *const whats[RESULT_WHATS] = {
+        "done",  "new",    "old", "open",   "finished",    "at", "none",
+        "cells", "counts", "9",   "joined", "joined none",
+    };
     printf("  %-8s", row_name(row));
     for (unsigned result = 0; result < RESULTS; result++) {
         uint64_t count = came[edition - 1][row][result];

@@ -5,8 +5,11 @@
 #include "../include/tables.h"
 #include "drawing.h"
 
-/* A result's place in a set: the whats from TABLES_DONE to TABLES_COUNTS, then the refusals 1 to 12. */
-enum { RESULT_WHATS = TABLES_COUNTS + 1, RESULTS = RESULT_WHATS + 12 };
+/*
+ * A result's place in a set: the whats from TABLES_DONE to TABLES_JOINED, a join with no new answer by
+ * itself, then the refusals 1 to 16.
+ */
+enum { JOINED_NONE = TABLES_JOINED + 1, RESULT_WHATS, RESULTS = RESULT_WHATS + 16 };
 
 #define RESULT(what) (UINT32_C(1) << (what))
 #define REFUSAL(number) (UINT32_C(1) << (RESULT_WHATS + (number) - 1))

@@ -8,6 +8,7 @@ use words::call_word;
 use words::cells_word;
 use words::finish_word;
 use words::fresh_word;
+use words::join_word;
 use words::next_word;
 use words::refusal_word;
 use words::result_word;
@@ -54,6 +55,24 @@ pub extern "C" fn tables_finish(space: &mut [u32], subgoal: u32) -> u64
     ensures { λ w. ⌜ Returns (now (space .entry)) (request.finish subgoal) w [] (now (space .exit)) ⌝ }
 {
     finish_word(store::calls::finish(space, subgoal))
+}
+
+// Joins two finished subgoals into an open one: two cells to a pair, and two to a copy.
+#[no_mangle]
+pub extern "C" fn tables_join(
+    space: &mut [u32],
+    first: u32,
+    second: u32,
+    pairs: &[u32],
+    target: u32,
+    copies: &[u32],
+) -> u64
+    ensures { λ w. ⌜
+        Returns (now (space .entry)) (request.join first second (now (pairs .entry)) target (now (copies .entry))) w []
+        (now (space .exit))
+        ⌝ }
+{
+    join_word(join::joins::join(space, first, second, pairs, target, copies))
 }
 
 // ---- the calls that only read the space

@@ -1,0 +1,12 @@
+pub mod RemainsLaws
+pub mod HandLaws
+pub mod FindLaws
+pub mod AdvanceLaws
+pub mod CountLaws
+pub mod CountCases
+pub mod NeedLaws
+pub mod EnterLaws
+pub mod JoinCases
+pub mod RoomCases
+pub mod RuleCases
+pub mod CallCases

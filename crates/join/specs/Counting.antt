@@ -1,0 +1,141 @@
+-- What the forms of a join need, and what entering them leaves: of all forms, as the functions that go through them say it.
+use Prim.Native.Nat.{ℕ, _+_, _-_, _*_, _^_, _≤_, _<_, min}
+use mathlib.Core.Bool.{Bool, true, false, _||_, _&&_}
+use mathlib.Core.List.{List, [], _∷_, _++_}
+use mathlib.Core.Path.{_≡_}
+use lib.Dec.{eqb}
+use lib.ListN.{length, take}
+use Rattle.basis.specs.Choice.{pick}
+use Rattle.forms.specs.Cells.{arityOf}
+use Rattle.plain.specs.Words.{Word, common, most, has}
+use Rattle.plain.specs.Joins.{combined}
+use Rattle.space.specs.Layout.{sizesOf}
+use Rattle.space.specs.Heading.{spaceHeader}
+use Rattle.space.specs.Sound.{Bounds, subgoalUnder}
+use Rattle.space.specs.declared.Head.{Head}
+use Rattle.space.specs.declared.Header.the-variants as header
+use Rattle.store.specs.Views.{View}
+use Rattle.store.specs.Decisions.{allSound, nodesNeeded, answersNeeded}
+use Rattle.store.specs.Changes.{formsGiven}
+use Rattle.store.specs.Contracts.{viewIn}
+use Rattle.parts.specs.Parts.{allFit}
+use Rattle.sides.specs.Counts.{sumMissing, sumLacking}
+use Rattle.sides.specs.declared.Met.{Met}
+use Rattle.join.specs.declared.Source.{Source}
+use Rattle.join.specs.declared.Sides.{Sides}
+use Rattle.join.specs.declared.Cursor.{Cursor}
+use Rattle.join.specs.declared.Sums.{Sums}
+use Rattle.join.specs.declared.Counted.{Counted}
+use Rattle.join.specs.declared.Counted.the-variants as counted
+use Rattle.join.specs.declared.Needs.{Needs}
+use Rattle.join.specs.declared.Earlier.{Earlier}
+use Rattle.join.specs.Pairing.{Remains, Known, partsFrom}
+
+-- ---- all forms
+
+-- nothing is in hand yet
+abbrev pub beginning : Sides → Cursor
+beginning x = record { outer = x .first .first; inner = 0 }
+
+-- in order of the first, then of the second
+abbrev pub allForms : List ℕ → Sides → List ℕ → List ℕ → List Word
+allForms cs x ps ks =
+    combined ps ks (partsFrom cs (x .h) (x .first) (x .first .first)) (partsFrom cs (x .h) (x .second) (x .second .first))
+
+-- what is known of a join before it begins
+pub record Ready (cs : List ℕ) (x : Sides) (ps ks : List ℕ) : Type 0 where
+  pub known : Known cs x ps ks
+  pub firsts : Remains cs (x .h) (x .first) (x .first .first)
+
+-- each form fits
+abbrev pub Fitting : List ℕ → Sides → List ℕ → List ℕ → Type 0
+Fitting cs x ps ks = allFit (arityOf (x .h .edition)) (allForms cs x ps ks) ≡ true
+
+-- ---- by the searches alone
+
+-- 1 for a form that is lacking
+unfoldable pub oneMore : Bool → ℕ
+oneMore b = pick b 1 0
+
+-- the sums with one form more
+abbrev pub added : Sums → Met → Sums
+added y m = record {
+  sound = y .sound && m .sound;
+  missing = y .missing + m .missing;
+  lacking = y .lacking + oneMore (m .lacking);
+}
+
+-- the sums of the forms, unless one does not fit
+abbrev pub CountedOf : View → ℕ → (ℕ → ℕ) → List Word → Counted → Type 0
+CountedOf v s arity ws (counted.Sums y) =
+    (allFit arity ws ≡ true) × (y .sound ≡ allSound v s ws) × (y .missing ≡ sumMissing v s ws) × (y .lacking ≡ sumLacking v s ws)
+CountedOf v s arity ws counted.TooLong = allFit arity ws ≡ false
+
+-- for whichever target has this answer root
+abbrev pub Counts : List ℕ → Sides → ℕ → List ℕ → List ℕ → Counted → Type 0
+Counts cs x root ps ks r =
+    (s : ℕ) → root ≡ subgoalUnder cs (x .h) s .root
+    → CountedOf (viewIn cs (x .h)) s (arityOf (x .h .edition)) (allForms cs x ps ks) r
+
+-- ---- exactly
+
+-- the forms before one, the last first, as the definition of the needs has them
+unfoldable pub backwards : List Word → List Word → List Word
+backwards [] before = before
+backwards (w ∷ ws) before = backwards ws (w ∷ before)
+
+-- what the form w shares with the first k forms
+abbrev pub EarlierOf : List Word → ℕ → Word → Earlier → Type 0
+EarlierOf ws k w r = (r .shared ≡ most (backwards (take k ws) []) w) × (r .held ≡ has (backwards (take k ws) []) w)
+
+-- and with one form more
+abbrev pub Meets : Earlier → Word → Word → Earlier → Type 0
+Meets a v w b =
+    (before : List Word) → a .shared ≡ most before w → a .held ≡ has before w
+    → (b .shared ≡ most (v ∷ before) w) × (b .held ≡ has (v ∷ before) w)
+
+-- k tokens are all of n, and all of m
+unfoldable pub allShared : ℕ → ℕ → ℕ → Bool
+allShared k n m = pick (eqb k n) (eqb n m) false
+
+-- 1 for a form that is lacking and not among those before it
+unfoldable pub oneNew : Bool → Bool → ℕ
+oneNew lacking held = pick lacking (pick held 0 1) 0
+
+-- the needs with one form of n tokens more
+abbrev pub needsMore : Needs → Met → Earlier → ℕ → Needs
+needsMore y m e n = record {
+  nodes = y .nodes + min (m .missing) (n - e .shared);
+  answers = y .answers + oneNew (m .lacking) (e .held);
+}
+
+abbrev pub NeedsOf : List ℕ → Sides → ℕ → List ℕ → List ℕ → Needs → Type 0
+NeedsOf cs x root ps ks r =
+    (s : ℕ) → root ≡ subgoalUnder cs (x .h) s .root
+    → (let ws = allForms cs x ps ks in
+    (r .nodes ≡ nodesNeeded (viewIn cs (x .h)) s [] ws) × (r .answers ≡ answersNeeded (viewIn cs (x .h)) s [] ws))
+
+-- ---- entering
+
+-- another header for the same sources
+abbrev pub underHead : Sides → Head → Sides
+underHead x h = record { h = h; first = x .first; second = x .second }
+
+-- the target is another subgoal than the sources, and its record stands within the counts
+pub record Target (cs : List ℕ) (x : Sides) (s : ℕ) : Type 0 where
+  pub low : 1 ≤ s
+  pub high : s ≤ x .h .subgoals
+  pub root-in : subgoalUnder cs (x .h) s .root < x .h .nodes
+  pub last-in : subgoalUnder cs (x .h) s .last ≤ x .h .answers
+  pub not-first : x .first .number ≡ s → ⊥
+  pub not-second : x .second .number ≡ s → ⊥
+
+-- a form may be given to subgoal s
+abbrev pub Givable : List ℕ → Head → ℕ → Type 0
+Givable cs h s =
+    Bounds cs h × (1 ≤ s) × (s ≤ h .subgoals) × (subgoalUnder cs h s .root < h .nodes)
+    × (subgoalUnder cs h s .last ≤ h .answers)
+
+-- every form is given
+abbrev pub Enters : List ℕ → Sides → ℕ → List ℕ → List ℕ → List ℕ → Type 0
+Enters cs x s ps ks cs′ = cs′ ≡ formsGiven (sizesOf (x .h .edition)) cs s (allForms cs x ps ks)

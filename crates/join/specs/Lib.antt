@@ -1,0 +1,3 @@
+pub mod Pairing
+pub mod Counting
+pub mod Joining

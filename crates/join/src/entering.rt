@@ -1,0 +1,65 @@
+// The forms of a join entered, each as a single answer is. The sources are read again meanwhile: their records and
+// paths stay as they are while another subgoal is answered.
+use super::Match;
+use super::Sides;
+use super::counting::begin;
+use super::cursors::HANDS;
+use super::cursors::advance;
+use basis::limits::MOST_TOKENS;
+use space::Head;
+use space::Header;
+use space::heading::read_header;
+use space::records::subgoal_in;
+use store::calls::answer_at;
+ghost use mathlib.Core.Path.{_≡_};
+ghost use Rattle.space.specs.Layout.{sizesOf};
+ghost use Rattle.space.specs.declared.Header.the-variants as header;
+ghost use Rattle.store.specs.Changes.{formGiven};
+ghost use Rattle.join.specs.Counting.{Givable, underHead, Enters};
+ghost use Rattle.join.specs.Joining.{Enterable};
+
+// A form given to subgoal s, whatever comes of it.
+fn give(space: &mut [u32], h: Head, s: usize, tokens: &[u32])
+    requires { ⌜ Givable (now space) h s ⌝ }
+    ensures { λ _. ⌜ now (space .exit) ≡ formGiven (sizesOf (h .edition)) (now (space .entry)) s (now (tokens .entry)) (header.Sound h) ⌝ }
+{
+    let g = subgoal_in(space, h, s);
+    answer_at(space, h, s, g, tokens);
+}
+
+// The same sources under another header.
+fn under(x: Sides, h: Head) -> Sides
+    ensures { λ r. ⌜ r ≡ underHead x h ⌝ }
+{
+    let first = x.first;
+    let second = x.second;
+    Sides {
+        h: h,
+        first: first,
+        second: second,
+    }
+}
+
+// All forms given to subgoal s.
+pub fn enter(space: &mut [u32], x: Sides, s: usize, pairs: &[u32], copies: &[u32])
+    requires { ⌜ Enterable (now space) x s (now pairs) (now copies) ⌝ }
+    ensures { λ _. ⌜ Enters (now (space .entry)) x s (now (pairs .entry)) (now (copies .entry)) (now (space .exit)) ⌝ }
+{
+    let mut hands = [0u32; HANDS];
+    let mut form = [0u32; MOST_TOKENS];
+    let mut at = begin(x);
+    let mut y = x;
+    loop {
+        let next = advance(space, y, at, &mut hands, pairs, copies, &mut form);
+        let Match::At(behind, n) = next else {
+            return;
+        };
+        give(space, y.h, s, &form[..n]);
+        let header = read_header(space);
+        let Header::Sound(h) = header else {
+            return;
+        };
+        y = under(y, h);
+        at = behind;
+    }
+}

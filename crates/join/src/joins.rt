@@ -1,0 +1,356 @@
+// The join as a call: what is judged in its order, then the passes over its forms.
+use super::Counted;
+use super::Parties;
+use super::Sides;
+use super::Source;
+use super::Sums;
+use super::counting::count;
+use super::counting::needs;
+use super::entering::enter;
+use basis::refusals::LENGTH;
+use basis::refusals::NAMES;
+use basis::refusals::NODES;
+use basis::refusals::NUMBER;
+use basis::refusals::RECORDS;
+use basis::refusals::RECORDS_LEFT;
+use basis::refusals::SOURCE_OPEN;
+use basis::refusals::SOURCE_VARIABLE;
+use basis::refusals::STATE;
+use basis::wide;
+use sides::Judged;
+use sides::chains::judge;
+use sides::names::named;
+use space::Head;
+use space::Header;
+use space::NodeRead;
+use space::SubgoalRead;
+use space::heading::read_header;
+use space::records::read_node;
+use space::records::read_subgoal;
+use store::JoinAnswer;
+use store::calls::last_sound;
+ghost use mathlib.Core.Path.{_≡_};
+ghost use mathlib.Core.List.{[]};
+ghost use Prim.Native.Nat.{_≤_, _<_, _^_};
+ghost use Rattle.plain.specs.Requests as request;
+ghost use Rattle.space.specs.Heading.{spaceHeader};
+ghost use Rattle.space.specs.Sound.{Bounds};
+ghost use Rattle.space.specs.declared.Header.the-variants as header;
+ghost use Rattle.trie.specs.Walks.{rootSound};
+ghost use Rattle.store.specs.Views.{answerTrie};
+ghost use Rattle.store.specs.Calls.{Answers};
+ghost use Rattle.store.specs.Contracts.{viewIn, AnswersUnder};
+ghost use Rattle.store.specs.Replies.{saidJoin};
+ghost use Rattle.join.specs.Counting.{Ready, Fitting};
+ghost use Rattle.join.specs.Joining.{isNumber, Numbered, PartiesIn, sidesOf, wholeAnswers, groundAnswers};
+ghost use Rattle.join.specs.Joining.{RulesOn, Rules, Grounded, JoinsUnder, SomeNew, sumsFit, Fills, Enterable, EntersAll};
+
+// The sources as the passes take them.
+fn sides_of(h: Head, y: Parties) -> Sides
+    ensures { λ r. ⌜ r ≡ sidesOf h y ⌝ }
+{
+    let first = Source {
+        number: y.first,
+        root: y.f.root,
+        variables: y.f.variables,
+        first: y.f.first,
+    };
+    let second = Source {
+        number: y.second,
+        root: y.g.root,
+        variables: y.g.variables,
+        first: y.g.first,
+    };
+    Sides {
+        h: h,
+        first: first,
+        second: second,
+    }
+}
+
+// Is this the number of a subgoal?
+fn is_number(subgoals: usize, s: usize) -> bool
+    ensures { λ r. ⌜ r ≡ isNumber subgoals s ⌝ }
+{
+    if s == 0 {
+        return false;
+    }
+    s <= subgoals
+}
+
+// Is the answer root of the target a sound root?
+fn is_root(space: &[u32], h: Head, root: usize) -> bool
+    requires { ⌜ Bounds (now space) h × (root < h .nodes) ⌝ }
+    ensures { λ r. ⌜ r ≡ rootSound (answerTrie (viewIn (now (space .entry)) h)) root ⌝ }
+{
+    let NodeRead::Sound(y) = read_node(space, h.nodes, h.answers, root) else {
+        return false;
+    };
+    y.parent == root
+}
+
+// Is nothing damaged among the answers of a source?
+fn is_whole(j: Judged) -> bool
+    ensures { λ r. ⌜ r ≡ wholeAnswers j ⌝ }
+{
+    match j {
+        Judged::Damaged => return false,
+        Judged::Ground => return true,
+        Judged::Variable => return true,
+    }
+}
+
+// Do they hold no variable?
+fn is_ground(j: Judged) -> bool
+    ensures { λ r. ⌜ r ≡ groundAnswers j ⌝ }
+{
+    match j {
+        Judged::Damaged => return false,
+        Judged::Ground => return true,
+        Judged::Variable => return false,
+    }
+}
+
+// The refusal by the states, the sources' answers and the names; 0 for none.
+fn ruling(y: Parties, f: Judged, g: Judged, pairs: &[u32], copies: &[u32]) -> u32
+    requires { ⌜ y .t .variables ≤ 32 ⌝ }
+    ensures { λ r. ⌜ RulesOn y f g (now (pairs .entry)) (now (copies .entry)) r ⌝ }
+{
+    if y.t.state != 0 {
+        return STATE;
+    }
+    if y.f.state == 0 {
+        return SOURCE_OPEN;
+    }
+    if y.g.state == 0 {
+        return SOURCE_OPEN;
+    }
+    if is_ground(f) {
+        if is_ground(g) {
+            if named(pairs, copies, y.f.variables, y.g.variables, y.t.variables) {
+                return 0;
+            }
+            return NAMES;
+        }
+    }
+    SOURCE_VARIABLE
+}
+
+// The same, after what is damaged.
+fn rule(y: Parties, f: Judged, g: Judged, pairs: &[u32], copies: &[u32]) -> u32
+    requires { ⌜ y .t .variables ≤ 32 ⌝ }
+    ensures { λ r. ⌜ Rules y f g (now (pairs .entry)) (now (copies .entry)) r ⌝ }
+{
+    if is_whole(f) {
+        if is_whole(g) {
+            return ruling(y, f, g, pairs, copies);
+        }
+    }
+    RECORDS
+}
+
+// All forms are entered; how many are new is what the answers used rise by.
+fn join_entered(space: &mut [u32], x: Sides, s: usize, pairs: &[u32], copies: &[u32]) -> JoinAnswer
+    requires { ⌜ Enterable (now space) x s (now pairs) (now copies) ⌝ }
+    ensures { λ r. ⌜ EntersAll (now (space .entry)) x s (now (pairs .entry)) (now (copies .entry)) r (now (space .exit)) ⌝ }
+{
+    enter(space, x, s, pairs, copies);
+    let header = read_header(space);
+    let Header::Sound(h) = header else {
+        return JoinAnswer::Joined(0);
+    };
+    let more = h.answers - x.h.answers;
+    JoinAnswer::Joined(more as u32)
+}
+
+// Is there room by the sums alone?
+fn sums_fit(h: Head, y: Sums) -> bool
+    requires { ⌜ (h .nodes ≤ h .«node_capacity») × (h .answers ≤ h .«answer_capacity») ⌝ }
+    requires { ⌜ (h .«node_capacity» < 2 ^ 32) × (h .«answer_capacity» < 2 ^ 32) ⌝ }
+    ensures { λ r. ⌜ r ≡ sumsFit h y ⌝ }
+{
+    let nodes = (h.node_capacity - h.nodes) as u64;
+    let answers = (h.answer_capacity - h.answers) as u64;
+    if y.missing <= nodes {
+        return y.lacking <= answers;
+    }
+    false
+}
+
+// The refusal for want of room, by the exact needs; 0 for none.
+fn full(space: &[u32], x: Sides, root: usize, pairs: &[u32], copies: &[u32]) -> u32
+    requires { ⌜ Ready (now space) x (now pairs) (now copies) × Fitting (now space) x (now pairs) (now copies) ⌝ }
+    requires { ⌜ root < x .h .nodes ⌝ }
+    ensures { λ r. ⌜ Fills (now (space .entry)) x root (now (pairs .entry)) (now (copies .entry)) r ⌝ }
+{
+    let y = needs(space, x, root, pairs, copies);
+    let nodes = (x.h.node_capacity - x.h.nodes) as u64;
+    let answers = (x.h.answer_capacity - x.h.answers) as u64;
+    if nodes < y.nodes {
+        return NODES;
+    }
+    if answers < y.answers {
+        return RECORDS_LEFT;
+    }
+    0
+}
+
+// Forms that fit, of which some are new: 9 by the last answer, 10, 11, or all are entered.
+fn join_new(
+    space: &mut [u32],
+    h: Head,
+    y: Parties,
+    sums: Sums,
+    pairs: &[u32],
+    copies: &[u32],
+) -> JoinAnswer
+    requires { ⌜ SomeNew (now space) h y (now pairs) (now copies) sums ⌝ }
+    ensures { λ r. ⌜
+        JoinsUnder (now (space .entry)) h y (now (pairs .entry)) (now (copies .entry)) r (now (space .exit))
+        ⌝ }
+{
+    if last_sound(space, h, y.target, y.t.last) {
+        let x = sides_of(h, y);
+        if sums_fit(h, sums) {
+            return join_entered(space, x, y.target, pairs, copies);
+        }
+        let r = full(space, x, y.t.root, pairs, copies);
+        if r == 0 {
+            return join_entered(space, x, y.target, pairs, copies);
+        }
+        return JoinAnswer::Refused(r);
+    }
+    JoinAnswer::Refused(RECORDS)
+}
+
+// Sources that the rule lets through: 4, 9 by the searches, nothing new, or some.
+fn join_ground(space: &mut [u32], h: Head, y: Parties, pairs: &[u32], copies: &[u32]) -> JoinAnswer
+    requires { ⌜ Grounded (now space) h y (now pairs) (now copies) ⌝ }
+    ensures { λ r. ⌜
+        JoinsUnder (now (space .entry)) h y (now (pairs .entry)) (now (copies .entry)) r (now (space .exit))
+        ⌝ }
+{
+    let counted = count(space, sides_of(h, y), y.t.root, pairs, copies);
+    let Counted::Sums(sums) = counted else {
+        return JoinAnswer::Refused(LENGTH);
+    };
+    if sums.sound {
+        if sums.lacking == 0 {
+            return JoinAnswer::Joined(0);
+        }
+        return join_new(space, h, y, sums, pairs, copies);
+    }
+    JoinAnswer::Refused(RECORDS)
+}
+
+// The three subgoals are read: the sources' answers, then the rule.
+fn join_parties(space: &mut [u32], h: Head, y: Parties, pairs: &[u32], copies: &[u32]) -> JoinAnswer
+    requires { ⌜ PartiesIn (now space) h y ⌝ }
+    ensures { λ r. ⌜
+        JoinsUnder (now (space .entry)) h y (now (pairs .entry)) (now (copies .entry)) r (now (space .exit))
+        ⌝ }
+{
+    let f = judge(space, h, y.first, y.f);
+    let g = judge(space, h, y.second, y.g);
+    let r = rule(y, f, g, pairs, copies);
+    if r == 0 {
+        return join_ground(space, h, y, pairs, copies);
+    }
+    JoinAnswer::Refused(r)
+}
+
+// Subgoals that there are: their records and the target's answer root.
+fn join_known(
+    space: &mut [u32],
+    h: Head,
+    first: usize,
+    second: usize,
+    pairs: &[u32],
+    target: usize,
+    copies: &[u32],
+) -> JoinAnswer
+    requires { ⌜ Numbered (now space) h first second target ⌝ }
+    ensures { λ r. ⌜
+        AnswersUnder (now (space .entry)) h (request.join first second (now (pairs .entry)) target (now (copies .entry)))
+        (saidJoin r) (now (space .exit))
+        ⌝ }
+{
+    let SubgoalRead::Sound(f) = read_subgoal(space, h, first) else {
+        return JoinAnswer::Refused(RECORDS);
+    };
+    let SubgoalRead::Sound(g) = read_subgoal(space, h, second) else {
+        return JoinAnswer::Refused(RECORDS);
+    };
+    let SubgoalRead::Sound(t) = read_subgoal(space, h, target) else {
+        return JoinAnswer::Refused(RECORDS);
+    };
+    if is_root(space, h, t.root) {
+        let y = Parties {
+            first: first,
+            f: f,
+            second: second,
+            g: g,
+            target: target,
+            t: t,
+        };
+        return join_parties(space, h, y, pairs, copies);
+    }
+    JoinAnswer::Refused(RECORDS)
+}
+
+// In a space whose header is sound: the numbers.
+fn join_in(
+    space: &mut [u32],
+    h: Head,
+    first: usize,
+    second: usize,
+    pairs: &[u32],
+    target: usize,
+    copies: &[u32],
+) -> JoinAnswer
+    requires { ⌜ header.Sound h ≡ spaceHeader (now space) ⌝ }
+    ensures { λ r. ⌜
+        AnswersUnder (now (space .entry)) h (request.join first second (now (pairs .entry)) target (now (copies .entry)))
+        (saidJoin r) (now (space .exit))
+        ⌝ }
+{
+    if is_number(h.subgoals, first) {
+        if is_number(h.subgoals, second) {
+            if is_number(h.subgoals, target) {
+                return join_known(space, h, first, second, pairs, target, copies);
+            }
+        }
+    }
+    JoinAnswer::Refused(NUMBER)
+}
+
+// Joins two finished subgoals into an open one.
+pub fn join(
+    space: &mut [u32],
+    first: u32,
+    second: u32,
+    pairs: &[u32],
+    target: u32,
+    copies: &[u32],
+) -> JoinAnswer
+    ensures { λ r. ⌜
+        Answers (now (space .entry)) (request.join first second (now (pairs .entry)) target (now (copies .entry)))
+        (saidJoin r) [] (now (space .exit))
+        ⌝ }
+{
+    let header = read_header(space);
+    match header {
+        Header::Refused(r) => return JoinAnswer::Refused(r),
+        Header::Sound(h) => {
+            return join_in(
+                space,
+                h,
+                wide(first),
+                wide(second),
+                pairs,
+                wide(target),
+                copies,
+            );
+        }
+    }
+}
