@@ -1,4 +1,4 @@
--- What the forms of a join need, and what entering them leaves: of all forms, as the functions that go through them say it.
+-- What the forms of a join need, and what entering them leaves, as the functions that go through all of them say it.
 use Prim.Native.Nat.{ℕ, _+_, _-_, _*_, _^_, _≤_, _<_, min}
 use mathlib.Core.Bool.{Bool, true, false, _||_, _&&_}
 use mathlib.Core.List.{List, [], _∷_, _++_}
@@ -16,7 +16,7 @@ use Rattle.space.specs.declared.Head.{Head}
 use Rattle.space.specs.declared.Header.the-variants as header
 use Rattle.store.specs.Views.{View}
 use Rattle.store.specs.Decisions.{allSound, nodesNeeded, answersNeeded}
-use Rattle.store.specs.Changes.{formsGiven}
+use Rattle.store.specs.Changes.{formGiven, formsGiven}
 use Rattle.store.specs.Contracts.{viewIn}
 use Rattle.parts.specs.Parts.{allFit}
 use Rattle.sides.specs.Counts.{sumMissing, sumLacking}
@@ -135,6 +135,10 @@ abbrev pub Givable : List ℕ → Head → ℕ → Type 0
 Givable cs h s =
     Bounds cs h × (1 ≤ s) × (s ≤ h .subgoals) × (subgoalUnder cs h s .root < h .nodes)
     × (subgoalUnder cs h s .last ≤ h .answers)
+
+-- it is, whatever comes of it
+abbrev pub Gives : List ℕ → Head → ℕ → Word → List ℕ → Type 0
+Gives cs h s w cs′ = cs′ ≡ formGiven (sizesOf (h .edition)) cs s w (header.Sound h)
 
 -- every form is given
 abbrev pub Enters : List ℕ → Sides → ℕ → List ℕ → List ℕ → List ℕ → Type 0

@@ -12,16 +12,13 @@ use space::heading::read_header;
 use space::records::subgoal_in;
 use store::calls::answer_at;
 ghost use mathlib.Core.Path.{_≡_};
-ghost use Rattle.space.specs.Layout.{sizesOf};
-ghost use Rattle.space.specs.declared.Header.the-variants as header;
-ghost use Rattle.store.specs.Changes.{formGiven};
-ghost use Rattle.join.specs.Counting.{Givable, underHead, Enters};
+ghost use Rattle.join.specs.Counting.{Givable, Gives, underHead, Enters};
 ghost use Rattle.join.specs.Joining.{Enterable};
 
 // A form given to subgoal s, whatever comes of it.
 fn give(space: &mut [u32], h: Head, s: usize, tokens: &[u32])
     requires { ⌜ Givable (now space) h s ⌝ }
-    ensures { λ _. ⌜ now (space .exit) ≡ formGiven (sizesOf (h .edition)) (now (space .entry)) s (now (tokens .entry)) (header.Sound h) ⌝ }
+    ensures { λ _. ⌜ Gives (now (space .entry)) h s (now (tokens .entry)) (now (space .exit)) ⌝ }
 {
     let g = subgoal_in(space, h, s);
     answer_at(space, h, s, g, tokens);

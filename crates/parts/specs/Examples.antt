@@ -7,7 +7,8 @@ use lib.ListN.{length, replicate}
 use Rattle.forms.specs.Cells.{tag, BLIST, ELIST, EPAIR, arityOf, shapeOf, symbolic, tokenOf}
 use Rattle.forms.specs.Terms.{pairs, every}
 use Rattle.forms.specs.Numbering.{rank, seen, met, renamed, numbered}
-use Rattle.forms.specs.Compact.{compact, elements, filled, lastOf, tailOf, inside, into, collected, whole, entered, items, front, formTerms, pairForm, same, areForms, legalForm}
+use Rattle.forms.specs.Compact.{compact, elements, filled, lastOf, tailOf, inside, into, collected, whole, entered}
+use Rattle.forms.specs.Compact.{items, front, formTerms, pairForm, same, areForms, legalForm}
 use Rattle.plain.specs.Words.{Word}
 use Rattle.plain.specs.Joins.{Terms, declined, formed, matching, copied}
 use Rattle.parts.specs.Parts.{parts, startOf, allFit, fitted}
@@ -42,7 +43,8 @@ Parted =
     × (map (startOf (arityOf 1) form) (0 ∷ 1 ∷ 2 ∷ 3 ∷ []) ≡ 0 ∷ 9 ∷ 11 ∷ 16 ∷ [])
 
 pub parted : Parted
-unfolding arityOf shapeOf symbolic tokenOf every compact elements filled lastOf tailOf inside into collected whole entered items front formTerms
+unfolding arityOf shapeOf symbolic tokenOf every compact elements filled lastOf tailOf inside into collected whole
+    entered items front formTerms
 parted = (refl, refl)
 
 -- in hand
@@ -64,7 +66,8 @@ Counted =
     × (length (pairForm (arityOf 1) form) ≡ 18)
 
 pub counted : Counted
-unfolding weights allTake weight argumentsOf solid arityOf shapeOf symbolic tokenOf every pairs compact elements filled lastOf tailOf inside into collected whole entered items front formTerms pairForm
+unfolding weights allTake weight argumentsOf solid arityOf shapeOf symbolic tokenOf every pairs compact elements
+    filled lastOf tailOf inside into collected whole entered items front formTerms pairForm
 counted = (refl, refl, refl)
 
 -- [1,1,..] of n ones: 2 n + 1 cells
@@ -81,5 +84,6 @@ Joined =
     × (fitted (arityOf 1) (form ∷ ones 127 ∷ []) ≡ declined 4)
 
 pub joined : Joined
-unfolding matching same copied allFit arityOf shapeOf symbolic tokenOf every pairs filled lastOf tailOf inside into collected whole entered items front formTerms pairForm
+unfolding matching same copied allFit arityOf shapeOf symbolic tokenOf every pairs filled lastOf tailOf inside into
+    collected whole entered items front formTerms pairForm
 joined = (refl, refl, refl, refl, refl)
