@@ -1,4 +1,4 @@
-// Fresh and the seven calls as C functions over the machine's own cells, each with one result word.
+// Fresh and the eight calls as C functions over the machine's own cells, each with one result word.
 use basis::refusals::OUT;
 use store::CountsAnswer;
 use words::COUNTS;
