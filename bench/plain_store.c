@@ -51,7 +51,10 @@ enum refusal {
     DAMAGED = 9,
     NO_NODES = 10,
     NO_RECORDS = 11,
-    OUT_TOO_SHORT = 12
+    OUT_TOO_SHORT = 12,
+    SOURCE_OPEN = 14,
+    SOURCE_VARIABLE = 15,
+    BAD_NAMES = 16
 };
 
 enum said {
@@ -64,6 +67,7 @@ enum said {
     SAID_NONE,
     SAID_CELLS,
     SAID_COUNTS,
+    SAID_JOINED = 10,
     SAID_REFUSED = 256
 };
 

@@ -23,4 +23,9 @@ uint64_t plain_instance(const uint32_t *space, size_t space_cells, uint32_t answ
                         size_t out_cells);
 uint64_t plain_counts(const uint32_t *space, size_t space_cells, uint32_t *out, size_t out_cells);
 
+/* In plain_join.c, which contains the store: a program is linked with one of the two. */
+uint64_t plain_join(uint32_t *space, size_t space_cells, uint32_t first, uint32_t second,
+                    const uint32_t *pairs, size_t pairs_cells, uint32_t target,
+                    const uint32_t *copies, size_t copies_cells);
+
 #endif

@@ -1,4 +1,4 @@
-/* A small engine over the table store: where an airport's belts bring a bag, and by which stops. */
+/* A small engine over the table store: where an airport's belts bring a bag, by which stops, and where bags meet. */
 #include "../include/tables.h"
 
 #include <stdbool.h>
@@ -10,10 +10,12 @@
  *
  *     reach(P, Z, [Z])     :- belt(P, Z).
  *     reach(P, Y, [Z | S]) :- belt(P, Z), reach(Z, Y, S), P not among S.
+ *     meet(Y, S, T)        :- reach(check-in 1, Y, S), reach(check-in 2, Y, T).
  *
  * The store and the sorter feed each other, so a plain depth-first search would
  * not end. A tabled one does: a subgoal is entered once, and an answer that is
- * old leads to nothing new.
+ * old leads to nothing new. The goals of the last rule are finished before it is
+ * applied, so the store joins them.
  */
 
 /* The layout. Places are atoms, numbered from 1, since atom 0 is the empty list. */
@@ -42,7 +44,7 @@ static const struct belt belts[] = {
 enum { BELTS = sizeof belts / sizeof *belts };
 
 /* The rule engine's own numbers. */
-enum { EDITION = TABLES_EDITION_2, REACH = 1 };
+enum { EDITION = TABLES_EDITION_2, REACH = 1, MEET = 2 };
 
 /* A table and its capacities. The engine owns the cells and lends them to every call. */
 struct table {
@@ -54,9 +56,16 @@ struct table {
 /* Begun too small, to show what happens when it is full. */
 static struct table table = {.nodes = 40, .subgoals = 4, .answers = 10};
 
-/* The subgoal reach(P, X, S) of each place P that was called, 0 for the others; and back. */
+/* A term that is called: a functor and at most three arguments, each an atom or a variable. */
+enum { GOAL_CELLS = 4, MOST_SUBGOALS = PLACES };
+
+struct goal {
+    uint32_t cells[GOAL_CELLS];
+};
+
+/* The subgoal reach(P, X, S) of each place P that was called, 0 for the others; and every subgoal's term. */
 static uint32_t subgoal_of[PLACES];
-static enum place place_of[PLACES + 1];
+static struct goal goals[MOST_SUBGOALS + 1];
 static uint32_t subgoals;
 
 static void stop(const char *what, const char *why)
@@ -90,12 +99,10 @@ static void make(struct table *made)
                                          made->answers, EDITION));
 }
 
-/* Calls reach(P, X, S). The store gives no subgoal back: its term is made from the place again. */
-static uint64_t call_place(struct table *called, enum place place)
+/* The store gives no subgoal back: the engine keeps its term to call it again. */
+static uint64_t call_goal(struct table *called, const struct goal *goal)
 {
-    const uint32_t term[] = {TABLES_FUNCTOR_CELL(EDITION, REACH, 3), atom(place),
-                             TABLES_CELL(TABLES_VARIABLE, 0), TABLES_CELL(TABLES_VARIABLE, 1)};
-    return tables_call(called->space, called->cells, term, sizeof term / sizeof *term);
+    return tables_call(called->space, called->cells, goal->cells, GOAL_CELLS);
 }
 
 /* Numbers go in order of entry: entered in the same order, everything keeps its number. */
@@ -126,7 +133,7 @@ static void copy_answer(const struct table *from, struct table *to, uint32_t sub
 /* Copies all answers by their numbers: each one is the next of just one of the subgoals. */
 static void copy_answers(const struct table *from, struct table *to)
 {
-    uint32_t counts[3], due[PLACES + 1];
+    uint32_t counts[3], due[MOST_SUBGOALS + 1];
     checked("tables_counts", tables_counts(from->space, from->cells, counts, 3));
     for (uint32_t subgoal = 1; subgoal <= subgoals; subgoal++)
         due[subgoal] = next_answer(from, subgoal, 0);
@@ -142,10 +149,10 @@ static void copy_answers(const struct table *from, struct table *to)
 static void copy(struct table *from, struct table *to)
 {
     for (uint32_t subgoal = 1; subgoal <= subgoals; subgoal++)
-        must_be_new("tables_call", call_place(to, place_of[subgoal]), subgoal);
+        must_be_new("tables_call", call_goal(to, &goals[subgoal]), subgoal);
     copy_answers(from, to);
     for (uint32_t subgoal = 1; subgoal <= subgoals; subgoal++) {
-        uint64_t word = checked("tables_call", call_place(from, place_of[subgoal]));
+        uint64_t word = checked("tables_call", call_goal(from, &goals[subgoal]));
         if (tables_what(word) == TABLES_OLD_FINISHED)
             checked("tables_finish", tables_finish(to->space, to->cells, subgoal));
     }
@@ -175,18 +182,30 @@ static bool grown(uint64_t word)
 
 /* Calling: the subgoals */
 
-/* Calls reach(P, X, S), and if that is new, the subgoals that its second rule needs. */
-static void call_reach(enum place place)
+/* Calls a goal and keeps the term of a new one. Was it new? The subgoal's number comes with it. */
+static bool call_new(struct goal goal, uint32_t *subgoal)
 {
     uint64_t word;
     do
-        word = call_place(&table, place);
+        word = call_goal(&table, &goal);
     while (grown(word));
-    if (tables_what(checked("tables_call", word)) != TABLES_NEW)
+    *subgoal = tables_value(checked("tables_call", word));
+    if (tables_what(word) != TABLES_NEW)
+        return false;
+    if (*subgoal > MOST_SUBGOALS)
+        stop("tables_call", "there are more subgoals than the rules have");
+    subgoals = *subgoal;
+    goals[subgoals] = goal;
+    return true;
+}
+
+/* Calls reach(P, X, S), and if that is new, the subgoals that its second rule needs. */
+static void call_reach(enum place place)
+{
+    const struct goal goal = {{TABLES_FUNCTOR_CELL(EDITION, REACH, 3), atom(place),
+                               TABLES_CELL(TABLES_VARIABLE, 0), TABLES_CELL(TABLES_VARIABLE, 1)}};
+    if (!call_new(goal, &subgoal_of[place]))
         return;
-    subgoals = tables_value(word);
-    subgoal_of[place] = subgoals;
-    place_of[subgoals] = place;
     for (size_t i = 0; i < BELTS; i++)
         if (belts[i].from == place && !belts[i].closed)
             call_reach(belts[i].to);
@@ -254,6 +273,29 @@ static bool turn(void)
     return any_new;
 }
 
+/*
+ * meet(Y, S, T) by the third rule: the answers (Y, S) and (Y, T) of two finished
+ * subgoals, joined where both have the same Y. All of them enter, or none: when
+ * the table is full, the same join is made again in a larger one.
+ */
+static uint32_t join_meet(enum place one, enum place other)
+{
+    static const uint32_t pairs[] = {0, 0};              /* Y of the first and Y of the second */
+    static const uint32_t copies[] = {0, 0, 0, 1, 1, 1}; /* Y and S of the first, T of the second */
+    const struct goal goal = {{TABLES_FUNCTOR_CELL(EDITION, MEET, 3), TABLES_CELL(TABLES_VARIABLE, 0),
+                               TABLES_CELL(TABLES_VARIABLE, 1), TABLES_CELL(TABLES_VARIABLE, 2)}};
+    uint32_t meet;
+    uint64_t word;
+    call_new(goal, &meet);
+    do
+        word = tables_join(table.space, table.cells, subgoal_of[one], subgoal_of[other], pairs, 2, meet,
+                           copies, 6);
+    while (grown(word));
+    printf("%u answers joined\n", (unsigned)tables_value(checked("tables_join", word)));
+    checked("tables_finish", tables_finish(table.space, table.cells, meet));
+    return meet;
+}
+
 static void finish_all(void)
 {
     for (uint32_t subgoal = 1; subgoal <= subgoals; subgoal++)
@@ -262,25 +304,52 @@ static void finish_all(void)
 
 /* Reading back */
 
-/* Prints an instance of reach(P, Y, [stop, .., Y]): functor, P, Y, then a pair for each stop. */
-static void print_route(const uint32_t *cells, size_t count)
+static const char *place_name(uint32_t cell)
 {
-    printf("  to %s by", place_names[TABLES_PAYLOAD(cells[2])]);
-    for (size_t i = 3; i + 1 < count; i += 2)
-        printf("%s %s", i == 3 ? "" : ",", place_names[TABLES_PAYLOAD(cells[i + 1])]);
+    return place_names[TABLES_PAYLOAD(cell)];
+}
+
+/* Prints a list of stops, a pair for each, and gives the cell behind it. */
+static const uint32_t *print_stops(const uint32_t *cells)
+{
+    for (const char *comma = ""; *cells == TABLES_PAIR_CELL; cells += 2, comma = ",")
+        printf("%s %s", comma, place_name(cells[1]));
+    return cells + 1;
+}
+
+/* An instance of reach(P, Y, S): functor, P, Y, then the list S. */
+static void print_reach(const uint32_t *cells)
+{
+    printf("  to %s by", place_name(cells[2]));
+    print_stops(cells + 3);
     printf("\n");
+}
+
+/* An instance of meet(Y, S, T): functor, Y, then the lists S and T. */
+static void print_meet(const uint32_t *cells)
+{
+    printf("  at %s by", place_name(cells[1]));
+    const uint32_t *second = print_stops(cells + 2);
+    printf(" and by");
+    print_stops(second);
+    printf("\n");
+}
+
+static void print_answers(uint32_t subgoal, void (*print)(const uint32_t *cells))
+{
+    static uint32_t cells[TABLES_INSTANCE_CELLS];
+    uint32_t answer = 0;
+    while ((answer = next_answer(&table, subgoal, answer)) != 0) {
+        checked("tables_instance", tables_instance(table.space, table.cells, answer, cells,
+                                                   TABLES_INSTANCE_CELLS));
+        print(cells);
+    }
 }
 
 static void print_routes(enum place place)
 {
-    static uint32_t cells[TABLES_INSTANCE_CELLS];
     printf("from %s\n", place_names[place]);
-    uint32_t answer = 0;
-    while ((answer = next_answer(&table, subgoal_of[place], answer)) != 0) {
-        uint64_t word =
-            tables_instance(table.space, table.cells, answer, cells, TABLES_INSTANCE_CELLS);
-        print_route(cells, tables_value(checked("tables_instance", word)));
-    }
+    print_answers(subgoal_of[place], print_reach);
 }
 
 static void print_closed(void)
@@ -300,9 +369,12 @@ int main(void)
     while (turn())
         turns++;
     finish_all();
+    uint32_t meet = join_meet(CHECK_IN_1, CHECK_IN_2);
     print_closed();
     print_routes(CHECK_IN_1);
     print_routes(CHECK_IN_2);
+    printf("where bags from both meet\n");
+    print_answers(meet, print_meet);
     checked("tables_counts", tables_counts(table.space, table.cells, counts, 3));
     printf("%d turns; %u nodes, %u subgoals, %u answers\n", turns, (unsigned)counts[0],
            (unsigned)counts[1], (unsigned)counts[2]);
