@@ -282,12 +282,13 @@ static inline uint32_t tables_edition(const uint32_t *space, size_t space_cells)
 enum tables_stack {
     TABLES_STACK_FRESH = 1024,     /* 56 */
     TABLES_STACK_CALL = 92160,     /* 73,000 */
-    TABLES_STACK_ANSWER = 92160,   /* 73,320 */
+    TABLES_STACK_ANSWER = 92160,   /* 73,144 */
     TABLES_STACK_FINISH = 1024,    /* 16 */
     TABLES_STACK_NEXT = 1024,      /* 40 */
     TABLES_STACK_LOAD = 58368,     /* 45,984 */
     TABLES_STACK_INSTANCE = 62464, /* 49,936 */
     TABLES_STACK_COUNTS = 1024,    /* 16 */
+    TABLES_STACK_JOIN = 72704,     /* 57,392 */
     TABLES_STACK_COMPACT = 92160,  /* 73,624 */
     TABLES_STACK_EXPAND = 57344    /* 45,744 */
 };

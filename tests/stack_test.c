@@ -17,7 +17,7 @@
 #include <sys/mman.h>
 #include <ucontext.h>
 
-enum { STACK_BYTES = 1 << 20, UNIT_CELLS = 3, FORM_CELLS = 383, MOST_LEN = 400 };
+enum { STACK_BYTES = 1 << 20, UNIT_CELLS = 3, FORM_CELLS = 383, LONGEST_LISTS = 127, MOST_LEN = 400 };
 
 /* Cells by name; functors in edition 1. */
 #define VAR(name) TABLES_CELL(TABLES_VARIABLE, name)
@@ -32,7 +32,7 @@ enum { STACK_BYTES = 1 << 20, UNIT_CELLS = 3, FORM_CELLS = 383, MOST_LEN = 400 }
 
 /* Exports */
 
-enum export { FRESH, CALL, ANSWER, FINISH, NEXT, LOAD, INSTANCE, COUNTS, COMPACT, EXPAND, EXPORTS };
+enum export { FRESH, CALL, ANSWER, FINISH, NEXT, LOAD, INSTANCE, COUNTS, JOIN, COMPACT, EXPAND, EXPORTS };
 
 static const struct {
     const char *name;
@@ -42,7 +42,8 @@ static const struct {
     {"tables_answer", TABLES_STACK_ANSWER},     {"tables_finish", TABLES_STACK_FINISH},
     {"tables_next", TABLES_STACK_NEXT},         {"tables_load", TABLES_STACK_LOAD},
     {"tables_instance", TABLES_STACK_INSTANCE}, {"tables_counts", TABLES_STACK_COUNTS},
-    {"tables_compact", TABLES_STACK_COMPACT},   {"tables_expand", TABLES_STACK_EXPAND},
+    {"tables_join", TABLES_STACK_JOIN},         {"tables_compact", TABLES_STACK_COMPACT},
+    {"tables_expand", TABLES_STACK_EXPAND},
 };
 
 /* What the next call gets. */
@@ -50,6 +51,9 @@ static uint32_t cells[MOST_LEN];
 static size_t cell_count;
 static uint32_t space[8 + 5 * 2000 + 6 * 4 + 3 * 4];
 static size_t space_cells = sizeof space / sizeof space[0];
+static uint32_t nodes = 2000;
+static const uint32_t pairs[2] = {0, 0}, copies[2] = {0, 0};
+static size_t pair_cells;
 static uint32_t out[TABLES_INSTANCE_CELLS];
 static uint64_t word;
 
@@ -60,7 +64,7 @@ static void make(enum export export)
     size_t room = sizeof out / sizeof out[0];
     switch (export) {
     case FRESH:
-        word = tables_fresh(space, space_cells, 2000, 4, 4, TABLES_EDITION_1);
+        word = tables_fresh(space, space_cells, nodes, 4, 4, TABLES_EDITION_1);
         break;
     case CALL:
         word = tables_call(space, space_cells, cells, cell_count);
@@ -82,6 +86,9 @@ static void make(enum export export)
         break;
     case COUNTS:
         word = tables_counts(space, space_cells, out, room);
+        break;
+    case JOIN:
+        word = tables_join(space, space_cells, 1, 2, pairs, pair_cells, 3, copies, 2);
         break;
     case COMPACT:
         word = tables_compact(in, 4 * cell_count, out_bytes, sizeof out, TABLES_EDITION_1);
@@ -211,6 +218,21 @@ static void nest(size_t lists, bool form)
     snprintf(input_name, sizeof input_name, "%zu lists, one in another", lists);
 }
 
+/* f([[..[a|a]..|a]|a]) of the most lists: 256 cells, the most tokens. */
+static void longest_form(void)
+{
+    cell_count = 0;
+    cells[cell_count++] = F1;
+    for (size_t i = 0; i < LONGEST_LISTS; i++)
+        cells[cell_count++] = BLIST;
+    cells[cell_count++] = A;
+    for (size_t i = 0; i < LONGEST_LISTS; i++) {
+        cells[cell_count++] = EPAIR;
+        cells[cell_count++] = A;
+    }
+    snprintf(input_name, sizeof input_name, "the longest form");
+}
+
 /* Lengths around which the readers take other buffers, and the longest. */
 static const size_t term_lengths[] = {15, 16, 17, 127, 128, 129, 254, 255, 256, 257};
 static const size_t form_lengths[] = {15, 16, 17, 63, 64, 65, 127, 128, 129, 255, 256, 382, 383, 384};
@@ -272,6 +294,44 @@ static void called_p(void)
     subgoal_path();
 }
 
+/* Spaces with two finished subgoals of one variable, 1 and 2, and an open one, 3 */
+
+static uint32_t *subgoal_record(uint32_t number)
+{
+    return space + space[5] + 6 * (number - 1);
+}
+
+static void begin_join(uint32_t room)
+{
+    nodes = room;
+    make(FRESH);
+    nodes = 2000;
+    for (uint32_t name = 1; name <= 3; name++) {
+        uint32_t term[2] = {TABLES_FUNCTOR_CELL(TABLES_EDITION_1, name, 1), VAR(0)};
+        word = tables_call(space, space_cells, term, 2);
+        subgoal_record(name)[3] = name != 3;
+    }
+}
+
+/* An answer of a subgoal with the tokens of a form, behind those that it has. */
+static void source_answer(uint32_t subgoal, const uint32_t *form, size_t form_cells)
+{
+    uint32_t kept[MOST_LEN], number = ++space[3], *record = subgoal_record(subgoal);
+    size_t kept_count = cell_count;
+    memcpy(kept, cells, sizeof kept);
+    memcpy(cells, form, form_cells * sizeof *form);
+    cell_count = form_cells;
+    uint32_t answer[3] = {chain(record[1], number), subgoal, 0};
+    memcpy(space + space[6] + 3 * (number - 1), answer, sizeof answer);
+    if (record[4] == 0)
+        record[4] = number;
+    else
+        space[space[6] + 3 * (record[5] - 1) + 2] = number;
+    record[5] = number;
+    memcpy(cells, kept, sizeof kept);
+    cell_count = kept_count;
+}
+
 /* What is measured */
 
 /* The answer is a term, so that the subgoal's path is read too: a long list in compact form. */
@@ -307,6 +367,24 @@ static void measure_term(void)
     measure(CALL, input_name);
 }
 
+/* Any path as an answer of either source; the pair names it. */
+static void measure_sources(void)
+{
+    static const uint32_t a = A;
+    pair_cells = 2;
+    for (uint32_t longer = 1; longer <= 2; longer++) {
+        begin_join(2000);
+        source_answer(3 - longer, &a, 1);
+        source_answer(longer, cells, cell_count);
+        measure(JOIN, input_name);
+    }
+    begin_join(2000);
+    source_answer(1, cells, cell_count);
+    source_answer(2, cells, cell_count);
+    measure(JOIN, input_name);
+    measure(JOIN, input_name);
+}
+
 static void measure_form(void)
 {
     measure(EXPAND, input_name);
@@ -325,6 +403,44 @@ static void measure_form(void)
     cell_count = kept_count;
     subgoal_path();
     measure(INSTANCE, input_name);
+    measure_sources();
+}
+
+/* The cells are an answer of the first, and the second has two: the join gives the same form twice. */
+static void begin_twice(uint32_t room)
+{
+    static const uint32_t seconds[2] = {A, NIL};
+    begin_join(room);
+    source_answer(1, cells, cell_count);
+    source_answer(2, &seconds[0], 1);
+    source_answer(2, &seconds[1], 1);
+}
+
+/* A join that must give this word. */
+static void measure_join(uint32_t what, uint32_t value)
+{
+    measure(JOIN, input_name);
+    if (word != ((uint64_t)what << 32 | value)) {
+        printf("stack: the join of %s gave %" PRIx64 "\n", input_name, word);
+        exit(1);
+    }
+}
+
+/*
+ * A legal form that a join gives twice, so that the sum over both is above what they need: with room for the sum; with
+ * just enough, which is found by comparing the forms with each other; with a node less; and old forms.
+ */
+static void measure_room(void)
+{
+    pair_cells = 0;
+    begin_twice(2000);
+    uint32_t enough = space[1] + (uint32_t)cell_count;
+    measure_join(TABLES_JOINED, 1);
+    measure_join(TABLES_JOINED, 0);
+    begin_twice(enough);
+    measure_join(TABLES_JOINED, 1);
+    begin_twice(enough - 1);
+    measure_join(TABLES_CALL_REFUSED + TABLES_REFUSED_NO_NODE, 0);
 }
 
 static void measure_all(void)
@@ -344,7 +460,11 @@ static void measure_all(void)
         measure_term();
         nest(lists, true);
         measure_form();
+        measure_room();
     }
+    longest_form();
+    measure_form();
+    measure_room();
     begin_space(1);
     called_p();
     long_answer();
