@@ -4,8 +4,8 @@
 #include <stdio.h>
 #include <string.h>
 
-#if TABLES_VERSION < 10000
-#error "the version is 1.0.0 or later"
+#if TABLES_VERSION < 10100
+#error "the version is 1.1.0 or later"
 #endif
 
 static int checks, failures;
@@ -111,7 +111,7 @@ static void test_words(void)
     check(tables_value(word(TABLES_CELLS, 5)) == 5, "a value");
     check(tables_refused_by(word(TABLES_CELLS, 5)) == 0, "not refused");
     check(tables_need(word(TABLES_CELLS, 12)) == 0, "no need of an accepted call");
-    for (uint32_t refusal = 1; refusal <= 13; refusal++) {
+    for (uint32_t refusal = 1; refusal <= 16; refusal++) {
         uint64_t refused = word(TABLES_CALL_REFUSED + refusal, 9);
         check(tables_refused_by(refused) == refusal, "refused by its number");
         check(tables_value(refused) == 0, "no value of a refused call");

@@ -2,9 +2,10 @@
 import ctypes
 import sys
 
-NEW, OLD, OLD_OPEN, OLD_FINISHED, AT, NONE, CELLS, COUNTS, REFUSED = 1, 2, 3, 4, 5, 6, 7, 8, 256
+NEW, OLD, OLD_OPEN, OLD_FINISHED, AT, NONE, CELLS, COUNTS, JOINED, REFUSED = 1, 2, 3, 4, 5, 6, 7, 8, 10, 256
 EDITION_2 = 2
-F2, X, Y, A, B, PAIR, EMPTY = 0x40000102, 0x10000007, 0x10000009, 0x20000001, 0x20000002, 0x50000000, 0x20000000
+F2, G2, X, Y, A, B = 0x40000102, 0x40000202, 0x10000007, 0x10000009, 0x20000001, 0x20000002
+PAIR, EMPTY = 0x50000000, 0x20000000
 BLIST, ELIST = 0x60000000, 0x70000000
 
 CELL, SIZE, WORD, BYTE = ctypes.c_uint32, ctypes.c_size_t, ctypes.c_uint64, ctypes.c_uint8
@@ -19,13 +20,14 @@ ARGUMENTS = {
     "load": SPACE + [CELL] + SPACE,
     "instance": SPACE + [CELL] + SPACE,
     "counts": SPACE + SPACE,
+    "join": SPACE + [CELL, CELL] + SPACE + [CELL] + SPACE,
     "compact": BYTES + BYTES + [CELL],
     "expand": BYTES + BYTES + [CELL],
 }
 
 
 def exports(path):
-    """The ten exports by their names."""
+    """The eleven exports by their names."""
     library = ctypes.CDLL(path)
     found = {}
     for name, arguments in ARGUMENTS.items():
@@ -80,6 +82,28 @@ def try_table(call):
     said(REFUSED + 8, "answer", 0, 1, *cells([A, A]))
 
 
+def try_join(call):
+    """g(X, Y) from p(X, Z) and p(Z, Y), where p holds (a, b) and (b, a): (a, a) and (b, b)."""
+    space, out = cells([0] * (8 + 5 * 40 + 6 * 2 + 3 * 4)), cells([0] * 2)
+    chain, head = cells([1, 0]), cells([0, 0, 1, 1])
+
+    def said(what, name, value, *arguments):
+        expect(name, divmod(call[name](*space, *arguments), 2**32), (what, value))
+
+    said(0, "fresh", 0, 40, 2, 4, EDITION_2)
+    said(NEW, "call", 1, *cells([F2, X, Y]))
+    said(NEW, "call", 2, *cells([G2, X, Y]))
+    said(NEW, "answer", 1, 1, *cells([A, B]))
+    said(NEW, "answer", 2, 1, *cells([B, A]))
+    said(REFUSED + 14, "join", 0, 1, 1, *chain, 2, *head)
+    said(0, "finish", 0, 1)
+    said(REFUSED + 16, "join", 0, 1, 1, chain[0], 1, 2, *head)
+    said(JOINED, "join", 2, 1, 1, *chain, 2, *head)
+    said(JOINED, "join", 0, 1, 1, *chain, 2, *head)
+    said(CELLS, "load", 2, 4, *out)
+    expect("joined", list(out[0]), [B, B])
+
+
 def try_converters(call):
     """[A, B] to its compact form and back."""
     term, form, out = [PAIR, A, PAIR, B, EMPTY], [BLIST, A, ELIST, B], data([0] * 8)
@@ -94,6 +118,7 @@ def main():
     """Tries all exports."""
     call = exports(sys.argv[1])
     try_table(call)
+    try_join(call)
     try_converters(call)
     print("shared_test: as expected")
 
