@@ -5,14 +5,11 @@ use mathlib.Core.Bool.{Bool, true, false, _&&_}
 use mathlib.Core.List.{List, [], _∷_, _++_, append-assoc, append-nil}
 use native.Mathlib.Omega.{arith}
 use lib.Dec.{eqb}
-use lib.ListN.{length, getD, drop, drop-of-length-le}
 use borrow.Author.Tests.{eq-eqb, ne-eqb, eqb-false}
 use Rattle.basis.specs.Choice.{pick}
 use Rattle.basis.proofs.Cases.{by-cases}
-use Rattle.forms.specs.Cells.{variable, arityOf}
+use Rattle.forms.specs.Cells.{arityOf}
 use Rattle.forms.specs.Compact.{legalForm}
-use Rattle.forms.specs.Numbering.{seen, met}
-use Rattle.forms.proofs.NumberingLaws.{each-met}
 use Rattle.plain.specs.Words.{Word}
 use Rattle.plain.specs.Coding.{codingOf}
 use Rattle.plain.specs.Joins.{ground}
@@ -32,33 +29,6 @@ use Rattle.reads.proofs.ReadsCases.{reads-answer, read-answer-damaged}
 use Rattle.sides.specs.Chains.{free, PathBroken, PathHeld, PathJudged, prepended, chainIn, Onward, AnswerJudged, ChainHeld}
 use Rattle.sides.specs.declared.Judged.{Judged}
 use Rattle.sides.specs.declared.Member.the-variants as member
-use Rattle.sides.proofs.Places.{drop-next}
-
--- ---- whether a form holds a variable
-
-met-other : (c : ℕ) (cs : List ℕ) → variable c ≡ false → met [] (c ∷ cs) ≡ met [] cs
-unfolding met
-met-other c cs v = ap (λ (l : List ℕ). met l cs) (seen-other v)
-  where
-    seen-other : variable c ≡ false → seen [] c ≡ []
-    seen-other v = unfold seen in rw v refl
-
-module _ (w : Word) (i : ℕ) (e : met [] (drop i w) ≡ met [] w) where
-  pub free-ended : length w ≤ i → true ≡ free w
-  unfolding met
-  free-ended l =
-      let f : met [] w ≡ [] = sym e ∙ ap (met []) (drop-of-length-le w {i = i} l) in
-      rw f refl
-
-  module _ (h : i < length w) where
-    pub free-not : variable (getD w i 0) ≡ true → false ≡ free w
-    free-not v =
-        let f : met [] w ≡ met [] (getD w i 0 ∷ drop (i + 1) w) = sym e ∙ ap (met []) (drop-next w i h) in
-        let k = each-met (getD w i 0 ∷ drop (i + 1) w) [] .0 v in
-        sym (ne-eqb (length (met [] w)) 0 (λ z. omega (arith, ap length f)))
-
-    pub free-next : variable (getD w i 0) ≡ false → met [] (drop (i + 1) w) ≡ met [] w
-    free-next v = sym (ap (met []) (drop-next w i h) ∙ met-other _ _ v) ∙ e
 
 -- ---- a path
 

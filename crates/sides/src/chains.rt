@@ -9,7 +9,7 @@ use convert::buffers::TERMS_OF_MOST;
 use convert::buffers::TERMS_OF_SOME;
 use convert::load_terms;
 use forms::Loading;
-use forms::is_variable;
+use parts::is_ground;
 use space::AnswerRead;
 use space::Head;
 use space::Subgoal;
@@ -23,13 +23,9 @@ use trie::paths::long_path;
 use trie::paths::short_path;
 ghost use mathlib.Core.Path.{_≡_};
 ghost use mathlib.Core.Bool.{_&&_};
-ghost use mathlib.Core.List.{[]};
 ghost use Prim.Native.Nat.{_≤_};
-ghost use lib.Dec.{eqb};
-ghost use lib.ListN.{length};
 ghost use Rattle.forms.specs.Cells.{arityOf};
 ghost use Rattle.forms.specs.Compact.{legalForm};
-ghost use Rattle.forms.specs.Numbering.{met};
 ghost use Rattle.convert.specs.Holds.{RoomForTerms};
 ghost use Rattle.trie.specs.Paths.{tokens};
 ghost use Rattle.trie.specs.Runs.{Ends, pathTo};
@@ -43,20 +39,6 @@ fn both(a: bool, b: bool) -> bool
         return b;
     }
     false
-}
-
-// Does the form hold no variable?
-fn is_ground(form: &[u32]) -> bool
-    ensures { λ r. ⌜ r ≡ eqb (length (met [] (now (form .entry)))) 0 ⌝ }
-{
-    let mut i = 0;
-    while i < form.len() {
-        if is_variable(form[i]) {
-            return false;
-        }
-        i += 1;
-    }
-    true
 }
 
 // Is this the form of m legal terms? The buffer is long enough for them.
