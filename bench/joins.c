@@ -1,4 +1,4 @@
-/* Times the exported join against the plain store's, and against an engine's own loops, on the same tables in one run. */
+/* Times the exported join against the plain store's and against an engine's own loops, in one run. */
 #define _POSIX_C_SOURCE 200809L
 
 #include "../include/tables.h"
@@ -80,7 +80,7 @@ static const struct row rows[] = {
 
 enum { ROWS = sizeof rows / sizeof *rows };
 
-/* A table with the answers of both sources, as it is before each join; a copy of it, joined; and the request. */
+/* A table with both sources, as it is before each join; a copy, which is joined; and the request. */
 struct table {
     const struct row *row;
     uint32_t nodes, answers;

@@ -1,4 +1,4 @@
-/* A small engine over the table store: where an airport's belts bring a bag, by which stops, and where bags meet. */
+/* A small engine over the table store: where an airport's belts bring bags, and where they meet. */
 #include "../include/tables.h"
 
 #include <stdbool.h>
@@ -56,15 +56,17 @@ struct table {
 /* Begun too small, to show what happens when it is full. */
 static struct table table = {.nodes = 40, .subgoals = 4, .answers = 10};
 
-/* A term that is called: a functor and at most three arguments, each an atom or a variable. */
+/* A term that is called: a functor and three arguments, each an atom or a variable. */
 enum { GOAL_CELLS = 4, MOST_SUBGOALS = PLACES };
 
 struct goal {
     uint32_t cells[GOAL_CELLS];
 };
 
-/* The subgoal reach(P, X, S) of each place P that was called, 0 for the others; and every subgoal's term. */
+/* The subgoal reach(P, X, S) of each place P that was called, 0 for the others. */
 static uint32_t subgoal_of[PLACES];
+
+/* Every subgoal's term, by number, and how many there are. */
 static struct goal goals[MOST_SUBGOALS + 1];
 static uint32_t subgoals;
 
@@ -182,7 +184,7 @@ static bool grown(uint64_t word)
 
 /* Calling: the subgoals */
 
-/* Calls a goal and keeps the term of a new one. Was it new? The subgoal's number comes with it. */
+/* Calls a goal, keeps its term if it is new, and sets the subgoal's number. Was it new? */
 static bool call_new(struct goal goal, uint32_t *subgoal)
 {
     uint64_t word;
@@ -282,14 +284,15 @@ static uint32_t join_meet(enum place one, enum place other)
 {
     static const uint32_t pairs[] = {0, 0};              /* Y of the first and Y of the second */
     static const uint32_t copies[] = {0, 0, 0, 1, 1, 1}; /* Y and S of the first, T of the second */
-    const struct goal goal = {{TABLES_FUNCTOR_CELL(EDITION, MEET, 3), TABLES_CELL(TABLES_VARIABLE, 0),
-                               TABLES_CELL(TABLES_VARIABLE, 1), TABLES_CELL(TABLES_VARIABLE, 2)}};
+    const struct goal goal = {{TABLES_FUNCTOR_CELL(EDITION, MEET, 3),
+                               TABLES_CELL(TABLES_VARIABLE, 0), TABLES_CELL(TABLES_VARIABLE, 1),
+                               TABLES_CELL(TABLES_VARIABLE, 2)}};
     uint32_t meet;
     uint64_t word;
     call_new(goal, &meet);
     do
-        word = tables_join(table.space, table.cells, subgoal_of[one], subgoal_of[other], pairs, 2, meet,
-                           copies, 6);
+        word = tables_join(table.space, table.cells, subgoal_of[one], subgoal_of[other], pairs, 2,
+                           meet, copies, 6);
     while (grown(word));
     printf("%u answers joined\n", (unsigned)tables_value(checked("tables_join", word)));
     checked("tables_finish", tables_finish(table.space, table.cells, meet));
