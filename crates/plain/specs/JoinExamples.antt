@@ -19,6 +19,9 @@ use Rattle.plain.specs.Examples.{var, atom, int, fun, count}
 abbrev replies : Table → List Request → List Reply
 replies t qs = map (λ s. s .reply) (tableTrace (codingOf 1) t qs)
 
+abbrev outs : Table → List Request → List (List ℕ)
+outs t qs = map (λ s. s .out) (tableTrace (codingOf 1) t qs)
+
 -- p(X,Y) with the answers (a,b) and (a,c); q(X,Y) with (b,d), (c,d) and (b,e); r(X,Y) is to be their join
 abbrev pub sources : List Request
 sources =
@@ -53,6 +56,9 @@ Joined =
     -- first = second: each answer of q with those of q that have its second term; copied are both first terms
     × (replies (fresh 40 3 9) (sources ++ ends ++ (join 2 2 (1 ∷ 1 ∷ []) 3 (0 ∷ 0 ∷ 1 ∷ 0 ∷ []) ∷ counts ∷ []))
     ≡ sourceReplies ++ (done ∷ done ∷ joined 4 ∷ used (count 27 3 9) ∷ []))
+    -- its answers in order of the first, then of the second
+    × (outs (fresh 40 3 9) (sources ++ ends ++ (join 2 2 (1 ∷ 1 ∷ []) 3 (0 ∷ 0 ∷ 1 ∷ 0 ∷ []) ∷ map (λ a. load a (0 ∷ 0 ∷ [])) (6 ∷ 7 ∷ 8 ∷ 9 ∷ [])))
+    ≡ replicate 11 [] ++ ((atom 2 ∷ atom 2 ∷ []) ∷ (atom 2 ∷ atom 3 ∷ []) ∷ (atom 3 ∷ atom 2 ∷ []) ∷ (atom 3 ∷ atom 3 ∷ []) ∷ []))
     -- a ground target: the empty answer, once
     × (replies (fresh 40 4 9) (sources ++ ends ++ (call (fun 4 1 ∷ atom 1 ∷ []) ∷ join 1 2 (1 ∷ 0 ∷ []) 4 [] ∷ join 1 2 (0 ∷ 0 ∷ []) 4 [] ∷ join 1 2 [] 4 [] ∷ []))
     ≡ sourceReplies ++ (done ∷ done ∷ new 4 ∷ joined 1 ∷ joined 0 ∷ joined 0 ∷ []))
@@ -112,4 +118,4 @@ Long =
 
 pub join-examples : Joined × Refused × Long
 unfolding trace step counted called answered fits appended writes sideOf joining table.given table.entered table.starting table.onward table.after table.following nodes answerNodes answersTo number subgoalOf answerOf subgoalAt answerAt noSubgoal noAnswer distinct prefixes union add has allInits inits pairsNamed copiesNamed named matching copied along combined before allRead ground joinOf judged handedOn reading callable predicate compacted compactForm areTerms pairForm formTerms front symbolic tokenOf items entered filled lastOf tailOf into inside collected whole reads begun applied paired shapeOf arityOf every compact elements pairs numbered renamed met seen rank same
-join-examples = ((refl, refl, refl, refl), (refl, refl, refl, refl, refl, refl), refl)
+join-examples = ((refl, refl, refl, refl, refl), (refl, refl, refl, refl, refl, refl), refl)
