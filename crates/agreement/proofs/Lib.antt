@@ -22,5 +22,6 @@ pub mod Following
 pub mod Untouched
 pub mod Theorem
 pub mod Frame
+pub mod Order
 pub mod Hollow
 pub mod Histories

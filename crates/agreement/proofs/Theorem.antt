@@ -15,7 +15,7 @@ use Rattle.plain.specs.Examples.{examples}
 use Rattle.plain.proofs.CompactCoding.{compact-laws}
 use Rattle.space.specs.Layout.{Sizes, sizesOf}
 use Rattle.space.specs.Heading.{headerOf, spaceHeader}
-use Rattle.space.specs.Fresh.{freshAnswer, freshAnswerIn, freshSpaceIn}
+use Rattle.space.specs.Fresh.{freshAnswer, freshSpace, freshAnswerIn, freshSpaceIn}
 use Rattle.space.specs.declared.Head.{Head}
 use Rattle.space.specs.declared.Header.the-variants as header
 use Rattle.space.specs.declared.FreshAnswer.the-variants.{Done, Refused}
@@ -31,7 +31,7 @@ use Rattle.agreement.proofs.CallLists as lists
 use Rattle.agreement.proofs.Following as calls
 use Rattle.agreement.proofs.Untouched as refusals
 
-cells-hold : (z : Sizes) → Wide z → Cells z
+pub cells-hold : (z : Sizes) → Wide z → Cells z
 cells-hold z w = record {
   cells-change = cells.cells-change z w;
   cells-counts = cells.cells-counts z;
@@ -51,17 +51,22 @@ module _ (e : ℕ) (known : knownEdition e ≡ true) where
       let i : getD cs 0 0 ≡ e = r .headed .edition in
       (rw (i, known) s, ap (λ (k : Head). k .edition) (r .is) ∙ i)
 
-  deciding : lists.Deciding (sizesOf e) (codingOf e) spaceStep
+  pub deciding : lists.Deciding (sizesOf e) (codingOf e) spaceStep
   unfolding spaceStep underAny under
   deciding cs h q s = let k = header-any cs h s in rw (k .0, k .1)
 
-pub promise : Promise
+-- fresh takes the editions that there are, and lays the space out by them
+pub fresh-in : (e n f a : ℕ) (s : List ℕ) → freshAnswerIn e n f a s ≡ Done
+    → (knownEdition e ≡ true) × (freshAnswer (sizesOf e) n f a s ≡ Done) × (freshSpaceIn e n f a s ≡ freshSpace (sizesOf e) n f a s)
 unfolding freshAnswerIn freshSpaceIn
-promise e n f a s qs d = by-cases (knownEdition e)
-    (λ k.
-    let done : freshAnswer (sizesOf e) n f a s ≡ Done = rw k at d in
-    rw k (lists.agreement (sizesOf e) (codingOf e) (cells-hold (sizesOf e) (cells.sizes-wide e)) (compact-laws (arityOf e)) spaceStep (deciding e k) n f a s qs done))
+fresh-in e n f a s d = by-cases (knownEdition e)
+    (λ k. (k, rw k at d, rw k))
     (λ k. let r : Refused 2 ≡ Done = rw k at d in let x : _≡_ {A = ℕ} 0 1 = cc in absurd (omega arith))
+
+pub promise : Promise
+promise e n f a s qs d =
+    let k = fresh-in e n f a s d in
+    rw (k .2) (lists.agreement (sizesOf e) (codingOf e) (cells-hold (sizesOf e) (cells.sizes-wide e)) (compact-laws (arityOf e)) spaceStep (deciding e (k .0)) n f a s qs (k .1))
 
 -- of one edition
 pub promise-of : (e : ℕ) → Agreement (sizesOf e) (codingOf e)

@@ -19,5 +19,8 @@ pub mod Soundness
 pub mod StoredForms
 pub mod JoinRefusals
 pub mod NextLaws
+pub mod Renumbering
+pub mod Exchanges
+pub mod OrderRuledOut
 pub mod Theorems
 pub mod InstanceMeaning

@@ -5,7 +5,9 @@ pub mod Requests
 pub mod Joins
 pub mod Table
 pub mod Consequences
+pub mod Order
 pub mod Examples
 pub mod InstanceMeaning
 pub mod InstanceExamples
 pub mod JoinExamples
+pub mod OrderExamples
