@@ -261,7 +261,8 @@ static inline uint32_t tables_edition(const uint32_t *space, size_t space_cells)
  *
  * Threads: there is no state beside the space. Calls on different spaces may
  * run at once. Calls that only read (the space is const: tables_next,
- * tables_load, tables_instance, tables_counts) may run at once on one space.
+ * tables_load, tables_instance, tables_counts, tables_check) may run at once on one
+ * space.
  * While a call that writes (tables_fresh, tables_call, tables_answer,
  * tables_finish, tables_join) runs, no other call on the same space may run: the caller
  * serialises them.
@@ -312,8 +313,14 @@ enum tables_stack {
  * true end; a sibling that has become 0 hides the entries behind it, which then
  * enter as new a second time; another atom in a token is another answer; a state
  * that has become 1 is a finished subgoal; a lower count in the header gives the
- * last records to the next entries. A caller who must know that a space is the
- * one that was stored keeps a checksum of its cells beside it.
+ * last records to the next entries.
+ *
+ * tables_check reads every record: a space that it finds whole holds a table, and
+ * from then on every call answers as that table does and is never refused by 1 or
+ * 9. So a space that was stored is checked once when it comes back. Another atom
+ * in a token, or a state that has become 1, makes another table, which is whole
+ * too: a caller who must know that a space is the one that was stored keeps a
+ * checksum of its cells beside it.
  */
 
 /*
@@ -339,7 +346,8 @@ enum tables_outcome {
     TABLES_CELLS = 7,         /* the number of cells written to out */
     TABLES_COUNTS = 8,        /* 3, the number of cells written to out */
     TABLES_JOINED = 10,       /* how many answers are new */
-    TABLES_CALL_REFUSED = 256 /* plus the refusal's number; no value, but see tables_need */
+    TABLES_CALL_REFUSED = 256 /* plus the refusal's number; no value, but see tables_need
+                                 and tables_broken_kind */
 };
 
 static inline uint32_t tables_what(uint64_t word)
@@ -363,6 +371,26 @@ static inline uint32_t tables_value(uint64_t word)
 static inline uint32_t tables_need(uint64_t word)
 {
     return tables_refused_by(word) == TABLES_REFUSED_OUT ? (uint32_t)word : 0;
+}
+
+/*
+ * Which record tables_check found broken: its kind, and its number. Both are 0
+ * of a word that names none: of every other call's.
+ */
+enum tables_broken {
+    TABLES_BROKEN_NODE = 1, /* numbered from 0 */
+    TABLES_BROKEN_SUBGOAL = 2,
+    TABLES_BROKEN_ANSWER = 3
+};
+
+static inline uint32_t tables_broken_kind(uint64_t word)
+{
+    return tables_refused_by(word) == TABLES_REFUSED_DAMAGED ? TABLES_KIND(word) : 0;
+}
+
+static inline uint32_t tables_broken_number(uint64_t word)
+{
+    return tables_refused_by(word) == TABLES_REFUSED_DAMAGED ? TABLES_PAYLOAD(word) : 0;
 }
 
 /*
@@ -467,6 +495,21 @@ TABLES_MUST_CHECK
 uint64_t tables_join(uint32_t *space, size_t space_cells, uint32_t first, uint32_t second,
                      const uint32_t *pairs, size_t pairs_cells, uint32_t target,
                      const uint32_t *copies, size_t copies_cells);
+
+/*
+ * Checks the whole space, whoever wrote it: whether its records are those of some
+ * table. TABLES_DONE: they are, and every call on the space answers as that table
+ * does. Refused by 1, or by 9 with the record that is broken, which
+ * tables_broken_kind and tables_broken_number tell: the first of the nodes, then
+ * of the subgoals, then of the answers that is wrong by itself; where none is,
+ * the first answer that is missing on its subgoal's chain.
+ *
+ * Each record is read once, and for each node its siblings before it: the time
+ * grows with the square of the children of one node. Where an answer is missing,
+ * each answer before it is looked for on its chain too.
+ */
+TABLES_MUST_CHECK
+uint64_t tables_check(const uint32_t *space, size_t space_cells);
 
 /*
  * The two converters

@@ -120,6 +120,11 @@ static void test_words(void)
               "a converter's refusal");
         check(tables_converter_cells(TABLES_CONVERTER_REFUSED + refusal) == 0, "no cells");
     }
+    uint64_t broken = word(TABLES_CALL_REFUSED + TABLES_REFUSED_DAMAGED, 0x20100000);
+    check(tables_broken_kind(broken) == TABLES_BROKEN_SUBGOAL, "the kind of a broken record");
+    check(tables_broken_number(broken) == 0x100000, "its number");
+    check(tables_broken_kind(word(TABLES_CALL_REFUSED + 12, 0x20000001)) == 0, "no broken record");
+    check(tables_broken_number(word(TABLES_CELLS, 5)) == 0, "no number");
     check(tables_converter_refused_by(383) == 0, "a converter not refused");
     check(tables_converter_cells(383) == 383, "a converter's cells");
 }

@@ -21,13 +21,14 @@ ARGUMENTS = {
     "instance": SPACE + [CELL] + SPACE,
     "counts": SPACE + SPACE,
     "join": SPACE + [CELL, CELL] + SPACE + [CELL] + SPACE,
+    "check": SPACE,
     "compact": BYTES + BYTES + [CELL],
     "expand": BYTES + BYTES + [CELL],
 }
 
 
 def exports(path):
-    """The eleven exports by their names."""
+    """The twelve exports by their names."""
     library = ctypes.CDLL(path)
     found = {}
     for name, arguments in ARGUMENTS.items():
@@ -77,9 +78,16 @@ def try_table(call):
     said(REFUSED + 12, "instance", 5, 1, out[0], 4)
     said(COUNTS, "counts", 3, *out)
     expect("counts", list(out[0][:3]), [9, 1, 1])
+    said(0, "check", 0)
     said(0, "finish", 0, 1)
     said(OLD_FINISHED, "call", 1, *cells([F2, X, Y]))
     said(REFUSED + 8, "answer", 0, 1, *cells([A, A]))
+    said(NEW, "call", 2, *cells([F2, X, X]))
+    said(JOINED, "join", 1, 1, 1, *cells([0, 0]), 2, *cells([1, 0]))
+    said(JOINED, "join", 0, 1, 1, *cells([0, 0]), 2, *cells([1, 0]))
+    said(CELLS, "load", 1, 2, *out)
+    expect("joined", out[0][0], A)
+    said(0, "check", 0)
 
 
 def try_join(call):

@@ -10,7 +10,7 @@ use borrow.Author.Tests.{eqb-true, eqb-false, eq-eqb, ne-eqb, ltb-true, leb-true
 use Rattle.basis.specs.Choice.{pick}
 use Rattle.basis.proofs.Cases.{by-cases}
 use Rattle.forms.specs.Compact.{same}
-use Rattle.plain.specs.Words.{Word, prefixes}
+use Rattle.plain.specs.Words.{Word}
 use Rattle.plain.specs.Coding.{Coding}
 use Rattle.plain.specs.CodingLaws.{CodingLaws}
 use Rattle.plain.specs.Requests.{finish, next, load, instance, counts, Reply, at, used, refused, Result}
@@ -91,8 +91,8 @@ module _ (c : Coding) (t : Table) (v : View) (S : Same c t v) (s : ℕ) (low : 0
   last-finished i first last (no-last p q) = no-last p q
   last-finished i first last (some-last p q u z) = some-last p q u z
 
-  subgoal-finished : (i : ℕ) (g : Subgoal) (x : ℕ) → SubgoalSame t (prefixes (S .es)) (v .nodes) i g → x ≡ stateCell (subgoalAt ended i .state)
-      → SubgoalSame ended (prefixes (S .es)) (v .nodes) i (withState g x)
+  subgoal-finished : (i : ℕ) (g : Subgoal) (x : ℕ) → SubgoalSame t (S .K) (v .nodes) i g → x ≡ stateCell (subgoalAt ended i .state)
+      → SubgoalSame ended (S .K) (v .nodes) i (withState g x)
   unfolding answerAt
   subgoal-finished i g x o e =
       let l = subgoalAt-lasts t s i low high in
@@ -101,6 +101,7 @@ module _ (c : Coding) (t : Table) (v : View) (S : Same c t v) (s : ℕ) (low : 0
         leaf-key = o .leaf-key ∙ ap (λ (w : Word). 0 ∷ w) (sym (l .form));
         root-in = o .root-in;
         root-key = o .root-key;
+        root-next = o .root-next;
         variables = o .variables ∙ sym (l .m);
         state = e;
         first = o .first;
@@ -112,6 +113,8 @@ module _ (c : Coding) (t : Table) (v : View) (S : Same c t v) (s : ℕ) (low : 0
   same-finished = record {
     es = S .es;
     forest = forest-finish t (S .es) s (S .forest) low;
+    K = S .K;
+    numbering = S .numbering;
     tries = S .tries;
     links = λ i h. S .links i h ∙ linkOf-finished _;
     origin = S .origin;

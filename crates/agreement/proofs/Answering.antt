@@ -5,7 +5,7 @@ use mathlib.Core.List.{List, [], _∷_, _++_, append-nil}
 use Prim.Native.Nat.{ℕ, suc, _+_, _-_, _≤_, _<_}
 use native.Mathlib.Omega.{arith}
 use lib.Dec.{eqb, leb, ltb}
-use lib.ListN.{length, drop}
+use lib.ListN.{length, drop, List·getD-append}
 use borrow.Author.Tests.{eqb-true, eqb-false, eq-eqb, ne-eqb, ltb-true, ltb-false, leb-true}
 use Rattle.basis.specs.Choice.{pick}
 use Rattle.basis.proofs.Cases.{by-cases}
@@ -17,7 +17,7 @@ use Rattle.plain.specs.Table as table
 use Rattle.plain.specs.Table.{Table, subgoalAt, answerAt, subgoalOfAnswer, answersTo, nodes, answerOf, after, withAnswer, becomes, appended, step}
 use Rattle.plain.proofs.PrefixLaws.{begins, longer, shared, begins-witness}
 use Rattle.plain.proofs.Entries.{prefixes-under, trie-root, trie-has, trie-lacks}
-use Rattle.plain.proofs.Keys.{key, key-kept, place-has, prefixes-different}
+use Rattle.plain.proofs.Keys.{key, place-has}
 use Rattle.plain.proofs.AfterLaws.{after-old, after-new, after-other, after-low, after-cong, after-least}
 use Rattle.plain.proofs.NumberLaws.{answerOf-none, answerOf-some}
 use Rattle.plain.proofs.RecordLaws.{answerAt-before, answerAt-new, answers-count}
@@ -38,7 +38,8 @@ use Rattle.store.specs.Calls.{reply, outAfter}
 use Rattle.agreement.specs.Records.{withNext, withNewAnswer, changedView, answer-fits, empty-fits}
 use Rattle.agreement.proofs.TrieNodes.{Tries, tries-linked, Stop, stop-inside}
 use Rattle.agreement.proofs.TrieWalks.{Walked, ends, stops}
-use Rattle.agreement.proofs.TrieLinks.{linking, linking-linked, Links, links-linking, leaf-key, tries-leaf, links-leaf}
+use Rattle.agreement.proofs.Numberings.{Numbering, numbering-kept, shared-members}
+use Rattle.agreement.proofs.TrieLinks.{linking, linking-linked, Links, links-linking, numbering-leaf, leaf-key, tries-leaf, links-leaf}
 use Rattle.agreement.proofs.SameRecords.{later, LastSame, no-last, some-last, later-some, last-most, SubgoalSame, AnswerSame, Same, different, link-none, link-answered, walked-answer, answer-root-judged, subgoal-judged, subgoal-state, answer-judged, last-judged}
 use Rattle.agreement.proofs.Agreeing.{Agrees, agrees-says, agrees-known, agrees-pick}
 
@@ -105,15 +106,16 @@ module _ (c : Coding) (t : Table) (v : View) (S : Same c t v) (s : ℕ) (low : 0
 
   -- ---- the records
 
-  module _ (nd : ℕ → Node) (n leaf : ℕ) (bigger : v .nodes ≤ n) (inside : leaf < n) (form-key : key (prefixes more) leaf ≡ s ∷ w) where
+  -- the keys with those of the path: L is empty for the empty answer
+  module _ (L : List Word) (num : Numbering (S .es ++ ((s ∷ w) ∷ [])) (S .K ++ L)) (nd : ℕ → Node) (n leaf : ℕ) (bigger : v .nodes ≤ n) (inside : leaf < n) (form-key : key (S .K ++ L) leaf ≡ s ∷ w) where
     abbrev K : List Word
-    K = prefixes more
+    K = S .K ++ L
 
     abbrev grown : View
     grown = withNewAnswer v nd n s leaf
 
-    key-before : (j : ℕ) → j < v .nodes → key K j ≡ key (prefixes (S .es)) j
-    key-before j h = key-kept (S .es) (s ∷ w) j (omega (arith, S .tries .keys))
+    key-before : (j : ℕ) → j < v .nodes → key K j ≡ key (S .K) j
+    key-before j h = List·getD-append (S .K) L [] j (omega (arith, S .tries .keys))
 
     record-new : grown .answer (v .answers + 1) ≡ record { leaf = leaf; subgoal = s; next = 0 }
     record-new = rw (eq-eqb (v .answers + 1) (v .answers + 1) refl)
@@ -133,7 +135,7 @@ module _ (c : Coding) (t : Table) (v : View) (S : Same c t v) (s : ℕ) (low : 0
     }
 
     -- an old answer, with what follows it now
-    answer-kept : (b : ℕ) (y : Answer) (f : ℕ) → b ≤ total → AnswerSame t (prefixes (S .es)) (v .nodes) b y → f ≡ later fuller b (subgoalOfAnswer t b) → AnswerSame fuller K n b (withNext y f)
+    answer-kept : (b : ℕ) (y : Answer) (f : ℕ) → b ≤ total → AnswerSame t (S .K) (v .nodes) b y → f ≡ later fuller b (subgoalOfAnswer t b) → AnswerSame fuller K n b (withNext y f)
     answer-kept b y f k o e =
         let own = own-before b (omega arith) in
         record {
@@ -178,7 +180,7 @@ module _ (c : Coding) (t : Table) (v : View) (S : Same c t v) (s : ℕ) (low : 0
     last-new first = rw next-number (some-last (omega arith) (omega (arith, total-more)) own-new (later-last s))
 
     -- a subgoal, with its first and last answers as they are now
-    subgoal-kept : (b : ℕ) (y : Subgoal) (first last : ℕ) → SubgoalSame t (prefixes (S .es)) (v .nodes) b y → first ≡ later fuller 0 b → LastSame fuller b first last
+    subgoal-kept : (b : ℕ) (y : Subgoal) (first last : ℕ) → SubgoalSame t (S .K) (v .nodes) b y → first ≡ later fuller 0 b → LastSame fuller b first last
         → SubgoalSame fuller K n b (record { leaf = y .leaf; root = y .root; variables = y .variables; state = y .state; first = first; last = last })
     unfolding subgoalAt
     subgoal-kept b y first last o f l = record {
@@ -186,6 +188,7 @@ module _ (c : Coding) (t : Table) (v : View) (S : Same c t v) (s : ℕ) (low : 0
       leaf-key = key-before (y .leaf) (o .leaf-in) ∙ o .leaf-key;
       root-in = omega (arith, o .root-in);
       root-key = key-before (y .root) (o .root-in) ∙ o .root-key;
+      root-next = o .root-next;
       variables = o .variables;
       state = o .state;
       first = f;
@@ -200,11 +203,13 @@ module _ (c : Coding) (t : Table) (v : View) (S : Same c t v) (s : ℕ) (low : 0
         (λ e. let o = S .subgoal b h k in
         rw e (subgoal-kept b (v .subgoal b) (v .subgoal b .first) (v .subgoal b .last) o (o .first ∙ sym (later-other 0 b (eqb-false b s e))) (last-kept b _ _ (eqb-false b s e) (o .last))))
 
-    same-answered : AnswerEnters c t s w → Tries (prefixes more) (linking nd leaf (v .answers + 1)) n → Links (prefixes more) (linking nd leaf (v .answers + 1)) n (linkOf fuller)
+    same-answered : AnswerEnters c t s w → Tries K (linking nd leaf (v .answers + 1)) n → Links K (linking nd leaf (v .answers + 1)) n (linkOf fuller)
         → Same c fuller (withNewAnswer v nd n s leaf)
     same-answered e tries links = record {
       es = more;
       forest = forest-answer t (S .es) s w (S .forest) low high;
+      K = K;
+      numbering = num;
       tries = tries;
       links = links;
       origin = key-before 0 (S .some) ∙ S .origin;
@@ -229,7 +234,7 @@ module _ (c : Coding) (laws : CodingLaws c) (t : Table) (v : View) (S : Same c t
   last-in = rw (S .answers) (last-most t s _ _ (S .subgoal s low high .last))
 
   -- the form is there
-  answered-old : (w : Word) (m j : ℕ) → j < v .nodes → key (prefixes (S .es)) j ≡ s ∷ w → has (answersTo (t .answers) s) w ≡ true
+  answered-old : (w : Word) (m j : ℕ) → j < v .nodes → key (S .K) j ≡ s ∷ w → has (answersTo (t .answers) s) w ≡ true
       → Agrees c v [] (table.answered t s (accepted w m)) (answeredAt v s w (whole j))
   unfolding table.answered answeredAt answeredOld
   answered-old w m j h k e =
@@ -242,11 +247,11 @@ module _ (c : Coding) (laws : CodingLaws c) (t : Table) (v : View) (S : Same c t
       (agrees-says c t v S [] (oldAnswer b))
 
   -- a form that the walk finds whole is there, unless it is empty
-  pub answered-held : (a : ℕ) (w : Word) (m : ℕ) (ks : List ℕ) → c .answered (subgoalAt t s .m) ks ≡ accepted (a ∷ w) m → (j : ℕ) → j < v .nodes → key (prefixes (S .es)) j ≡ s ∷ a ∷ w
+  pub answered-held : (a : ℕ) (w : Word) (m : ℕ) (ks : List ℕ) → c .answered (subgoalAt t s .m) ks ≡ accepted (a ∷ w) m → (j : ℕ) → j < v .nodes → key (S .K) j ≡ s ∷ a ∷ w
       → has (answersTo (t .answers) s) (a ∷ w) ≡ true
   answered-held a w m ks e j h k =
       let begun : begins (answersTo (t .answers) s) (a ∷ w) ≡ true =
-      sym (trie-has (S .es) (answersTo (t .answers) s) s (S .forest .replies s low high) a w) ∙ place-has (prefixes (S .es)) (s ∷ a ∷ w) j (omega (arith, S .tries .keys)) k in
+      sym (trie-has (S .es) (answersTo (t .answers) s) s (S .forest .replies s low high) a w) ∙ sym (S .numbering .members (s ∷ a ∷ w)) ∙ place-has (S .K) (s ∷ a ∷ w) j (omega (arith, S .tries .keys)) k in
       let b = begins-witness (answersTo (t .answers) s) (a ∷ w) begun in
       let held = held-answer c laws t (S .sound) s (b .0) (b .1) in
       let eq : a ∷ w ≡ b .0 = answered-starts c laws (subgoalAt t s .m) ks (held .0) (a ∷ w) (b .0) m (held .1) e (held .2) (b .2) in
@@ -272,7 +277,7 @@ module _ (c : Coding) (laws : CodingLaws c) (t : Table) (v : View) (S : Same c t
   keys-empty = prefixes-under (S .es) s [] there ∙ append-nil (prefixes (S .es))
 
   nodes-empty : nodes (withAnswer t s []) ≡ v .nodes + 0
-  nodes-empty = sym (nodes-answer t (S .es) s [] (S .forest) low high) ∙ ap length keys-empty ∙ S .tries .keys ∙ omega arith
+  nodes-empty = sym (nodes-answer t (S .es) s [] (S .forest) low high) ∙ ap length keys-empty ∙ sym (S .numbering .count) ∙ S .tries .keys ∙ omega arith
 
   module _ (e : AnswerEnters c t s []) where
     abbrev root : ℕ
@@ -281,10 +286,12 @@ module _ (c : Coding) (laws : CodingLaws c) (t : Table) (v : View) (S : Same c t
     same-empty : Same c (withAnswer t s []) (withNewAnswer v (v .node) (v .nodes) s root)
     same-empty =
         let o = S .subgoal s low high in
-        same-answered c t v S s low high [] (v .node) (v .nodes) root (omega arith) (o .root-in) (rw keys-empty (o .root-key)) e
-        (rw keys-empty (tries-linked (prefixes (S .es)) (v .node) _ (v .nodes) (S .tries) (linking-linked (v .node) (v .nodes) root (v .answers + 1))))
-        (rw keys-empty (λ i b. links-linking (prefixes (S .es)) (v .node) (v .nodes) (linkOf t) root (v .answers + 1) (S .tries .keys) (prefixes-different (S .es)) (o .root-in) (S .links) i b
-        ∙ rw (o .root-key, next-number c t v S s low high []) (sym (linkOf-answer t s [] (key (prefixes (S .es)) i) low (e .absent)))))
+        let none : S .K ++ [] ≡ S .K = append-nil (S .K) in
+        same-answered c t v S s low high [] [] (rw none (numbering-kept (S .es) (S .es ++ ((s ∷ []) ∷ [])) (S .K) (S .numbering) keys-empty))
+        (v .node) (v .nodes) root (omega arith) (o .root-in) (rw none (o .root-key)) e
+        (rw none (tries-linked (S .K) (v .node) _ (v .nodes) (S .tries) (linking-linked (v .node) (v .nodes) root (v .answers + 1))))
+        (rw none (λ i b. links-linking (S .K) (v .node) (v .nodes) (linkOf t) root (v .answers + 1) (S .tries .keys) (S .numbering .different) (o .root-in) (S .links) i b
+        ∙ rw (o .root-key, next-number c t v S s low high []) (sym (linkOf-answer t s [] (key (S .K) i) low (e .absent)))))
 
     empty-entered : Agrees c v [] (becomes (withAnswer t s []) (new (suc (length (t .answers))))) (entersEmpty s)
     unfolding reply outAfter changedView
@@ -295,13 +302,13 @@ module _ (c : Coding) (laws : CodingLaws c) (t : Table) (v : View) (S : Same c t
       same = same-empty;
     }
 
-  answered-empty : (m : ℕ) (ks : List ℕ) → c .answered (subgoalAt t s .m) ks ≡ accepted [] m → (j : ℕ) → j < v .nodes → key (prefixes (S .es)) j ≡ s ∷ [] → has (answersTo (t .answers) s) [] ≡ false
+  answered-empty : (m : ℕ) (ks : List ℕ) → c .answered (subgoalAt t s .m) ks ≡ accepted [] m → (j : ℕ) → j < v .nodes → key (S .K) j ≡ s ∷ [] → has (answersTo (t .answers) s) [] ≡ false
       → Agrees c v [] (table.answered t s (accepted [] m)) (answeredAt v s [] (whole j))
   unfolding answeredAt answeredOld
   answered-empty m ks e j h k absent =
       rw (link-answered c laws t v S s low j [] h k, answerOf-none t s [] absent) (appended-agrees [] m ks e absent 0 (entersEmpty s) nodes-empty empty-entered)
 
-  answered-whole : (w : Word) (m : ℕ) (ks : List ℕ) → c .answered (subgoalAt t s .m) ks ≡ accepted w m → (j : ℕ) → j < v .nodes → key (prefixes (S .es)) j ≡ s ∷ w
+  answered-whole : (w : Word) (m : ℕ) (ks : List ℕ) → c .answered (subgoalAt t s .m) ks ≡ accepted w m → (j : ℕ) → j < v .nodes → key (S .K) j ≡ s ∷ w
       → Agrees c v [] (table.answered t s (accepted w m)) (answeredAt v s w (whole j))
   answered-whole [] m ks e j h k = by-cases (has (answersTo (t .answers) s) [])
       (λ z. answered-old [] m j h k z)
@@ -311,19 +318,25 @@ module _ (c : Coding) (laws : CodingLaws c) (t : Table) (v : View) (S : Same c t
   -- ---- a path more, where the walk stopped
 
   module _ (w : Word) (q l a : ℕ) (u : Word) (inside : q < v .nodes) (st : Stop (v .node) (v .nodes) q l)
-      (path : key (prefixes (S .es)) q ++ (a ∷ u) ≡ s ∷ w)
-      (rest : longer (key (prefixes (S .es)) q) (a ∷ u) ≡ drop (shared (prefixes (S .es)) (key (prefixes (S .es)) (v .subgoal s .root)) w) (longer (key (prefixes (S .es)) (v .subgoal s .root)) w)) where
+      (path : key (S .K) q ++ (a ∷ u) ≡ s ∷ w)
+      (rest : longer (key (S .K) q) (a ∷ u) ≡ drop (shared (S .K) (key (S .K) (v .subgoal s .root)) w) (longer (key (S .K) (v .subgoal s .root)) w)) where
     abbrev last : ℕ
     last = v .nodes + length (a ∷ u) - 1
 
-    root-key : key (prefixes (S .es)) (v .subgoal s .root) ≡ s ∷ []
+    root-key : key (S .K) (v .subgoal s .root) ≡ s ∷ []
     root-key = S .subgoal s low high .root-key
 
-    tries-more : Tries (prefixes (S .es ++ ((s ∷ w) ∷ []))) (linking (withPath (v .node) (v .nodes) q l (a ∷ u)) last (v .answers + 1)) (v .nodes + length (a ∷ u))
-    tries-more = tries-leaf (S .es) (v .node) (v .nodes) s (v .subgoal s .root) q l a u w (S .tries) there root-key inside st path rest (v .answers + 1)
+    abbrev L : List Word
+    L = longer (key (S .K) q) (a ∷ u)
+
+    numbering-new : Numbering (S .es ++ ((s ∷ w) ∷ [])) (S .K ++ L)
+    numbering-new = numbering-leaf (S .es) (S .K) (S .numbering) (v .node) (v .nodes) s (v .subgoal s .root) q l a u w (S .tries) there root-key inside st path rest
+
+    tries-more : Tries (S .K ++ L) (linking (withPath (v .node) (v .nodes) q l (a ∷ u)) last (v .answers + 1)) (v .nodes + length (a ∷ u))
+    tries-more = tries-leaf (S .es) (S .K) (S .numbering) (v .node) (v .nodes) s (v .subgoal s .root) q l a u w (S .tries) there root-key inside st path rest (v .answers + 1)
 
     pub nodes-more : nodes (withAnswer t s w) ≡ v .nodes + length (a ∷ u)
-    nodes-more = sym (nodes-answer t (S .es) s w (S .forest) low high) ∙ tries-more .keys
+    nodes-more = sym (nodes-answer t (S .es) s w (S .forest) low high) ∙ sym (numbering-new .count) ∙ tries-more .keys
 
     path-entered : AnswerEnters c t s w → Agrees c v [] (becomes (withAnswer t s w) (new (suc (length (t .answers))))) (entersAnswer s q l (a ∷ u))
     unfolding reply outAfter changedView
@@ -332,20 +345,20 @@ module _ (c : Coding) (laws : CodingLaws c) (t : Table) (v : View) (S : Same c t
           (omega (arith, nodes-more, e .room, S .N-same)) (omega (arith, e .free, S .answers, S .A-same));
       replies = λ after. ap new (next-number c t v S s low high w);
       leaves = refl;
-      same = same-answered c t v S s low high w (withPath (v .node) (v .nodes) q l (a ∷ u)) (v .nodes + length (a ∷ u)) last (omega arith) (omega arith)
-          (leaf-key (S .es) (v .node) (v .nodes) s (v .subgoal s .root) q l a u w (S .tries) there root-key inside st path rest) e tries-more
-          (links-leaf (S .es) (v .node) (v .nodes) s (v .subgoal s .root) q l a u w (S .tries) there root-key inside st path rest (linkOf t) (linkOf (withAnswer t s w)) (v .answers + 1)
+      same = same-answered c t v S s low high w L numbering-new (withPath (v .node) (v .nodes) q l (a ∷ u)) (v .nodes + length (a ∷ u)) last (omega arith) (omega arith)
+          (leaf-key (S .es) (S .K) (S .numbering) (v .node) (v .nodes) s (v .subgoal s .root) q l a u w (S .tries) there root-key inside st path rest) e tries-more
+          (links-leaf (S .es) (S .K) (S .numbering) (v .node) (v .nodes) s (v .subgoal s .root) q l a u w (S .tries) there root-key inside st path rest (linkOf t) (linkOf (withAnswer t s w)) (v .answers + 1)
           (S .links) (link-none c laws t v S) (λ y. linkOf-answer t s w y low (e .absent) ∙ rw (next-number c t v S s low high w)));
     }
 
-    answered-new : (m : ℕ) (ks : List ℕ) → c .answered (subgoalAt t s .m) ks ≡ accepted w m → shared (prefixes (S .es)) (s ∷ []) w < length w
+    answered-new : (m : ℕ) (ks : List ℕ) → c .answered (subgoalAt t s .m) ks ≡ accepted w m → shared (S .K) (s ∷ []) w < length w
         → Agrees c v [] (table.answered t s (accepted w m)) (answeredAt v s w (stopped q l (a ∷ u)))
     unfolding answeredAt
     answered-new m ks e less =
-        let absent : has (answersTo (t .answers) s) w ≡ false = trie-lacks (S .es) (answersTo (t .answers) s) s (S .forest .replies s low high) w less in
+        let absent : has (answersTo (t .answers) s) w ≡ false = trie-lacks (S .es) (answersTo (t .answers) s) s (S .forest .replies s low high) w (rw (← (shared-members (S .K) (prefixes (S .es)) (S .numbering .members) (s ∷ []) w)) less) in
         appended-agrees w m ks e absent (length (a ∷ u)) (entersAnswer s q l (a ∷ u)) nodes-more path-entered
 
-  answered-walked : (w : Word) (m : ℕ) (ks : List ℕ) → c .answered (subgoalAt t s .m) ks ≡ accepted w m → {x : Walk} → Walked (prefixes (S .es)) (v .node) (v .nodes) (v .subgoal s .root) w x
+  answered-walked : (w : Word) (m : ℕ) (ks : List ℕ) → c .answered (subgoalAt t s .m) ks ≡ accepted w m → {x : Walk} → Walked (S .K) (v .node) (v .nodes) (v .subgoal s .root) w x
       → Agrees c v [] (table.answered t s (accepted w m)) (answeredAt v s w x)
   answered-walked w m ks e (ends j h k) = answered-whole w m ks e j h (k ∙ rw (S .subgoal s low high .root-key))
   answered-walked w m ks e (stops q l a u h st path less rest) =

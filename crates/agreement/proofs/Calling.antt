@@ -5,7 +5,7 @@ use mathlib.Core.List.{List, [], _∷_, _++_}
 use Prim.Native.Nat.{ℕ, suc, _+_, _-_, _≤_, _<_}
 use native.Mathlib.Omega.{arith}
 use lib.Dec.{eqb, leb, ltb}
-use lib.ListN.{length, drop}
+use lib.ListN.{length, drop, List·getD-append}
 use lib.Seq.{getD-at}
 use borrow.Author.Tests.{eqb-true, eqb-false, eq-eqb, ne-eqb, lt-ltb, ltb-true, leb-true}
 use Rattle.basis.proofs.Cases.{by-cases}
@@ -17,7 +17,7 @@ use Rattle.plain.specs.Table as table
 use Rattle.plain.specs.Table.{Table, subgoalAt, answerAt, subgoalOfAnswer, calledForms, nodes, subgoalOf, withSubgoal, becomes, appended, step}
 use Rattle.plain.proofs.PrefixLaws.{begins, longer, shared, begins-witness}
 use Rattle.plain.proofs.Entries.{prefixes-root, trie-root, trie-has, trie-lacks}
-use Rattle.plain.proofs.Keys.{key, key-kept, place-has}
+use Rattle.plain.proofs.Keys.{key, place-has}
 use Rattle.plain.proofs.AfterLaws.{after-found}
 use Rattle.plain.proofs.NumberLaws.{subgoalOf-none, subgoalOf-some, answerOf-none}
 use Rattle.plain.proofs.RecordLaws.{subgoalAt-before, subgoalAt-new, subgoals-count}
@@ -39,7 +39,8 @@ use Rattle.store.specs.Calls.{reply, outAfter}
 use Rattle.agreement.specs.Records.{updated, changedView, subgoal-fits}
 use Rattle.agreement.proofs.TrieNodes.{Tries, tries-count, tries-root, Stop, stop-inside}
 use Rattle.agreement.proofs.TrieWalks.{Walked, ends, stops}
-use Rattle.agreement.proofs.TrieLinks.{updated-here, updated-other, linking, Links, links-root, leaf-key, tries-leaf, links-leaf}
+use Rattle.agreement.proofs.Numberings.{Numbering, numbering-more, shared-members}
+use Rattle.agreement.proofs.TrieLinks.{updated-here, updated-other, linking, Links, links-root, numbering-leaf, leaf-key, tries-leaf, links-leaf}
 use Rattle.agreement.proofs.SameRecords.{later, LastSame, no-last, some-last, SubgoalSame, AnswerSame, Same, different, link-none, link-called, walked-call, subgoal-judged, subgoal-state}
 use Rattle.agreement.proofs.Agreeing.{Agrees, agrees-says, agrees-pick}
 
@@ -47,8 +48,8 @@ use Rattle.agreement.proofs.Agreeing.{Agrees, agrees-says, agrees-pick}
 
 module _ (c : Coding) (laws : CodingLaws c) (t : Table) (v : View) (S : Same c t v) (w : Word) (m q l a : ℕ) (u : Word)
     (inside : q < v .nodes) (st : Stop (v .node) (v .nodes) q l)
-    (path : key (prefixes (S .es)) q ++ (a ∷ u) ≡ 0 ∷ w)
-    (rest : longer (key (prefixes (S .es)) q) (a ∷ u) ≡ drop (shared (prefixes (S .es)) (key (prefixes (S .es)) 0) w) (longer (key (prefixes (S .es)) 0) w))
+    (path : key (S .K) q ++ (a ∷ u) ≡ 0 ∷ w)
+    (rest : longer (key (S .K) q) (a ∷ u) ≡ drop (shared (S .K) (key (S .K) 0) w) (longer (key (S .K) 0) w))
     (absent : has (calledForms (t .subgoals)) w ≡ false) where
   -- the subgoals so far, the table with the new one, and its answer root
   abbrev total : ℕ
@@ -64,8 +65,12 @@ module _ (c : Coding) (laws : CodingLaws c) (t : Table) (v : View) (S : Same c t
   abbrev more : List Word
   more = S .es ++ ((0 ∷ w) ∷ [])
 
+  -- the keys with those of the path, and with that of the answer root
+  abbrev J : List Word
+  J = S .K ++ longer (key (S .K) q) (a ∷ u)
+
   abbrev K : List Word
-  K = prefixes (afterCall (S .es) total w)
+  K = J ++ ((suc total ∷ []) ∷ [])
 
   -- the node records with the path, and with the answer root
   abbrev leafed : ℕ → Node
@@ -77,38 +82,41 @@ module _ (c : Coding) (laws : CodingLaws c) (t : Table) (v : View) (S : Same c t
   there : begins (S .es) (0 ∷ []) ≡ true
   there = trie-root (S .es) (calledForms (t .subgoals)) 0 (S .forest .calls)
 
-  tries-leafed : Tries (prefixes more) leafed root
-  tries-leafed = tries-leaf (S .es) (v .node) (v .nodes) 0 0 q l a u w (S .tries) there (S .origin) inside st path rest (v .subgoals + 1)
+  numbering-leafed : Numbering more J
+  numbering-leafed = numbering-leaf (S .es) (S .K) (S .numbering) (v .node) (v .nodes) 0 0 q l a u w (S .tries) there (S .origin) inside st path rest
 
-  keys-grown : K ≡ prefixes more ++ ((suc total ∷ []) ∷ [])
-  keys-grown = prefixes-root more (suc total) (root-free t (S .es) w m (S .forest))
+  numbering-grown : Numbering (afterCall (S .es) total w) K
+  numbering-grown = numbering-more more (afterCall (S .es) total w) J ((suc total ∷ []) ∷ []) numbering-leafed (prefixes-root more (suc total) (root-free t (S .es) w m (S .forest)))
+
+  tries-leafed : Tries J leafed root
+  tries-leafed = tries-leaf (S .es) (S .K) (S .numbering) (v .node) (v .nodes) 0 0 q l a u w (S .tries) there (S .origin) inside st path rest (v .subgoals + 1)
 
   rooted-kept : (i : ℕ) → i < root → rooted i ≡ leafed i
   rooted-kept i h = updated-other leafed root (newRoot root) i (λ e. omega arith)
 
   tries-grown : Tries K rooted (root + 1)
   tries-grown = tries-count _ _ (suc root) (root + 1) (omega arith)
-      (rw keys-grown (tries-root (prefixes more) leafed rooted root (suc total) tries-leafed rooted-kept (updated-here leafed root (newRoot root))))
+      (tries-root J leafed rooted root (suc total) tries-leafed rooted-kept (updated-here leafed root (newRoot root)))
 
   pub nodes-grown : nodes (withSubgoal t w m) ≡ v .nodes + length (a ∷ u) + 1
-  nodes-grown = sym (forest-call t (S .es) w m (S .forest) .count) ∙ tries-grown .keys
+  nodes-grown = sym (forest-call t (S .es) w m (S .forest) .count) ∙ sym (numbering-grown .count) ∙ tries-grown .keys
 
-  key-leafed : (i : ℕ) → i < root → key K i ≡ key (prefixes more) i
-  key-leafed i h = key-kept more (suc total ∷ []) i (omega (arith, tries-leafed .keys))
+  key-leafed : (i : ℕ) → i < root → key K i ≡ key J i
+  key-leafed i h = List·getD-append J ((suc total ∷ []) ∷ []) [] i (omega (arith, tries-leafed .keys))
 
-  key-grown : (i : ℕ) → i < v .nodes → key K i ≡ key (prefixes (S .es)) i
-  key-grown i h = key-leafed i (omega arith) ∙ key-kept (S .es) (0 ∷ w) i (omega (arith, S .tries .keys))
+  key-grown : (i : ℕ) → i < v .nodes → key K i ≡ key (S .K) i
+  key-grown i h = key-leafed i (omega arith) ∙ List·getD-append (S .K) (longer (key (S .K) q) (a ∷ u)) [] i (omega (arith, S .tries .keys))
 
   next-number : v .subgoals + 1 ≡ suc total
   next-number = omega (arith, S .subgoals)
 
-  links-leafed : Links (prefixes more) leafed root (linkOf grown)
-  links-leafed = links-leaf (S .es) (v .node) (v .nodes) 0 0 q l a u w (S .tries) there (S .origin) inside st path rest (linkOf t) (linkOf grown) (v .subgoals + 1)
+  links-leafed : Links J leafed root (linkOf grown)
+  links-leafed = links-leaf (S .es) (S .K) (S .numbering) (v .node) (v .nodes) 0 0 q l a u w (S .tries) there (S .origin) inside st path rest (linkOf t) (linkOf grown) (v .subgoals + 1)
       (S .links) (link-none c laws t v S) (λ y. linkOf-call t w m y absent ∙ rw next-number)
 
   links-grown : Links K rooted (root + 1) (linkOf grown)
-  links-grown i h = rw keys-grown
-      (links-root (prefixes more) leafed rooted root (linkOf grown) (suc total) (tries-leafed .keys) unlinked rooted-kept (updated-here leafed root (newRoot root)) links-leafed i (omega arith))
+  links-grown i h =
+      links-root J leafed rooted root (linkOf grown) (suc total) (tries-leafed .keys) unlinked rooted-kept (updated-here leafed root (newRoot root)) links-leafed i (omega arith)
     where
       unlinked : linkOf grown (suc total ∷ []) ≡ 0
       unlinked = unfold linkOf in answerOf-none grown (suc total) [] (rw (S .forest .unanswered (suc total) (omega arith)) (unfold has in refl))
@@ -119,20 +127,21 @@ module _ (c : Coding) (laws : CodingLaws c) (t : Table) (v : View) (S : Same c t
   last-grown s first last (no-last p z) = no-last p z
   last-grown s first last (some-last p z y x) = some-last p z y x
 
-  subgoal-grown : (s : ℕ) (g : Subgoal) → s ≤ total → SubgoalSame t (prefixes (S .es)) (v .nodes) s g → SubgoalSame grown K (root + 1) s g
+  subgoal-grown : (s : ℕ) (g : Subgoal) → s ≤ total → SubgoalSame t (S .K) (v .nodes) s g → SubgoalSame grown K (root + 1) s g
   unfolding answerAt
   subgoal-grown s g h o = record {
     leaf-in = omega (arith, o .leaf-in);
     leaf-key = key-grown (g .leaf) (o .leaf-in) ∙ o .leaf-key ∙ rw (subgoalAt-before t w m s h);
     root-in = omega (arith, o .root-in);
     root-key = key-grown (g .root) (o .root-in) ∙ o .root-key;
+    root-next = o .root-next;
     variables = o .variables ∙ rw (subgoalAt-before t w m s h);
     state = o .state ∙ rw (subgoalAt-before t w m s h);
     first = o .first;
     last = last-grown s _ _ (o .last);
   }
 
-  answer-grown : (b : ℕ) (y : Answer) → AnswerSame t (prefixes (S .es)) (v .nodes) b y → AnswerSame grown K (root + 1) b y
+  answer-grown : (b : ℕ) (y : Answer) → AnswerSame t (S .K) (v .nodes) b y → AnswerSame grown K (root + 1) b y
   unfolding answerAt
   answer-grown b y o = record { leaf-in = omega (arith, o .leaf-in); leaf-key = key-grown (y .leaf) (o .leaf-in) ∙ o .leaf-key; subgoal = o .subgoal; next = o .next }
 
@@ -149,9 +158,10 @@ module _ (c : Coding) (laws : CodingLaws c) (t : Table) (v : View) (S : Same c t
   subgoal-entered = record {
     leaf-in = omega arith;
     leaf-key = key-leafed (root - 1) (omega arith)
-        ∙ leaf-key (S .es) (v .node) (v .nodes) 0 0 q l a u w (S .tries) there (S .origin) inside st path rest ∙ rw (subgoalAt-new t w m);
+        ∙ leaf-key (S .es) (S .K) (S .numbering) (v .node) (v .nodes) 0 0 q l a u w (S .tries) there (S .origin) inside st path rest ∙ rw (subgoalAt-new t w m);
     root-in = omega arith;
-    root-key = rw keys-grown (getD-at (prefixes more) (suc total ∷ []) [] [] root (tries-leafed .keys));
+    root-key = getD-at J (suc total ∷ []) [] [] root (tries-leafed .keys);
+    root-next = omega arith;
     variables = rw (subgoalAt-new t w m);
     state = rw (subgoalAt-new t w m);
     first = sym unanswered;
@@ -163,6 +173,8 @@ module _ (c : Coding) (laws : CodingLaws c) (t : Table) (v : View) (S : Same c t
   same-called e = record {
     es = afterCall (S .es) total w;
     forest = forest-call t (S .es) w m (S .forest);
+    K = K;
+    numbering = numbering-grown;
     tries = tries-grown;
     links = links-grown;
     origin = key-grown 0 (S .some) ∙ S .origin;
@@ -195,7 +207,7 @@ module _ (c : Coding) (laws : CodingLaws c) (t : Table) (v : View) (S : Same c t
 
 module _ (c : Coding) (laws : CodingLaws c) (t : Table) (v : View) (S : Same c t v) where
   -- the form is there
-  called-old : (w : Word) (m j : ℕ) → j < v .nodes → key (prefixes (S .es)) j ≡ 0 ∷ w → has (calledForms (t .subgoals)) w ≡ true
+  called-old : (w : Word) (m j : ℕ) → j < v .nodes → key (S .K) j ≡ 0 ∷ w → has (calledForms (t .subgoals)) w ≡ true
       → Agrees c v [] (table.called t (accepted w m)) (calledAt v (whole j) m)
   unfolding table.called calledAt calledOld
   called-old w m j hj k e =
@@ -216,23 +228,23 @@ module _ (c : Coding) (laws : CodingLaws c) (t : Table) (v : View) (S : Same c t
       (agrees-says c t v S [] (oldSubgoal s (subgoalAt t s .state)))
 
   -- a form that the walk finds whole is there
-  called-held : (w : Word) (m : ℕ) (ks : List ℕ) → c .called ks ≡ accepted w m → (j : ℕ) → j < v .nodes → key (prefixes (S .es)) j ≡ 0 ∷ w → has (calledForms (t .subgoals)) w ≡ true
+  called-held : (w : Word) (m : ℕ) (ks : List ℕ) → c .called ks ≡ accepted w m → (j : ℕ) → j < v .nodes → key (S .K) j ≡ 0 ∷ w → has (calledForms (t .subgoals)) w ≡ true
   called-held [] m ks e j h k = absurd (called-some c laws ks m e)
   called-held (a ∷ w) m ks e j h k =
       let begun : begins (calledForms (t .subgoals)) (a ∷ w) ≡ true =
-      sym (trie-has (S .es) (calledForms (t .subgoals)) 0 (S .forest .calls) a w) ∙ place-has (prefixes (S .es)) (0 ∷ a ∷ w) j (omega (arith, S .tries .keys)) k in
+      sym (trie-has (S .es) (calledForms (t .subgoals)) 0 (S .forest .calls) a w) ∙ sym (S .numbering .members (0 ∷ a ∷ w)) ∙ place-has (S .K) (0 ∷ a ∷ w) j (omega (arith, S .tries .keys)) k in
       let b = begins-witness (calledForms (t .subgoals)) (a ∷ w) begun in
       let held = held-called c laws t (S .sound) (b .0) (b .1) in
       let eq : a ∷ w ≡ b .0 = called-starts c laws ks (held .0) (a ∷ w) (b .0) m (held .1) e (held .2) (b .2) in
       rw eq (b .1)
 
   called-new : (w : Word) (m : ℕ) (ks : List ℕ) → c .called ks ≡ accepted w m → (q l a : ℕ) (u : Word) → q < v .nodes → Stop (v .node) (v .nodes) q l
-      → key (prefixes (S .es)) q ++ (a ∷ u) ≡ 0 ∷ w → shared (prefixes (S .es)) (0 ∷ []) w < length w
-      → longer (key (prefixes (S .es)) q) (a ∷ u) ≡ drop (shared (prefixes (S .es)) (key (prefixes (S .es)) 0) w) (longer (key (prefixes (S .es)) 0) w)
+      → key (S .K) q ++ (a ∷ u) ≡ 0 ∷ w → shared (S .K) (0 ∷ []) w < length w
+      → longer (key (S .K) q) (a ∷ u) ≡ drop (shared (S .K) (key (S .K) 0) w) (longer (key (S .K) 0) w)
       → Agrees c v [] (table.called t (accepted w m)) (calledAt v (stopped q l (a ∷ u)) m)
   unfolding table.called appended table.fits calledAt calledNew
   called-new w m ks e q l a u h st path less rest =
-      let absent : has (calledForms (t .subgoals)) w ≡ false = trie-lacks (S .es) (calledForms (t .subgoals)) 0 (S .forest .calls) w less in
+      let absent : has (calledForms (t .subgoals)) w ≡ false = trie-lacks (S .es) (calledForms (t .subgoals)) 0 (S .forest .calls) w (rw (← (shared-members (S .K) (prefixes (S .es)) (S .numbering .members) (0 ∷ []) w)) less) in
       let count : nodes (withSubgoal t w m) ≡ v .nodes + length (a ∷ u) + 1 = nodes-grown c laws t v S w m q l a u h st path rest absent in
       rw (subgoalOf-none t w absent)
       (agrees-pick c v [] (leb (nodes (withSubgoal t w m)) (t .N)) (leb (v .nodes + length (a ∷ u) + 1) (v .N)) _ _ _ _ (rw (count, S .N-same))
@@ -241,7 +253,7 @@ module _ (c : Coding) (laws : CodingLaws c) (t : Table) (v : View) (S : Same c t
       (λ y. agrees-says c t v S [] (refused 11)))
       (λ z. agrees-says c t v S [] (refused 10)))
 
-  called-walked : (w : Word) (m : ℕ) (ks : List ℕ) → c .called ks ≡ accepted w m → {x : Walk} → Walked (prefixes (S .es)) (v .node) (v .nodes) 0 w x
+  called-walked : (w : Word) (m : ℕ) (ks : List ℕ) → c .called ks ≡ accepted w m → {x : Walk} → Walked (S .K) (v .node) (v .nodes) 0 w x
       → Agrees c v [] (table.called t (accepted w m)) (calledAt v x m)
   called-walked w m ks e (ends j h k) = called-old w m j h (k ∙ rw (S .origin)) (called-held w m ks e j h (k ∙ rw (S .origin)))
   called-walked w m ks e (stops q l a u h st path less rest) = called-new w m ks e q l a u h st (path ∙ rw (S .origin)) (rw (S .origin) at less) rest

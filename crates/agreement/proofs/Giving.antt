@@ -32,6 +32,7 @@ use Rattle.store.specs.Decisions.{Decision, answeredAt, walkTo, metSound, allSo
 use Rattle.store.proofs.JoinCases.{given-written}
 use Rattle.store.specs.Changes.{answerGiven, formGiven, formsGiven}
 use Rattle.agreement.proofs.TrieWalks.{Walked, ends, stops}
+use Rattle.agreement.proofs.Numberings.{shared-members}
 use Rattle.agreement.proofs.SameRecords.{Same, different, link-answered, walked-answer, answer-judged, nodes-count}
 use Rattle.agreement.proofs.Agreeing.{Agrees}
 use Rattle.agreement.proofs.Answering.{answered-held, nodes-more, answered-read}
@@ -49,7 +50,7 @@ module _ (c : Coding) (laws : CodingLaws c) (t : Table) (v : View) (S : Same c t
     lacks : lacking v x ≡ pick (has (answersTo (t .answers) s) w) false true
     left : missing x ≡ length w - most (answersTo (t .answers) s) w
 
-  told-old : (w : Word) (j : ℕ) → j < v .nodes → key (prefixes (S .es)) j ≡ s ∷ w → has held w ≡ true → Told w (whole j)
+  told-old : (w : Word) (j : ℕ) → j < v .nodes → key (S .K) j ≡ s ∷ w → has held w ≡ true → Told w (whole j)
   unfolding metSound lacking missing
   told-old w j h k e =
       let p = answerOf-some t s w e in
@@ -64,7 +65,7 @@ module _ (c : Coding) (laws : CodingLaws c) (t : Table) (v : View) (S : Same c t
         left = omega (arith, most-whole held w e);
       }
 
-  told-empty : (j : ℕ) → j < v .nodes → key (prefixes (S .es)) j ≡ s ∷ [] → has held [] ≡ false → Told [] (whole j)
+  told-empty : (j : ℕ) → j < v .nodes → key (S .K) j ≡ s ∷ [] → has held [] ≡ false → Told [] (whole j)
   unfolding metSound lacking missing
   told-empty j h k e = record {
     judged = rw (link-answered c laws t v S s low j [] h k, answerOf-none t s [] e);
@@ -72,16 +73,16 @@ module _ (c : Coding) (laws : CodingLaws c) (t : Table) (v : View) (S : Same c t
     left = omega arith;
   }
 
-  told-whole : (w : Word) (n : ℕ) (ks : List ℕ) → c .answered (subgoalAt t s .m) ks ≡ accepted w n → (j : ℕ) → j < v .nodes → key (prefixes (S .es)) j ≡ s ∷ w → Told w (whole j)
+  told-whole : (w : Word) (n : ℕ) (ks : List ℕ) → c .answered (subgoalAt t s .m) ks ≡ accepted w n → (j : ℕ) → j < v .nodes → key (S .K) j ≡ s ∷ w → Told w (whole j)
   told-whole [] n ks e j h k = by-cases (has held []) (λ z. told-old [] j h k z) (λ z. told-empty j h k z)
   told-whole (a ∷ w) n ks e j h k = told-old (a ∷ w) j h k (answered-held c laws t v S s low high is-open a w n ks e j h k)
 
-  told-walked : (w : Word) (n : ℕ) (ks : List ℕ) → c .answered (subgoalAt t s .m) ks ≡ accepted w n → {x : Walk} → Walked (prefixes (S .es)) (v .node) (v .nodes) (v .subgoal s .root) w x → Told w x
+  told-walked : (w : Word) (n : ℕ) (ks : List ℕ) → c .answered (subgoalAt t s .m) ks ≡ accepted w n → {x : Walk} → Walked (S .K) (v .node) (v .nodes) (v .subgoal s .root) w x → Told w x
   unfolding metSound lacking missing
   told-walked w n ks e (ends j h k) = told-whole w n ks e j h (k ∙ rw (S .subgoal s low high .root-key))
   told-walked w n ks e (stops q l a u h st path less rest) =
       let root-key = S .subgoal s low high .root-key in
-      let absent : has held w ≡ false = trie-lacks (S .es) held s (S .forest .replies s low high) w (rw root-key at less) in
+      let absent : has held w ≡ false = trie-lacks (S .es) held s (S .forest .replies s low high) w (rw (← (shared-members (S .K) (prefixes (S .es)) (S .numbering .members) (s ∷ []) w)) (rw root-key at less)) in
       let more = nodes-more c laws t v S s low high is-open w q l a u h st (path ∙ rw root-key) rest in
       record {
         judged = refl;

@@ -17,7 +17,7 @@ use Rattle.plain.specs.Requests.{State, Open, Finished}
 use Rattle.plain.specs.Table.{Table, fresh, subgoalAt, answerAt, subgoalOfAnswer, calledForms, answersTo, nodes, counted, number, subgoalOf, answerOf, after}
 use Rattle.plain.proofs.PrefixLaws.{has-prefixes, has-begins}
 use Rattle.plain.proofs.Entries.{under, trie-root, trie-has}
-use Rattle.plain.proofs.Keys.{key, Different, place-has, prefixes-different}
+use Rattle.plain.proofs.Keys.{key, Different, place-has}
 use Rattle.plain.proofs.AfterLaws.{after-found, after-least}
 use Rattle.plain.proofs.NumberLaws.{subgoalOf-none, subgoalOf-some, answerOf-none, answerOf-some}
 use Rattle.plain.proofs.LinkLaws.{linkOf}
@@ -35,6 +35,7 @@ use Rattle.trie.specs.Paths.{tokens, gather, longest}
 use Rattle.store.specs.Views.{View, subgoalTrie, answerTrie}
 use Rattle.store.specs.Decisions.{stateOf, soundSubgoal, soundAnswer, soundAnswerOf, soundLast}
 use Rattle.agreement.specs.Records.{Alike, freshView}
+use Rattle.agreement.proofs.Numberings.{Numbering, numbering-made}
 use Rattle.agreement.proofs.TrieNodes.{Tries, linked-equal, tries-linked, tries-root}
 use Rattle.agreement.proofs.TrieWalks.{follows-after, Walked, walked, root-judged, gather-key}
 use Rattle.agreement.proofs.TrieLinks.{Links}
@@ -61,6 +62,8 @@ pub record SubgoalSame (t : Table) (K : List Word) (n s : ℕ) (g : Subgoal) : T
   pub leaf-key : key K (g .leaf) ≡ 0 ∷ subgoalAt t s .form
   pub root-in : g .root < n
   pub root-key : key K (g .root) ≡ s ∷ []
+  -- a subgoal's answer root follows its leaf
+  pub root-next : g .root ≡ suc (g .leaf)
   pub variables : g .variables ≡ subgoalAt t s .m
   pub state : g .state ≡ stateCell (subgoalAt t s .state)
   pub first : g .first ≡ later t 0 s
@@ -73,13 +76,15 @@ pub record AnswerSame (t : Table) (K : List Word) (n a : ℕ) (y : Answer) : Typ
   pub subgoal : y .subgoal ≡ subgoalOfAnswer t a
   pub next : y .next ≡ later t a (subgoalOfAnswer t a)
 
--- the nodes are those of the prefixes of the entries, in the order in which they were entered
+-- the nodes are those of the prefixes of the entries, K being their keys by number
 pub record Same (c : Coding) (t : Table) (v : View) : Type 0 where
   pub es : List Word
   pub forest : Forest t es
-  pub tries : Tries (prefixes es) (v .node) (v .nodes)
-  pub links : Links (prefixes es) (v .node) (v .nodes) (linkOf t)
-  pub origin : key (prefixes es) 0 ≡ 0 ∷ []
+  pub K : List Word
+  pub numbering : Numbering es K
+  pub tries : Tries K (v .node) (v .nodes)
+  pub links : Links K (v .node) (v .nodes) (linkOf t)
+  pub origin : key K 0 ≡ 0 ∷ []
   pub some : 0 < v .nodes
   pub N-same : v .N ≡ t .N
   pub F-same : v .F ≡ t .F
@@ -87,8 +92,8 @@ pub record Same (c : Coding) (t : Table) (v : View) : Type 0 where
   pub sound : Sound c t
   pub subgoals : v .subgoals ≡ length (t .subgoals)
   pub answers : v .answers ≡ length (t .answers)
-  pub subgoal : (s : ℕ) → 0 < s → s ≤ length (t .subgoals) → SubgoalSame t (prefixes es) (v .nodes) s (v .subgoal s)
-  pub answer : (a : ℕ) → 0 < a → a ≤ length (t .answers) → AnswerSame t (prefixes es) (v .nodes) a (v .answer a)
+  pub subgoal : (s : ℕ) → 0 < s → s ≤ length (t .subgoals) → SubgoalSame t K (v .nodes) s (v .subgoal s)
+  pub answer : (a : ℕ) → 0 < a → a ≤ length (t .answers) → AnswerSame t K (v .nodes) a (v .answer a)
 
 -- ---- the fresh one
 
@@ -103,6 +108,8 @@ pub same-fresh : (c : Coding) (n f a : ℕ) → 1 ≤ n → Same c (fresh n f a)
 same-fresh c n f a h = record {
   es = (0 ∷ []) ∷ [];
   forest = forest-fresh n f a;
+  K = prefixes ((0 ∷ []) ∷ []);
+  numbering = numbering-made ((0 ∷ []) ∷ []);
   tries = rw prefixes-zero (tries-root [] (λ i. newRoot 0) (λ i. newRoot 0) 0 0 (tries-none (λ i. newRoot 0)) (λ i k. refl) refl);
   links = λ i k. let z : i ≡ 0 = omega arith in rw (z, prefixes-zero) (unfold linkOf subgoalOf number in refl);
   origin = rw prefixes-zero;
@@ -123,7 +130,9 @@ pub same-alike : (c : Coding) (t : Table) (v w : View) → Same c t v → Alike 
 same-alike c t v w S e = record {
   es = S .es;
   forest = S .forest;
-  tries = rw (e .nodes-same) (tries-linked (prefixes (S .es)) (v .node) (w .node) (v .nodes) (S .tries) (linked-equal (v .node) (w .node) (v .nodes) (e .node-same)));
+  K = S .K;
+  numbering = S .numbering;
+  tries = rw (e .nodes-same) (tries-linked (S .K) (v .node) (w .node) (v .nodes) (S .tries) (linked-equal (v .node) (w .node) (v .nodes) (e .node-same)));
   links = λ i h. let k : i < v .nodes = omega (arith, e .nodes-same) in ap (λ (y : Node). y .link) (e .node-same i k) ∙ S .links i k;
   origin = S .origin;
   some = omega (arith, e .nodes-same, S .some);
@@ -182,10 +191,10 @@ later-some t s last h k e = after-least (subgoalOfAnswer t) (suc (length (t .ans
 
 module _ (c : Coding) (laws : CodingLaws c) (t : Table) (v : View) (S : Same c t v) where
   abbrev K : List Word
-  K = prefixes (S .es)
+  K = S .K
 
   pub nodes-count : v .nodes ≡ nodes t
-  nodes-count = sym (S .tries .keys) ∙ S .forest .count
+  nodes-count = sym (S .tries .keys) ∙ S .numbering .count ∙ S .forest .count
 
   pub same-counts : counted t ≡ record { nodes = v .nodes; subgoals = v .subgoals; answers = v .answers }
   unfolding counted
@@ -194,22 +203,22 @@ module _ (c : Coding) (laws : CodingLaws c) (t : Table) (v : View) (S : Same c t
   pub nodes-room : v .nodes ≤ v .N
   nodes-room = omega (arith, nodes-count, S .sound .kept .room, S .N-same)
 
-  abbrev pub different : Different (prefixes (S .es))
-  different = prefixes-different (S .es)
+  abbrev pub different : Different (S .K)
+  different = S .numbering .different
 
   -- ---- links
 
   lacks : (ws : List Word) (s : ℕ) → under s (S .es) ≡ [] ∷ ws → (a : ℕ) (w : Word) → has K (s ∷ a ∷ w) ≡ false → has ws (a ∷ w) ≡ false
   lacks ws s u a w e = by-cases (has ws (a ∷ w))
-      (λ z. absurd (true≢false (sym (trie-has (S .es) ws s u a w ∙ has-begins ws (a ∷ w) z) ∙ e)))
+      (λ z. absurd (true≢false (sym (S .numbering .members (s ∷ a ∷ w) ∙ trie-has (S .es) ws s u a w ∙ has-begins ws (a ∷ w) z) ∙ e)))
       (λ z. z)
 
   lacks-answer : (s : ℕ) (w : Word) → 0 < s → s ≤ length (t .subgoals) → has K (s ∷ w) ≡ false → has (answersTo (t .answers) s) w ≡ false
-  lacks-answer s [] h k e = absurd (true≢false (sym (has-prefixes (S .es) s [] ∙ trie-root (S .es) (answersTo (t .answers) s) s (S .forest .replies s h k)) ∙ e))
+  lacks-answer s [] h k e = absurd (true≢false (sym (S .numbering .members (s ∷ []) ∙ has-prefixes (S .es) s [] ∙ trie-root (S .es) (answersTo (t .answers) s) s (S .forest .replies s h k)) ∙ e))
   lacks-answer s (a ∷ w) h k e = lacks (answersTo (t .answers) s) s (S .forest .replies s h k) a w e
 
   -- a key that is not there has link 0
-  pub link-none : (y : Word) → has (prefixes (S .es)) y ≡ false → linkOf t y ≡ 0
+  pub link-none : (y : Word) → has (S .K) y ≡ false → linkOf t y ≡ 0
   unfolding linkOf
   link-none [] e = refl
   link-none (zero ∷ []) e = absurd (true≢false (sym (place-has K (0 ∷ []) 0 (omega (arith, S .some, S .tries .keys)) (S .origin)) ∙ e))
@@ -218,10 +227,10 @@ module _ (c : Coding) (laws : CodingLaws c) (t : Table) (v : View) (S : Same c t
       (λ z. rw (S .forest .unanswered (suc s) (ltb-true _ _ z)) (unfold has in refl))
       (λ z. lacks-answer (suc s) w (omega arith) (ltb-false _ _ z) e))
 
-  pub link-called : (i : ℕ) (w : Word) → i < v .nodes → key (prefixes (S .es)) i ≡ 0 ∷ w → v .node i .link ≡ subgoalOf t w
+  pub link-called : (i : ℕ) (w : Word) → i < v .nodes → key (S .K) i ≡ 0 ∷ w → v .node i .link ≡ subgoalOf t w
   link-called i w h e = S .links i h ∙ rw e (unfold linkOf in refl)
 
-  pub link-answered : (s : ℕ) → 0 < s → (i : ℕ) (w : Word) → i < v .nodes → key (prefixes (S .es)) i ≡ s ∷ w → v .node i .link ≡ answerOf t s w
+  pub link-answered : (s : ℕ) → 0 < s → (i : ℕ) (w : Word) → i < v .nodes → key (S .K) i ≡ s ∷ w → v .node i .link ≡ answerOf t s w
   link-answered zero h i w b e = absurd (omega arith)
   link-answered (suc s) h i w b e = S .links i b ∙ rw e (unfold linkOf in refl)
 
@@ -241,7 +250,7 @@ module _ (c : Coding) (laws : CodingLaws c) (t : Table) (v : View) (S : Same c t
 
   -- ---- walks
 
-  pub walked-call : (w : Word) → Walked (prefixes (S .es)) (v .node) (v .nodes) 0 w (walk (subgoalTrie v) 0 w)
+  pub walked-call : (w : Word) → Walked (S .K) (v .node) (v .nodes) 0 w (walk (subgoalTrie v) 0 w)
   walked-call w = walked K (v .node) (v .nodes) (S .tries) different (v .subgoals) 0 called-links 0 w (S .some) (S .origin)
 
   module _ (s : ℕ) (low : 0 < s) (high : s ≤ length (t .subgoals)) where
@@ -250,7 +259,7 @@ module _ (c : Coding) (laws : CodingLaws c) (t : Table) (v : View) (S : Same c t
         let o = S .subgoal s low high in
         root-judged K (v .node) (v .nodes) (S .tries) different (v .answers) s (answered-links s low) (v .subgoal s .root) (o .root-in) (o .root-key)
 
-    pub walked-answer : (w : Word) → Walked (prefixes (S .es)) (v .node) (v .nodes) (v .subgoal s .root) w (walk (answerTrie v) (v .subgoal s .root) w)
+    pub walked-answer : (w : Word) → Walked (S .K) (v .node) (v .nodes) (v .subgoal s .root) w (walk (answerTrie v) (v .subgoal s .root) w)
     walked-answer w =
         let o = S .subgoal s low high in
         walked K (v .node) (v .nodes) (S .tries) different (v .answers) s (answered-links s low) (v .subgoal s .root) w (o .root-in) (o .root-key)

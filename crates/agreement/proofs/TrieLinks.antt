@@ -15,10 +15,11 @@ use Rattle.forms.proofs.RoundTrip.{same-self, same-true}
 use Rattle.plain.specs.Words.{Word, has, prefixes}
 use Rattle.plain.proofs.PrefixLaws.{begins, longer, shared}
 use Rattle.plain.proofs.Entries.{prefixes-under}
-use Rattle.plain.proofs.Keys.{key, Different, has-place, prefixes-different, key-last}
+use Rattle.plain.proofs.Keys.{key, Different, has-place, key-last}
 use Rattle.space.specs.declared.Node.{Node}
 use Rattle.trie.specs.Append.{newRoot, withPath}
 use Rattle.agreement.specs.Records.{withLink, updated}
+use Rattle.agreement.proofs.Numberings.{Numbering, numbering-more, shared-members}
 use Rattle.agreement.proofs.TrieNodes.{Tries, Linked, tries-linked, Stop, tries-path, path-link-before, path-link-new}
 
 -- ---- a reader with one record changed
@@ -87,38 +88,45 @@ links-root K nd new n f s size z kept last h i b = by-cases (eqb i n)
 
 -- ---- a word entered past where the walk stopped
 
-module _ (es : List Word) (nd : ℕ → Node) (n s p q l a : ℕ) (u w : Word) (r : Tries (prefixes es) nd n)
-    (there : begins es (s ∷ []) ≡ true) (root-key : key (prefixes es) p ≡ s ∷ [])
+module _ (es K : List Word) (num : Numbering es K) (nd : ℕ → Node) (n s p q l a : ℕ) (u w : Word) (r : Tries K nd n)
+    (there : begins es (s ∷ []) ≡ true) (root-key : key K p ≡ s ∷ [])
     (inside : q < n) (st : Stop nd n q l)
-    (path : key (prefixes es) q ++ (a ∷ u) ≡ s ∷ w)
-    (rest : longer (key (prefixes es) q) (a ∷ u) ≡ drop (shared (prefixes es) (key (prefixes es) p) w) (longer (key (prefixes es) p) w)) where
-  -- the entries with the word, the count and the new leaf
+    (path : key K q ++ (a ∷ u) ≡ s ∷ w)
+    (rest : longer (key K q) (a ∷ u) ≡ drop (shared K (key K p) w) (longer (key K p) w)) where
+  -- the entries with the word, the keys with the new ones, the count and the new leaf
   abbrev more : List Word
   more = es ++ ((s ∷ w) ∷ [])
+
+  abbrev longerKeys : List Word
+  longerKeys = K ++ longer (key K q) (a ∷ u)
 
   abbrev total : ℕ
   total = n + length (a ∷ u)
 
-  keys-more : prefixes more ≡ prefixes es ++ longer (key (prefixes es) q) (a ∷ u)
+  keys-more : prefixes more ≡ prefixes es ++ longer (key K q) (a ∷ u)
   keys-more = prefixes-under es s w there ∙ ap {B = List Word} (λ (y : List Word). prefixes es ++ y)
-      (subst (λ (y : Word). drop (shared (prefixes es) y w) (longer y w) ≡ longer (key (prefixes es) q) (a ∷ u)) root-key (sym rest))
+      (ap (λ (i : ℕ). drop i (longer (s ∷ []) w)) (sym (shared-members K (prefixes es) (num .members) (s ∷ []) w))
+      ∙ subst (λ (y : Word). drop (shared K y w) (longer y w) ≡ longer (key K q) (a ∷ u)) root-key (sym rest))
 
-  pub leaf-key : key (prefixes more) (total - 1) ≡ s ∷ w
+  pub numbering-leaf : Numbering (es ++ ((s ∷ w) ∷ [])) (K ++ longer (key K q) (a ∷ u))
+  numbering-leaf = numbering-more es more K (longer (key K q) (a ∷ u)) num keys-more
+
+  pub leaf-key : key (K ++ longer (key K q) (a ∷ u)) (n + length (a ∷ u) - 1) ≡ s ∷ w
   leaf-key =
-      let at-leaf : total - 1 ≡ length (prefixes es) + length u = omega (arith, r .keys) in
-      rw (keys-more, at-leaf) (key-last (prefixes es) (key (prefixes es) q) a u ∙ path)
+      let at-leaf : total - 1 ≡ length K + length u = omega (arith, r .keys) in
+      rw at-leaf (key-last K (key K q) a u ∙ path)
 
-  tries-entered : Tries (prefixes more) (withPath nd n q l (a ∷ u)) total
-  tries-entered = rw keys-more (tries-path (prefixes es) nd n q l (a ∷ u) r inside st)
+  tries-entered : Tries longerKeys (withPath nd n q l (a ∷ u)) total
+  tries-entered = tries-path K nd n q l (a ∷ u) r inside st
 
-  pub tries-leaf : (v : ℕ) → Tries (prefixes more) (linking (withPath nd n q l (a ∷ u)) (total - 1) v) total
-  tries-leaf v = tries-linked (prefixes more) (withPath nd n q l (a ∷ u)) _ total tries-entered (linking-linked (withPath nd n q l (a ∷ u)) total (total - 1) v)
+  pub tries-leaf : (v : ℕ) → Tries (K ++ longer (key K q) (a ∷ u)) (linking (withPath nd n q l (a ∷ u)) (n + length (a ∷ u) - 1) v) (n + length (a ∷ u))
+  tries-leaf v = tries-linked longerKeys (withPath nd n q l (a ∷ u)) _ total tries-entered (linking-linked (withPath nd n q l (a ∷ u)) total (total - 1) v)
 
-  pub links-leaf : (f g : Word → ℕ) (v : ℕ) → Links (prefixes es) nd n f → ((y : Word) → has (prefixes es) y ≡ false → f y ≡ 0)
-      → ((y : Word) → g y ≡ pick (same (s ∷ w) y) v (f y)) → Links (prefixes more) (linking (withPath nd n q l (a ∷ u)) (total - 1) v) total g
+  pub links-leaf : (f g : Word → ℕ) (v : ℕ) → Links K nd n f → ((y : Word) → has K y ≡ false → f y ≡ 0)
+      → ((y : Word) → g y ≡ pick (same (s ∷ w) y) v (f y))
+      → Links (K ++ longer (key K q) (a ∷ u)) (linking (withPath nd n q l (a ∷ u)) (n + length (a ∷ u) - 1) v) (n + length (a ∷ u)) g
   links-leaf f g v h z e i b =
-      let one : Links (prefixes more) (withPath nd n q l (a ∷ u)) total f =
-      rw keys-more (links-path (prefixes es) (longer (key (prefixes es) q) (a ∷ u)) nd n q l (a ∷ u) f (r .keys)
-      (ap length (sym keys-more) ∙ tries-entered .keys) (rw keys-more at (prefixes-different more)) h z) in
-      links-linking (prefixes more) (withPath nd n q l (a ∷ u)) total f (total - 1) v (tries-entered .keys) (prefixes-different more) (omega arith) one i b
-      ∙ rw leaf-key (sym (e (key (prefixes more) i)))
+      let one : Links longerKeys (withPath nd n q l (a ∷ u)) total f =
+      links-path K (longer (key K q) (a ∷ u)) nd n q l (a ∷ u) f (r .keys) (tries-entered .keys) (numbering-leaf .different) h z in
+      links-linking longerKeys (withPath nd n q l (a ∷ u)) total f (total - 1) v (tries-entered .keys) (numbering-leaf .different) (omega arith) one i b
+      ∙ rw leaf-key (sym (e (key longerKeys i)))

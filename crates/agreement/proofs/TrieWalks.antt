@@ -163,6 +163,17 @@ module _ (K : List Word) (nd : ℕ → Node) (n : ℕ) (r : Tries K nd n) (d : D
         strict : (c j : ℕ) → c ≤ j → (c ≡ j → ⊥) → c < j
         strict c j h k = omega arith
 
+    -- the search for a node's token among the children of its parent finds it
+    pub search-own : (j : ℕ) → j < n → InTrie (par nd j) → par nd j < j → searchChildren T (par nd j) (nd j .token) ≡ Found j
+    unfolding searchChildren
+    search-own j h tp l =
+        let p : ℕ = par nd j in
+        let m = after-least (par nd) n p p j (record { above = l; below = h; under = refl }) in
+        let ne : nd p .child ≡ 0 → ⊥ = λ z. m .0 (sym (r .child p (omega arith)) ∙ z) in
+        rw (ne-eqb (nd p .child) 0 ne)
+        (siblings-found n p (nd j .token) j (nd p .child) tp (record { inside = h; above = l; parent = refl; token = refl }) (key-of p j h l refl) (first-of p (omega arith) ne)
+        (rw (r .child p (omega arith)) (m .1)) (omega arith))
+
     siblings-last : (k p t c : ℕ) → InTrie p → has K (key K p ++ (t ∷ [])) ≡ false → Follows (par nd) n p p c → n ≤ c + k
         → (l : ℕ) × (searchSiblings k T p t c ≡ Last l) × LastOf nd n p l
     siblings-last zero p t c tp hn ch fuel = absurd (omega (arith, ch .below))

@@ -2,6 +2,9 @@ pub mod Records
 pub mod Promise
 pub mod Consequences
 pub mod Order
+pub mod Whole
+pub mod Faults
+pub mod WholeExamples
 pub mod Hollow
 pub mod RuledOut
 pub mod History

@@ -1,4 +1,4 @@
-// Fresh and the eight calls as C functions over the machine's own cells, each with one result word.
+// Fresh, the eight calls and the check as C functions over the machine's own cells, each with one result word.
 use basis::refusals::OUT;
 use store::CountsAnswer;
 use words::COUNTS;
@@ -6,6 +6,7 @@ use words::REFUSED;
 use words::answer_word;
 use words::call_word;
 use words::cells_word;
+use words::check_word;
 use words::finish_word;
 use words::fresh_word;
 use words::join_word;
@@ -14,7 +15,7 @@ use words::refusal_word;
 use words::result_word;
 ghost use mathlib.Core.List.{[]};
 ghost use Rattle.plain.specs.Requests as request;
-ghost use Rattle.words.specs.Words.{ReturnsFresh, Returns, ReturnsCounts};
+ghost use Rattle.words.specs.Words.{ReturnsFresh, Returns, ReturnsCounts, ReturnsCheck};
 
 // ---- fresh, and the calls that write
 
@@ -122,4 +123,12 @@ pub extern "C" fn tables_counts(space: &[u32], out: &mut [u32]) -> u64
         }
         CountsAnswer::Refused(r) => return refusal_word(r),
     }
+}
+
+// Checks the whole space: refused by 9 where a record is broken, with the first that is as its value.
+#[no_mangle]
+pub extern "C" fn tables_check(space: &[u32]) -> u64
+    ensures { λ w. ⌜ ReturnsCheck (now (space .entry)) w ⌝ }
+{
+    check_word(integrity::check(space))
 }

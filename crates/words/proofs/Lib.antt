@@ -1,2 +1,3 @@
 pub mod ReplyBounds
 pub mod WordLaws
+pub mod FaultBounds

@@ -1,6 +1,7 @@
 -- Answers that a result word holds: their refusal's number and their count of cells are small. Every call gives such.
 use Prim.Native.Nat.{_^_, _≤_, _<_}
 use Rattle.plain.specs.Requests.{Reply, new, oldSubgoal, oldAnswer, done, at, none, cells, used, joined, refused, short}
+use Rattle.agreement.specs.Faults.{Fault, nothing, heading, node, subgoal, answer}
 
 abbrev pub Bounded : Reply → Type 0
 Bounded (refused r) = r ≤ 16
@@ -14,3 +15,11 @@ Bounded (at n) = Unit {0}
 Bounded none = Unit {0}
 Bounded (used c) = Unit {0}
 Bounded (joined n) = Unit {0}
+
+-- Faults that it holds: every record's number is small.
+abbrev pub FaultBounded : Fault → Type 0
+FaultBounded nothing = Unit {0}
+FaultBounded heading = Unit {0}
+FaultBounded (node n) = n < 2 ^ 28
+FaultBounded (subgoal s) = s < 2 ^ 28
+FaultBounded (answer a) = a < 2 ^ 28

@@ -11,6 +11,7 @@ use Rattle.space.specs.declared.FreshAnswer.{FreshAnswer}
 use Rattle.space.specs.declared.FreshAnswer.the-variants as fresh
 use Rattle.space.specs.Fresh.{freshAnswerIn, freshSpaceIn}
 use Rattle.store.specs.Calls.{spaceStep, Answers}
+use Rattle.agreement.specs.Faults.{Fault, nothing, heading, node, subgoal, answer, faultOf}
 
 -- what was answered in the upper half, its value in the lower
 abbrev pub worded : ℕ → ℕ → ℕ
@@ -79,3 +80,21 @@ countsOf space = spaceStep space counts .reply
 abbrev pub ReturnsCounts : List ℕ → ℕ → List ℕ → List ℕ → Type 0
 ReturnsCounts before w out out′ =
     (r : Reply) × Answers before counts r [] before × (w ≡ word (countsReply r out)) × (out′ ≡ countsOut r out)
+
+-- ---- `tables_check`
+
+-- a broken record as a value: its kind above its number, as in a cell
+abbrev pub brokenRecord : ℕ → ℕ → ℕ
+brokenRecord kind number = kind * 2 ^ 28 + number
+
+-- done where nothing is broken; refused by 1 where the header is, by 9 where a record is
+unfoldable pub wordCheck : Fault → ℕ
+wordCheck nothing = worded 0 0
+wordCheck heading = worded (256 + 1) 0
+wordCheck (node n) = worded (256 + 9) (brokenRecord 1 n)
+wordCheck (subgoal s) = worded (256 + 9) (brokenRecord 2 s)
+wordCheck (answer a) = worded (256 + 9) (brokenRecord 3 a)
+
+-- `tables_check` returns the word of what is broken first in the space
+abbrev pub ReturnsCheck : List ℕ → ℕ → Type 0
+ReturnsCheck space w = w ≡ wordCheck (faultOf space)

@@ -1,6 +1,9 @@
 // The result word of each answer: what was answered in its upper half, the value in its lower.
+use basis::refusals::HEADER;
 use basis::refusals::OUT;
+use basis::refusals::RECORDS;
 use forms::Answer;
+use integrity::CheckAnswer;
 use space::FreshAnswer;
 use store::AnswerAnswer;
 use store::CallAnswer;
@@ -9,12 +12,13 @@ use store::JoinAnswer;
 use store::NextAnswer;
 use store::State;
 ghost use mathlib.Core.Path.{_≡_};
-ghost use Prim.Native.Nat.{_≤_};
+ghost use Prim.Native.Nat.{_+_, _^_, _<_, _≤_};
 ghost use Rattle.plain.specs.Requests as request;
 ghost use Rattle.store.specs.Replies.{saidState, saidCall, saidAnswer, saidFinish, saidNext};
 ghost use Rattle.store.specs.Replies.{saidJoin, saidCells};
-ghost use Rattle.words.specs.Words.{worded, word, saidFresh};
-ghost use Rattle.words.specs.Bounded.{Bounded};
+ghost use Rattle.integrity.specs.Tests.{saidCheck};
+ghost use Rattle.words.specs.Words.{worded, word, saidFresh, brokenRecord, wordCheck};
+ghost use Rattle.words.specs.Bounded.{Bounded, FaultBounded};
 
 // ---- what was answered: the upper half of a result word; REFUSED is added to the refusal's number
 
@@ -39,6 +43,16 @@ pub const COUNTS: u32 = 8;
 const JOINED: u32 = 10;
 
 pub const REFUSED: u32 = 256;
+
+// ---- a broken record in the lower half: its kind, above the numbers that a record may have
+
+const BROKEN_NODE: u32 = 1;
+
+const BROKEN_SUBGOAL: u32 = 2;
+
+const BROKEN_ANSWER: u32 = 3;
+
+const NUMBERS: u32 = 268435456;
 
 // ---- result words
 
@@ -145,5 +159,27 @@ pub fn cells_word(answer: Answer) -> u64
         Answer::Cells(n) => return result_word(CELLS, n as u32),
         Answer::Short(n) => return result_word(REFUSED + OUT, n as u32),
         Answer::Refused(r) => return refusal_word(r),
+    }
+}
+
+// The word of a broken record, which the check refuses by 9.
+fn broken_word(kind: u32, number: u32) -> u64
+    requires { ⌜ (kind ≤ 3) × (number < 2 ^ 28) ⌝ }
+    ensures { λ w. ⌜ w ≡ worded (256 + 9) (brokenRecord kind number) ⌝ }
+{
+    result_word(REFUSED + RECORDS, kind * NUMBERS + number)
+}
+
+// The space is whole, or what is broken first in it.
+pub fn check_word(answer: CheckAnswer) -> u64
+    requires { ⌜ FaultBounded (saidCheck answer) ⌝ }
+    ensures { λ w. ⌜ w ≡ wordCheck (saidCheck answer) ⌝ }
+{
+    match answer {
+        CheckAnswer::Whole => return result_word(DONE, 0),
+        CheckAnswer::Header => return refusal_word(HEADER),
+        CheckAnswer::Node(n) => return broken_word(BROKEN_NODE, n),
+        CheckAnswer::Subgoal(s) => return broken_word(BROKEN_SUBGOAL, s),
+        CheckAnswer::Answer(a) => return broken_word(BROKEN_ANSWER, a),
     }
 }

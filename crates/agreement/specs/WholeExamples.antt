@@ -1,0 +1,129 @@
+-- The check on small spaces: one that calls leave, some that are damaged, two of them where no call refuses, and one with its nodes numbered
+-- otherwise.
+use mathlib.Core.Bool.{true, false}
+use mathlib.Core.List.{List, [], _∷_, map}
+use mathlib.Core.Path.{_≡_, refl}
+use Prim.Native.Nat.{ℕ}
+use lib.ListN.{set}
+use Rattle.basis.specs.Editions.{knownEdition}
+use Rattle.forms.specs.Cells.{arityOf, callable, shapeOf, symbolic, tokenOf}
+use Rattle.forms.specs.Terms.{pairs, every, applied, paired, begun, reads, areTerms}
+use Rattle.forms.specs.Numbering.{rank, seen, met, renamed, numbered}
+use Rattle.forms.specs.Compact.{compact, elements, compactForm, filled, lastOf, tailOf, inside, into, collected, entered, items, front, formTerms, pairForm, same, areForms, legalForm}
+use Rattle.forms.specs.Converting.{reading}
+use Rattle.plain.specs.Coding.{judged, handedOn, predicate, compacted}
+use Rattle.plain.specs.Requests.{Request, answer, next, Reply, new, at, none, lent, trace}
+use Rattle.plain.specs.Examples.{var, atom, fun}
+use Rattle.space.specs.Layout.{subgoalWidth, answerWidth}
+use Rattle.space.specs.Heading.{inRange, capacity, whole, counted, headerOf, spaceHeader}
+use Rattle.space.specs.Judging.{follows, nodeSound, bothOrNeither, subgoalSound, answerSound}
+use Rattle.trie.specs.Siblings.{searchSiblings, searchChildren}
+use Rattle.trie.specs.Walks.{walkFrom, walk}
+use Rattle.trie.specs.Paths.{gather}
+use Rattle.trie.specs.Append.{leadCell, appendNode, appendPath}
+use Rattle.store.specs.Decisions.{answeredNew, answeredOld, answeredAt, answered, starting, handed, onward, decide}
+use Rattle.store.specs.Changes.{answerEntered, change}
+use Rattle.store.specs.Calls.{reply, outAfter, under, underAny, spaceStep, countedCells}
+use Rattle.agreement.specs.Whole.{everyBelow, upTo, rootWhole, childWhole, linkWhole, nodeWhole, endsWhole, subgoalWhole, answerWhole, chain, chains, wholeView, wholeUnder, wholeAny, wholeSpace}
+use Rattle.agreement.specs.Faults as faults
+use Rattle.agreement.specs.Faults.{nothing, heading, firstFailing, among, chained, faultIn, faultUnder, faultOf}
+
+-- subgoal p(X) with the answers 5 and 6, their nodes x and y: room for 7 nodes, 1 subgoal and 3 answers
+abbrev sampleWith : ℕ → ℕ → ℕ → ℕ → ℕ → ℕ → List ℕ
+sampleWith x i y j a b =
+    1 ∷ 6 ∷ 1 ∷ 2 ∷ 8 ∷ 43 ∷ 49 ∷ 58
+    ∷ 0 ∷ 1 ∷ 0 ∷ 0 ∷ 0
+    ∷ fun 1 1 ∷ 2 ∷ 0 ∷ 0 ∷ 0
+    ∷ var 0 ∷ 0 ∷ 0 ∷ 1 ∷ 1
+    ∷ 0 ∷ 4 ∷ 0 ∷ 3 ∷ 0
+    ∷ x ∷ 0 ∷ 5 ∷ 3 ∷ i
+    ∷ y ∷ 0 ∷ 0 ∷ 3 ∷ j
+    ∷ 0 ∷ 0 ∷ 0 ∷ 0 ∷ 0
+    ∷ 2 ∷ 3 ∷ 1 ∷ 0 ∷ 1 ∷ 2
+    ∷ a ∷ 1 ∷ 2
+    ∷ b ∷ 1 ∷ 0
+    ∷ 0 ∷ 0 ∷ 0 ∷ []
+
+-- as calls number the nodes
+abbrev sample : List ℕ
+sample = sampleWith (atom 5) 1 (atom 6) 2 4 5
+
+-- answer 1 is followed by none; node 4 has no next sibling
+abbrev unchained : List ℕ
+unchained = set sample 51 0
+
+abbrev unlisted : List ℕ
+unlisted = set sample 30 0
+
+-- the last answer is one with another behind it; node 1 has a link that does not lead back; both answers have one token
+abbrev endless : List ℕ
+endless = set sample 48 1
+
+abbrev misled : List ℕ
+misled = set sample 17 1
+
+abbrev doubled : List ℕ
+doubled = sampleWith (atom 5) 1 (atom 5) 2 4 5
+
+-- three answers, the first two followed by the third: as many pointers as answers, and answer 2 on no chain
+abbrev skipping : List ℕ
+skipping =
+    1 ∷ 7 ∷ 1 ∷ 3 ∷ 8 ∷ 43 ∷ 49 ∷ 58
+    ∷ 0 ∷ 1 ∷ 0 ∷ 0 ∷ 0
+    ∷ fun 1 1 ∷ 2 ∷ 0 ∷ 0 ∷ 0
+    ∷ var 0 ∷ 0 ∷ 0 ∷ 1 ∷ 1
+    ∷ 0 ∷ 4 ∷ 0 ∷ 3 ∷ 0
+    ∷ atom 5 ∷ 0 ∷ 5 ∷ 3 ∷ 1
+    ∷ atom 6 ∷ 0 ∷ 6 ∷ 3 ∷ 2
+    ∷ atom 7 ∷ 0 ∷ 0 ∷ 3 ∷ 3
+    ∷ 2 ∷ 3 ∷ 1 ∷ 0 ∷ 1 ∷ 3
+    ∷ 4 ∷ 1 ∷ 3
+    ∷ 5 ∷ 1 ∷ 3
+    ∷ 6 ∷ 1 ∷ 0 ∷ []
+
+-- as of edition e, with this functor: in edition 2 fun 1 1 has 17 arguments, and fun 16 1 has one as in edition 1; there is no edition 3
+abbrev inEdition : ℕ → ℕ → List ℕ
+inEdition e p = set (set sample 0 e) 13 p
+
+abbrev replies : List ℕ → List Request → List Reply
+replies cs qs = map (λ s. s .reply) (trace spaceStep countedCells cs qs)
+
+-- unchained loses answer 2, and unlisted takes an answer that it holds for new: neither refuses, and neither passes
+abbrev pub Checked : Type 0
+Checked =
+    (wholeSpace sample ≡ true)
+    × (replies sample (next 1 1 ∷ []) ≡ at 2 ∷ [])
+    × (wholeSpace unchained ≡ false)
+    × (replies unchained (next 1 0 ∷ next 1 1 ∷ []) ≡ at 1 ∷ none ∷ [])
+    × (wholeSpace unlisted ≡ false)
+    × (replies unlisted (answer 1 (atom 6 ∷ []) ∷ []) ≡ new 3 ∷ [])
+    × (wholeSpace endless ≡ false)
+    × (wholeSpace misled ≡ false)
+    × (wholeSpace doubled ≡ false)
+    × (wholeSpace skipping ≡ false)
+    × (wholeSpace (sampleWith (atom 6) 2 (atom 5) 1 5 4) ≡ true)
+    × (wholeSpace (inEdition 2 (fun 1 1)) ≡ false)
+    × (wholeSpace (inEdition 2 (fun 16 1)) ≡ true)
+    × (wholeSpace (inEdition 3 (fun 16 1)) ≡ false)
+
+pub checked : Checked
+unfolding upTo wholeSpace wholeAny wholeUnder wholeView chains chain answerWhole subgoalWhole endsWhole nodeWhole linkWhole childWhole rootWhole everyBelow trace lent inRange capacity counted knownEdition headerOf spaceHeader subgoalWidth answerWidth follows nodeSound bothOrNeither subgoalSound answerSound searchSiblings searchChildren walkFrom walk gather leadCell appendNode appendPath answeredNew answeredOld answeredAt answered starting handed onward decide answerEntered change reply outAfter under underAny spaceStep areForms legalForm judged handedOn reading callable predicate compacted compactForm areTerms pairForm formTerms front symbolic tokenOf items entered filled lastOf tailOf into inside collected reads begun applied paired shapeOf arityOf every compact elements pairs numbered renamed met seen rank same whole
+checked = (refl, refl, refl, refl, refl, refl, refl, refl, refl, refl, refl, refl, refl, refl)
+
+-- what is broken in them
+abbrev pub FirstBroken : Type 0
+FirstBroken =
+    (faultOf sample ≡ nothing)
+    × (faultOf unchained ≡ faults.answer 2)
+    × (faultOf unlisted ≡ faults.node 5)
+    × (faultOf endless ≡ faults.subgoal 1)
+    × (faultOf misled ≡ faults.node 1)
+    × (faultOf doubled ≡ faults.node 5)
+    × (faultOf skipping ≡ faults.answer 2)
+    × (faultOf (sampleWith (atom 6) 2 (atom 5) 1 5 4) ≡ nothing)
+    × (faultOf (inEdition 2 (fun 1 1)) ≡ faults.subgoal 1)
+    × (faultOf (inEdition 3 (fun 16 1)) ≡ heading)
+
+pub first-broken : FirstBroken
+unfolding faultOf faultUnder faultIn firstFailing chained among wholeSpace wholeAny wholeUnder wholeView chains chain answerWhole subgoalWhole endsWhole nodeWhole linkWhole childWhole rootWhole everyBelow trace lent inRange capacity counted knownEdition headerOf spaceHeader subgoalWidth answerWidth follows nodeSound bothOrNeither subgoalSound answerSound searchSiblings searchChildren walkFrom walk gather leadCell appendNode appendPath answeredNew answeredOld answeredAt answered starting handed onward decide answerEntered change reply outAfter under underAny spaceStep areForms legalForm judged handedOn reading callable predicate compacted compactForm areTerms pairForm formTerms front symbolic tokenOf items entered filled lastOf tailOf into inside collected reads begun applied paired shapeOf arityOf every compact elements pairs numbered renamed met seen rank same whole
+first-broken = (refl, refl, refl, refl, refl, refl, refl, refl, refl, refl)

@@ -1,0 +1,5 @@
+pub mod FormCases
+pub mod NodeCases
+pub mod RecordCases
+pub mod ChainCases
+pub mod CheckCases
