@@ -1,4 +1,4 @@
-/* A table in a file: writes one, or lists what a file holds and says in words what is wrong. */
+/* A table in a file: writes one, or checks and lists what a file holds and says in words what is wrong. */
 #include "../include/tables.h"
 
 #include <stdbool.h>
@@ -8,12 +8,13 @@
 
 /*
  *     stored write FILE    writes a sample of three subgoals and five answers
- *     stored read FILE     lists a stored table; exit status 1 if anything is wrong with it
+ *     stored read FILE     checks a stored table and lists it; exit status 1 if it is broken
  *
- * The file holds the cells as they lie in memory. A space from elsewhere needs no
- * check before it is lent: every call judges what it reads. But what is in range
- * is taken as it stands, so this program also counts what it lists, and says
- * where the table counts otherwise.
+ * The file holds the cells as they lie in memory. A space from elsewhere is
+ * checked once, whole, before anything else: what passes holds a table, and no
+ * call on it is refused for damage from then on. What does not pass is not
+ * listed. An atom that has become another one makes another table, which passes:
+ * who must notice that keeps a checksum beside the cells.
  */
 
 /* A space, and the edition by which its functors are read. */
@@ -181,6 +182,23 @@ static const uint32_t *print_term(uint32_t edition, const uint32_t *cell)
     }
 }
 
+/* Checking */
+
+/* Is the space that of a table? Says in words what is wrong. */
+static bool is_whole(const struct stored *stored)
+{
+    static const char *const kinds[] = {
+        [TABLES_BROKEN_NODE] = "node",
+        [TABLES_BROKEN_SUBGOAL] = "subgoal",
+        [TABLES_BROKEN_ANSWER] = "answer",
+    };
+    uint64_t word = tables_check(stored->space, stored->cells);
+    uint32_t kind = tables_broken_kind(word);
+    if (kind == 0)
+        return !is_refused("a space of edition", stored->edition, word);
+    return !is_refused(kinds[kind], tables_broken_number(word), word);
+}
+
 /* Listing */
 
 /* Prints an answer as an instance of its subgoal. Could it be read? */
@@ -197,10 +215,9 @@ static bool list_answer(const struct stored *stored, uint32_t answer)
     return true;
 }
 
-/* Lists the answers of a subgoal; adds them to those listed. Was nothing wrong? */
-static bool list_subgoal(const struct stored *stored, uint32_t subgoal, uint32_t *listed)
+/* Lists the answers of a subgoal. Could they be read? */
+static bool list_subgoal(const struct stored *stored, uint32_t subgoal)
 {
-    bool sound = true;
     uint32_t answer = 0;
     printf("subgoal %u\n", (unsigned)subgoal);
     for (;;) {
@@ -208,28 +225,25 @@ static bool list_subgoal(const struct stored *stored, uint32_t subgoal, uint32_t
         if (is_refused("  what follows answer", answer, word))
             return false;
         if (tables_what(word) == TABLES_NONE)
-            return sound;
+            return true;
         answer = tables_value(word);
-        sound &= list_answer(stored, answer);
-        ++*listed;
+        if (!list_answer(stored, answer))
+            return false;
     }
 }
 
 static bool list(const struct stored *stored)
 {
-    uint32_t counts[3], listed = 0;
+    uint32_t counts[3];
     uint64_t word = tables_counts(stored->space, stored->cells, counts, 3);
     if (is_refused("a space of edition", stored->edition, word))
         return false;
     printf("edition %u: %u nodes, %u subgoals, %u answers\n", (unsigned)stored->edition,
            (unsigned)counts[0], (unsigned)counts[1], (unsigned)counts[2]);
-    bool sound = true;
     for (uint32_t subgoal = 1; subgoal <= counts[1]; subgoal++)
-        sound &= list_subgoal(stored, subgoal, &listed);
-    if (listed != counts[2])
-        printf("%u of %u answers were met: a chain of answers is broken off or led astray.\n",
-               (unsigned)listed, (unsigned)counts[2]);
-    return sound && listed == counts[2];
+        if (!list_subgoal(stored, subgoal))
+            return false;
+    return true;
 }
 
 int main(int count, char **words)
@@ -241,7 +255,7 @@ int main(int count, char **words)
         fprintf(stderr, "usage: stored write FILE, or stored read FILE\n");
         return 2;
     }
-    bool sound = read_space(words[2], &stored) && list(&stored);
+    bool sound = read_space(words[2], &stored) && is_whole(&stored) && list(&stored);
     printf("%s\n", sound ? "Nothing wrong was met." : "Something is wrong.");
     free(stored.space);
     return !sound;

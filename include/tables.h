@@ -290,6 +290,7 @@ enum tables_stack {
     TABLES_STACK_INSTANCE = 62464, /* 49,936 */
     TABLES_STACK_COUNTS = 1024,    /* 16 */
     TABLES_STACK_JOIN = 72704,     /* 57,392 */
+    TABLES_STACK_CHECK = 58368,    /* 46,032 */
     TABLES_STACK_COMPACT = 92160,  /* 73,624 */
     TABLES_STACK_EXPAND = 57344    /* 45,744 */
 };
@@ -321,6 +322,11 @@ enum tables_stack {
  * in a token, or a state that has become 1, makes another table, which is whole
  * too: a caller who must know that a space is the one that was stored keeps a
  * checksum of its cells beside it.
+ *
+ * Records are judged as calls write them, and so refused too, though no call would
+ * notice: a link on a node that is no leaf, a root with a token or a sibling, a
+ * child below a leaf, and a root of answers that is not the node after the leaf of
+ * its subgoal. Cells beyond the counts may hold anything.
  */
 
 /*

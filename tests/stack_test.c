@@ -32,7 +32,7 @@ enum { STACK_BYTES = 1 << 20, UNIT_CELLS = 3, FORM_CELLS = 383, LONGEST_LISTS = 
 
 /* Exports */
 
-enum export { FRESH, CALL, ANSWER, FINISH, NEXT, LOAD, INSTANCE, COUNTS, JOIN, COMPACT, EXPAND, EXPORTS };
+enum export { FRESH, CALL, ANSWER, FINISH, NEXT, LOAD, INSTANCE, COUNTS, JOIN, CHECK, COMPACT, EXPAND, EXPORTS };
 
 static const struct {
     const char *name;
@@ -42,8 +42,8 @@ static const struct {
     {"tables_answer", TABLES_STACK_ANSWER},     {"tables_finish", TABLES_STACK_FINISH},
     {"tables_next", TABLES_STACK_NEXT},         {"tables_load", TABLES_STACK_LOAD},
     {"tables_instance", TABLES_STACK_INSTANCE}, {"tables_counts", TABLES_STACK_COUNTS},
-    {"tables_join", TABLES_STACK_JOIN},         {"tables_compact", TABLES_STACK_COMPACT},
-    {"tables_expand", TABLES_STACK_EXPAND},
+    {"tables_join", TABLES_STACK_JOIN},         {"tables_check", TABLES_STACK_CHECK},
+    {"tables_compact", TABLES_STACK_COMPACT},   {"tables_expand", TABLES_STACK_EXPAND},
 };
 
 /* What the next call gets. */
@@ -89,6 +89,9 @@ static void make(enum export export)
         break;
     case JOIN:
         word = tables_join(space, space_cells, 1, 2, pairs, pair_cells, 3, copies, 2);
+        break;
+    case CHECK:
+        word = tables_check(space, space_cells);
         break;
     case COMPACT:
         word = tables_compact(in, 4 * cell_count, out_bytes, sizeof out, TABLES_EDITION_1);
@@ -332,6 +335,17 @@ static void source_answer(uint32_t subgoal, const uint32_t *form, size_t form_ce
     cell_count = kept_count;
 }
 
+/* A space with any path as that of a subgoal with a variable, and the root of its answers behind the leaf. */
+static void any_subgoal(void)
+{
+    make(FRESH);
+    uint32_t leaf = chain(0, 1), root = space[1]++;
+    uint32_t record[5] = {0, 0, 0, root, 0}, subgoal[6] = {leaf, root, 1, 0, 0, 0};
+    memcpy(node(root), record, sizeof record);
+    space[2] = 1;
+    memcpy(space + space[5], subgoal, sizeof subgoal);
+}
+
 /* What is measured */
 
 /* The answer is a term, so that the subgoal's path is read too: a long list in compact form. */
@@ -385,6 +399,26 @@ static void measure_sources(void)
     measure(JOIN, input_name);
 }
 
+/* A check that gets as far as the paths: the nodes are whole. */
+static void measure_check(void)
+{
+    measure(CHECK, input_name);
+    if (tables_broken_kind(word) == TABLES_BROKEN_NODE) {
+        printf("stack: the check of %s found node %" PRIu32 " broken\n", input_name, tables_broken_number(word));
+        exit(1);
+    }
+}
+
+/* Any path as that of a subgoal, and of an answer. */
+static void measure_checks(void)
+{
+    any_subgoal();
+    measure_check();
+    begin_join(2000);
+    source_answer(1, cells, cell_count);
+    measure_check();
+}
+
 static void measure_form(void)
 {
     measure(EXPAND, input_name);
@@ -404,6 +438,7 @@ static void measure_form(void)
     subgoal_path();
     measure(INSTANCE, input_name);
     measure_sources();
+    measure_checks();
 }
 
 /* The cells are an answer of the first, and the second has two: the join gives the same form twice. */
