@@ -3,6 +3,7 @@
 
 #include "../include/tables.h"
 #include "plain_store.h"
+#include "workloads.h"
 
 #include <float.h>
 #include <stdio.h>
@@ -11,25 +12,12 @@
 #include <time.h>
 
 enum {
-    ITEMS = 8000, /* the subgoals or answers of a table */
-    ATOMS = 97,   /* the first terms of the pairs */
-    FEW = 20,     /* the items timed together where a call searches: long calls, so few of them */
-    MANY = 200,   /* and where it does not */
+    FEW = 20,   /* the items timed together where a call searches: long calls, so few of them */
+    MANY = 200, /* and where it does not */
     MOST_SLICES = ITEMS / FEW,
     LEAST_ROUNDS = 16,
-    OUT_CELLS = 300,
-    HEADER_CELLS = 8,
-    NODE_CELLS = 5,
-    SUBGOAL_CELLS = 6,
-    ANSWER_CELLS = 3
+    OUT_CELLS = 300
 };
-
-/* The edition of the spaces. */
-#ifndef BENCH_EDITION
-#define BENCH_EDITION TABLES_EDITION_1
-#endif
-
-enum { EDITION = BENCH_EDITION };
 
 /* How long a row is timed, both sides together, unless the fewest rounds take longer. */
 static const double nanoseconds_per_row = 4e9;
@@ -66,122 +54,6 @@ static const struct side sides[SIDES] = {
 
 /* What they are called in the report. */
 static const char *side_names[SIDES] = {[OURS] = "ours", [PLAIN] = "plain"};
-
-/* Workloads */
-
-/* The terms of one table: subgoals called, or answers to one subgoal. All have the same length. */
-struct workload {
-    const char *name;
-    uint32_t goal[4]; /* the subgoal answered */
-    size_t goal_cells; /* 0 where the terms themselves are called */
-    size_t term_cells;
-    uint32_t *terms;
-    uint32_t nodes; /* used when all terms are in */
-    size_t space_cells;
-};
-
-static void *allocate(size_t count, size_t size)
-{
-    void *memory = calloc(count, size);
-    if (memory == NULL) {
-        perror("calloc");
-        exit(1);
-    }
-    return memory;
-}
-
-static const uint32_t *term_at(const struct workload *workload, size_t item)
-{
-    return workload->terms + item * workload->term_cells;
-}
-
-static uint32_t subgoal_capacity(const struct workload *workload)
-{
-    return workload->goal_cells == 0 ? ITEMS : 1;
-}
-
-static uint32_t answer_capacity(const struct workload *workload)
-{
-    return workload->goal_cells == 0 ? 0 : ITEMS;
-}
-
-/* Gives the workload room for its terms, and its space exactly the nodes it will use. */
-static void make_room(struct workload *workload, size_t term_cells, uint32_t nodes)
-{
-    workload->term_cells = term_cells;
-    workload->terms = allocate(ITEMS * term_cells, sizeof *workload->terms);
-    workload->nodes = nodes;
-    workload->space_cells = HEADER_CELLS + NODE_CELLS * (size_t)nodes +
-                            SUBGOAL_CELLS * (size_t)subgoal_capacity(workload) +
-                            ANSWER_CELLS * (size_t)answer_capacity(workload);
-}
-
-/* The subgoals path(belt(I), X, Y): below path and belt, three nodes and an answer root for each. */
-static struct workload subgoal_workload(void)
-{
-    struct workload workload = {.name = "subgoals path(belt(I), X, Y)"};
-    make_room(&workload, 5, 3 + 4 * ITEMS);
-    for (uint32_t i = 0; i < ITEMS; i++) {
-        uint32_t *term = workload.terms + 5 * i;
-        term[0] = TABLES_FUNCTOR_CELL(EDITION, 1, 3);
-        term[1] = TABLES_FUNCTOR_CELL(EDITION, 2, 1);
-        term[2] = TABLES_CELL(TABLES_INTEGER, i);
-        term[3] = TABLES_CELL(TABLES_VARIABLE, 7);
-        term[4] = TABLES_CELL(TABLES_VARIABLE, 3);
-    }
-    return workload;
-}
-
-/* The answers (A, I) of route(X, Y): five nodes for the roots and the subgoal, then a node for each A and each I. */
-static struct workload pair_workload(void)
-{
-    struct workload workload = {
-        .name = "answers (A, I)",
-        .goal = {TABLES_FUNCTOR_CELL(EDITION, 3, 2), TABLES_CELL(TABLES_VARIABLE, 7),
-                 TABLES_CELL(TABLES_VARIABLE, 3)},
-        .goal_cells = 3,
-    };
-    make_room(&workload, 2, 5 + ATOMS + ITEMS);
-    for (uint32_t i = 0; i < ITEMS; i++) {
-        workload.terms[2 * i] = TABLES_CELL(TABLES_ATOM, 1 + i % ATOMS);
-        workload.terms[2 * i + 1] = TABLES_CELL(TABLES_INTEGER, i);
-    }
-    return workload;
-}
-
-enum difference { FIRST_DIFFERENT, LAST_DIFFERENT };
-enum ending { EMPTY_ENDING, TERM_ENDING };
-
-/* The nodes of such lists in one trie, its root left out: table 1 of source 001, column Final. */
-static uint32_t published_nodes(enum difference difference, uint32_t lists, uint32_t elements)
-{
-    return difference == FIRST_DIFFERENT ? lists * elements + lists + 1 : lists + elements + 1;
-}
-
-/* The answers of list_terms(X): lists of so many integers that differ in one element. */
-static struct workload list_workload(const char *name, enum difference difference,
-                                     enum ending ending, uint32_t elements)
-{
-    struct workload workload = {
-        .name = name,
-        .goal = {TABLES_FUNCTOR_CELL(EDITION, 4, 1), TABLES_CELL(TABLES_VARIABLE, 7)},
-        .goal_cells = 2,
-    };
-    uint32_t different = difference == FIRST_DIFFERENT ? 0 : elements - 1;
-    make_room(&workload, ending == EMPTY_ENDING ? 2 * elements + 1 : 2 * elements - 1,
-              4 + published_nodes(difference, ITEMS, elements));
-    for (uint32_t i = 0; i < ITEMS; i++) {
-        uint32_t *cell = workload.terms + i * workload.term_cells;
-        for (uint32_t element = 0; element < elements; element++) {
-            if (ending == EMPTY_ENDING || element + 1 < elements)
-                *cell++ = TABLES_PAIR_CELL;
-            *cell++ = TABLES_CELL(TABLES_INTEGER, element == different ? 1000 + i : element);
-        }
-        if (ending == EMPTY_ENDING)
-            *cell = TABLES_EMPTY_LIST;
-    }
-    return workload;
-}
 
 /* Comparing the sides */
 

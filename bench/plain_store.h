@@ -28,4 +28,7 @@ uint64_t plain_join(uint32_t *space, size_t space_cells, uint32_t first, uint32_
                     const uint32_t *pairs, size_t pairs_cells, uint32_t target,
                     const uint32_t *copies, size_t copies_cells);
 
+/* In plain_check.c, which contains the store too. */
+uint64_t plain_check(const uint32_t *space, size_t space_cells);
+
 #endif
