@@ -17,11 +17,6 @@
 #include <string.h>
 #include <unistd.h>
 
-/* 1 where the archive has tables_join: lists then contain joins. */
-#ifndef WITH_JOINS
-#define WITH_JOINS 1
-#endif
-
 enum { LISTS = 60000, LONGEST_LIST = 48, MOST_EXCHANGES = 8, MOST_FAILURES = 10, SECONDS = 50 };
 enum { MOST_NODES = 500, MOST_SUBGOALS = 8, MOST_ANSWERS = 40, MOST_PAIRS = 2 };
 enum { SPACE_CELLS = TABLES_SPACE_CELLS(MOST_NODES, MOST_SUBGOALS, MOST_ANSWERS) };
@@ -104,13 +99,8 @@ struct run {
 
 static uint64_t make_join(struct run *run, const struct joining *joining)
 {
-#if WITH_JOINS
     return tables_join(run->space, run->space_cells, joining->first, joining->second, joining->pair,
                        joining->pairs, joining->target, joining->copy, joining->copies);
-#else
-    (void)run, (void)joining;
-    return TABLES_DONE;
-#endif
 }
 
 static uint64_t make_plain(struct run *run, const struct request *request, uint32_t counted[3])
@@ -292,7 +282,7 @@ static void append_drawn(struct drawing *drawing, struct list *list, struct run 
         append_request(drawing, list, run, FINISH);
     else if (way < 22 && list->count + 3 <= LONGEST_LIST)
         append_finish_between(drawing, list, run);
-    else if (way < 34 && WITH_JOINS)
+    else if (way < 34)
         append_join(drawing, list, run);
     else
         append_request(drawing, list, run, ANSWER);
@@ -582,7 +572,7 @@ static void print_cases(void)
 static void check_cases(void)
 {
     for (unsigned i = 0; i < MET_CASES; i++)
-        if (met[i] < lists / 40 && (WITH_JOINS || i != JOIN_BEHIND))
+        if (met[i] < lists / 40)
             fail(case_names[i]);
     for (unsigned i = SAME_SUBGOAL; i < MET_CASES; i++)
         if (differed[i] < met[i] / (i == NO_ROOM ? 2 : 1))
