@@ -73,7 +73,7 @@ hand-stays arity m held held′ i e l =
 
 -- ---- a path taken in hand
 
-abbrev tokensOf : Path → List ℕ
+abbrev pub tokensOf : Path → List ℕ
 tokensOf none = []
 tokensOf (tokens xs) = xs
 

@@ -1,5 +1,6 @@
 pub mod RemainsLaws
 pub mod HandLaws
+pub mod GatherLaws
 pub mod FindLaws
 pub mod AdvanceLaws
 pub mod CountLaws

@@ -71,6 +71,17 @@ mostTokens = 383
 abbrev pub formIn : ℕ → List ℕ → Word
 formIn m held = take (getD held m 0 - handed) (drop handed held)
 
+-- there is a path to an end
+abbrev pub Gatherable : List ℕ → End → Type 0
+Gatherable cs e = Ends cs e × ((w : Word) × (pathTo cs e ≡ tokens w))
+
+-- it stands in the cells from k on; k is 0 where its tokens are not fewer than the cells
+abbrev pub Gathers : List ℕ → End → List ℕ → List ℕ → ℕ → Type 0
+Gathers cs e cells cells′ k =
+    (k ≤ length cells′) × (0 < k → pathTo cs e ≡ tokens (drop k cells′))
+    × ((w : Word) → pathTo cs e ≡ tokens w → k ≡ 0 → length cells′ ≤ length w)
+    × (length cells′ ≡ length cells)
+
 -- the path to an end is the form of m terms without variables, and there is room for it
 abbrev pub Takeable : List ℕ → End → ℕ → List ℕ → ℕ → Type 0
 Takeable cs e m held edition =

@@ -8,15 +8,12 @@ use parts::matches;
 use parts::put_together;
 use parts::take_in_hand;
 use space::records::answer_in;
+use space::records::node_in;
 use trie::End;
-use trie::Gathered;
-use trie::Short;
 use trie::paths::CELLS;
-use trie::paths::LEVELS;
-use trie::paths::long_path;
-use trie::paths::short_path;
 ghost use mathlib.Core.Path.{_≡_};
-ghost use Rattle.join.specs.Pairing.{Takeable, Takes, FirstTakeable, TakesFirst, SecondTakeable, TakesSecond};
+ghost use Rattle.join.specs.Pairing.{Gatherable, Gathers, Takeable, Takes};
+ghost use Rattle.join.specs.Pairing.{FirstTakeable, TakesFirst, SecondTakeable, TakesSecond};
 ghost use Rattle.join.specs.Pairing.{HandsComparable, HandsCompare, HandsCopyable, HandsCopied};
 ghost use Rattle.join.specs.Pairing.{Known, Compared, Stands, Finds, matchAt, Advances};
 
@@ -26,25 +23,53 @@ pub const HAND: usize = 416;
 
 pub const HANDS: usize = 832;
 
-// The answer of m terms whose path ends here, taken in hand.
+// Cells that most paths do not fill. Cells are cleared before they are lent.
+const FEW: usize = 32;
+
+// The tokens of the path that ends here, from its leaf up to its root, written to the cells from behind: where they
+// start, or 0 where they are not fewer than the cells. That a path is gathered by recursion on the parent is asked of
+// load, and stays so there; this is a loop. It judges no node: the sources were judged before the first pass, and no
+// pass changes them.
+fn gather_path(space: &[u32], end: End, cells: &mut [u32]) -> usize
+    requires { ⌜ Gatherable (now space) end ⌝ }
+    ensures { λ r. ⌜ Gathers (now (space .entry)) end (now (cells .entry)) (now (cells .exit)) r ⌝ }
+{
+    let mut n = end.leaf;
+    let mut at = cells.len();
+    while 0 < at {
+        let y = node_in(space, end.nodes, n);
+        if y.parent == n {
+            return at;
+        }
+        at -= 1;
+        cells[at] = y.token;
+        n = y.parent;
+    }
+    0
+}
+
+// The answer of m terms whose path ends here, taken in hand, however long the path is.
+fn take_long(space: &[u32], end: End, m: usize, held: &mut [u32], edition: u32)
+    requires { ⌜ Takeable (now space) end m (now held) edition ⌝ }
+    ensures { λ _. ⌜ Takes (now (space .entry)) end m (now (held .entry)) (now (held .exit)) edition ⌝ }
+{
+    let mut path = [0u32; CELLS];
+    let k = gather_path(space, end, &mut path);
+    take_in_hand(&path[k..], m, held, edition);
+}
+
+// The same, in few cells where they are enough.
 fn take_path(space: &[u32], end: End, m: usize, held: &mut [u32], edition: u32)
     requires { ⌜ Takeable (now space) end m (now held) edition ⌝ }
     ensures { λ _. ⌜ Takes (now (space .entry)) end m (now (held .entry)) (now (held .exit)) edition ⌝ }
 {
-    let mut cells = [0u32; LEVELS];
-    let short = short_path(space, end, &mut cells);
-    match short {
-        Short::Whole(k) => take_in_hand(&cells[k..], m, held, edition),
-        Short::Longer(n) => {
-            let mut path = [0u32; CELLS];
-            let long = long_path(space, end, n, &cells, &mut path);
-            match long {
-                Gathered::Tokens(k) => take_in_hand(&path[k..], m, held, edition),
-                Gathered::Damaged => {}
-            }
-        }
-        Short::Damaged => {}
+    let mut path = [0u32; FEW];
+    let k = gather_path(space, end, &mut path);
+    if k == 0 {
+        take_long(space, end, m, held, edition);
+        return;
     }
+    take_in_hand(&path[k..], m, held, edition);
 }
 
 // The first's answer with this leaf.
