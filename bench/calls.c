@@ -23,7 +23,7 @@ enum {
 static const double nanoseconds_per_row = 4e9;
 
 /* The upper halves of the words expected here; the lower half is a number or a count of cells. */
-enum said { DONE = 0, NEW = 1, OLD = 2, OLD_OPEN = 3, AT = 5, NO_MORE = 6, CELLS = 7, COUNTS = 8 };
+enum said { DONE = 0, NEW = 1, OLD = 2, OLD_OPEN = 3, AT = 5, NONE_YET = 6, CELLS = 7, COUNTS = 8 };
 
 static uint64_t word(enum said said, uint32_t value)
 {
@@ -162,7 +162,7 @@ static void compare_next(struct comparison *comparison)
     for (uint32_t after = 0; after <= ITEMS; after++) {
         for (int i = 0; i < SIDES; i++)
             said[i] = sides[i].next(comparison->space[i], comparison->workload->space_cells, 1, after);
-        check(comparison, "next", after, after < ITEMS ? word(AT, after + 1) : word(NO_MORE, 0), said);
+        check(comparison, "next", after, after < ITEMS ? word(AT, after + 1) : word(NONE_YET, 0), said);
     }
 }
 

@@ -64,10 +64,11 @@ enum said {
     SAID_OLD_OPEN,
     SAID_OLD_FINISHED,
     SAID_AT,
-    SAID_NONE,
+    SAID_NONE_YET,
     SAID_CELLS,
     SAID_COUNTS,
-    SAID_JOINED = 10,
+    SAID_NO_MORE,
+    SAID_JOINED,
     SAID_REFUSED = 256
 };
 
@@ -768,7 +769,7 @@ uint64_t plain_next(const uint32_t *space, size_t space_cells, uint32_t subgoal,
         return refuse(DAMAGED);
     uint32_t next = from == NULL ? owner[FIRST] : from[ANSWER_NEXT];
     if (next == 0)
-        return say(SAID_NONE, 0);
+        return say(owner[STATE] == 0 ? SAID_NONE_YET : SAID_NO_MORE, 0);
     const uint32_t *record = answer_at(space, &head, next);
     if (!answer_is_sound(record, next, &head) || record[ANSWER_SUBGOAL] != subgoal)
         return refuse(DAMAGED);

@@ -224,8 +224,10 @@ static bool list_subgoal(const struct stored *stored, uint32_t subgoal)
         uint64_t word = tables_next(stored->space, stored->cells, subgoal, answer);
         if (is_refused("  what follows answer", answer, word))
             return false;
-        if (tables_what(word) == TABLES_NONE)
+        if (tables_what(word) != TABLES_AT) {
+            puts(tables_what(word) == TABLES_NO_MORE ? "  no more" : "  none yet");
             return true;
+        }
         answer = tables_value(word);
         if (!list_answer(stored, answer))
             return false;

@@ -15,8 +15,8 @@ extern "C" {
  * third where neither is so. TABLES_VERSION is one number, for #if: 10203 is
  * 1.2.3.
  */
-#define TABLES_VERSION_MAJOR 1
-#define TABLES_VERSION_MINOR 1
+#define TABLES_VERSION_MAJOR 2
+#define TABLES_VERSION_MINOR 0
 #define TABLES_VERSION_PATCH 0
 #define TABLES_VERSION \
     (TABLES_VERSION_MAJOR * 10000 + TABLES_VERSION_MINOR * 100 + TABLES_VERSION_PATCH)
@@ -310,11 +310,11 @@ enum tables_stack {
  * Not noticed: damage in cells that the call does not read; and in a cell that
  * it reads, a wrong number that is in range and breaks no rule. Such a cell is
  * taken as it stands and may change an answer without a refusal. A next answer
- * that has become 0 ends the chain, and tables_next says TABLES_NONE as at the
- * true end; a sibling that has become 0 hides the entries behind it, which then
- * enter as new a second time; another atom in a token is another answer; a state
- * that has become 1 is a finished subgoal; a lower count in the header gives the
- * last records to the next entries.
+ * that has become 0 ends the chain, and tables_next says TABLES_NONE_YET or
+ * TABLES_NO_MORE as at the true end; a sibling that has become 0 hides the entries
+ * behind it, which then enter as new a second time; another atom in a token is
+ * another answer; a state that has become 1 is a finished subgoal; a lower count
+ * in the header gives the last records to the next entries.
  *
  * tables_check reads every record: a space that it finds whole holds a table, and
  * from then on every call answers as that table does and is never refused by 1 or
@@ -348,9 +348,10 @@ enum tables_outcome {
     TABLES_OLD_OPEN = 3,      /* the subgoal's number */
     TABLES_OLD_FINISHED = 4,  /* the subgoal's number */
     TABLES_AT = 5,            /* the next answer's number */
-    TABLES_NONE = 6,          /* value 0 */
+    TABLES_NONE_YET = 6,      /* value 0; the subgoal is open */
     TABLES_CELLS = 7,         /* the number of cells written to out */
     TABLES_COUNTS = 8,        /* 3, the number of cells written to out */
+    TABLES_NO_MORE = 9,       /* value 0; the subgoal is finished */
     TABLES_JOINED = 10,       /* how many answers are new */
     TABLES_CALL_REFUSED = 256 /* plus the refusal's number; no value, but see tables_need
                                  and tables_broken_kind */
@@ -438,9 +439,10 @@ uint64_t tables_finish(uint32_t *space, size_t space_cells, uint32_t subgoal);
 
 /*
  * The first answer of a subgoal behind the answer `after`, which must be one of
- * its own; with 0, its first. TABLES_AT with the answer's number, or
- * TABLES_NONE. While the subgoal is open, an answer may follow later. Refused
- * by 1, 7, 9.
+ * its own; with 0, its first. TABLES_AT with the answer's number. Where there is
+ * none: TABLES_NONE_YET while the subgoal is open, since an answer may follow
+ * later, and TABLES_NO_MORE once it is finished, after which none follows: the
+ * same question has the same answer from then on. Refused by 1, 7, 9.
  */
 TABLES_MUST_CHECK
 uint64_t tables_next(const uint32_t *space, size_t space_cells, uint32_t subgoal, uint32_t after);

@@ -265,7 +265,7 @@ static void check_called(uint32_t arity, uint32_t variables)
     call_is("a call again", predicate(arity, arity, 0x0fffffff, 0x0fffffff),
             SAID(TABLES_OLD_OPEN, 1));
     counts_are(arity + 3, 1, 0);
-    next_is(1, 0, SAID(TABLES_NONE, 0));
+    next_is(1, 0, SAID(TABLES_NONE_YET, 0));
 }
 
 static void check_answered(uint32_t arity, uint32_t variables)
@@ -298,12 +298,13 @@ static void check_second(uint32_t arity, uint32_t variables, uint32_t nodes)
     instance_is(2, &instance);
 }
 
-static void check_read(uint32_t arity, uint32_t variables)
+/* Both answers, and the word behind the second. */
+static void check_read(uint32_t arity, uint32_t variables, uint32_t end)
 {
     struct cells terms = answer_terms(variables, 0), instance = answered_predicate(arity);
     next_is(1, 0, SAID(TABLES_AT, 1));
     next_is(1, 1, SAID(TABLES_AT, 2));
-    next_is(1, 2, SAID(TABLES_NONE, 0));
+    next_is(1, 2, SAID(end, 0));
     load_is(1, &terms);
     instance_is(1, &instance);
 }
@@ -313,7 +314,7 @@ static void check_finished(uint32_t arity, uint32_t variables)
     check_word("finish", tables_finish(space, SPACE_CELLS, 1), TABLES_DONE);
     call_is("a finished call", predicate(arity, arity, 5, 3), SAID(TABLES_OLD_FINISHED, 1));
     answer_is("an answer after finish", 1, answer_terms(variables, 77), REFUSED(8));
-    check_read(arity, variables);
+    check_read(arity, variables, TABLES_NO_MORE);
 }
 
 static void check_predicate(uint32_t arity)
@@ -323,7 +324,7 @@ static void check_predicate(uint32_t arity)
     check_called(arity, variables);
     check_answered(arity, variables);
     check_second(arity, variables, arity + 3 + (uint32_t)answer_terms(variables, 0).count);
-    check_read(arity, variables);
+    check_read(arity, variables, TABLES_NONE_YET);
     check_finished(arity, variables);
 }
 

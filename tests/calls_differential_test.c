@@ -33,7 +33,7 @@ static const uint32_t possible[TALLY_ROWS] = {
     [FINISH] = RESULT(TABLES_DONE) | REFUSAL(7),
     [JOIN] = RESULT(TABLES_JOINED) | RESULT(JOINED_NONE) | REFUSAL(7) | REFUSAL(8) | REFUSAL(14) |
              REFUSAL(15) | REFUSAL(16) | REFUSAL(4) | ROOM_REFUSALS,
-    [NEXT] = RESULT(TABLES_AT) | RESULT(TABLES_NONE) | REFUSAL(7),
+    [NEXT] = RESULT(TABLES_AT) | RESULT(TABLES_NONE_YET) | RESULT(TABLES_NO_MORE) | REFUSAL(7),
     [LOAD] = RESULT(TABLES_CELLS) | REFUSAL(7) | REFUSAL(12),
     [INSTANCE] = RESULT(TABLES_CELLS) | REFUSAL(7) | REFUSAL(12),
     [COUNTS] = RESULT(TABLES_COUNTS) | REFUSAL(12),
@@ -106,6 +106,10 @@ enum met_case {
     JOIN_VARIABLE_AND_NAMES,
     JOIN_NAMES_AND_LENGTH,
     JOIN_LENGTH_AND_NODES,
+    NO_MORE_ANSWER,
+    NO_MORE_JOIN,
+    NO_MORE_FINISH,
+    NO_MORE_CALL,
     MET_CASES
 };
 
@@ -163,6 +167,10 @@ static const char *const case_names[MET_CASES] = {
     [JOIN_VARIABLE_AND_NAMES] = "15, 16 too",
     [JOIN_NAMES_AND_LENGTH] = "16, 4 too",
     [JOIN_LENGTH_AND_NODES] = "4, 10 too",
+    [NO_MORE_ANSWER] = "after no more, an answer to it",
+    [NO_MORE_JOIN] = "a join into it",
+    [NO_MORE_FINISH] = "a finish",
+    [NO_MORE_CALL] = "a call",
 };
 
 static uint64_t met[MET_CASES];
@@ -183,6 +191,9 @@ struct run {
     uint32_t counts[3];
     struct drawer drawer;
     bool joins; /* a join was made */
+    /* Next has said no more of a subgoal, behind this answer; subgoal s at s - 1. */
+    bool ended[KNOWN_SUBGOALS];
+    uint32_t ended_after[KNOWN_SUBGOALS];
     /* Of a planned list: its plan, and the join for which the capacities were made, or NULL, with what
        is used after it if there is room. */
     const struct plan *plan;
@@ -300,6 +311,7 @@ static void open_run(struct run *run)
     run->plain =
         plain_table_open(run->most_nodes, run->most_subgoals, run->most_answers, run->edition);
     memset(&run->known, 0, sizeof run->known);
+    memset(run->ended, 0, sizeof run->ended);
     run->counts[0] = 1;
     run->counts[1] = run->counts[2] = 0;
     run->call = 0;
@@ -704,6 +716,49 @@ static void check_join(struct run *run, const struct request *request, uint64_t 
     }
 }
 
+/* After no more */
+
+/* Walks to the end of a finished subgoal, where next must say no more, and keeps the place. */
+static void find_end(struct run *run, uint32_t subgoal)
+{
+    uint32_t after = 0;
+    uint64_t word = tables_next(run->space, run->space_cells, subgoal, 0);
+    while (tables_what(word) == TABLES_AT) {
+        after = tables_value(word);
+        word = tables_next(run->space, run->space_cells, subgoal, after);
+    }
+    if (word != (uint64_t)TABLES_NO_MORE << 32)
+        fail(run, "next", "the end of a finished subgoal", word, (uint64_t)TABLES_NO_MORE << 32);
+    run->ended[subgoal - 1] = true;
+    run->ended_after[subgoal - 1] = after;
+}
+
+static void count_after_no_more(const struct request *request, uint64_t word, uint32_t subgoal)
+{
+    bool names = request->number == subgoal;
+    met[NO_MORE_ANSWER] += request->kind == ANSWER && names;
+    met[NO_MORE_JOIN] += request->kind == JOIN && request->target == subgoal;
+    met[NO_MORE_FINISH] += request->kind == FINISH && names;
+    met[NO_MORE_CALL] += request->kind == CALL && tables_value(word) == subgoal;
+}
+
+/* Once next has said no more it says so from the same place, whatever was called in between. */
+static void check_ends(struct run *run, const struct request *request, uint64_t word)
+{
+    for (uint32_t subgoal = 1; subgoal <= run->known.subgoals; subgoal++) {
+        if (!run->ended[subgoal - 1] && run->known.finished[subgoal - 1])
+            find_end(run, subgoal);
+        if (!run->ended[subgoal - 1])
+            continue;
+        uint64_t next = tables_next(run->space, run->space_cells, subgoal,
+                                    run->ended_after[subgoal - 1]);
+        if (next != (uint64_t)TABLES_NO_MORE << 32)
+            fail(run, request_names[request->kind], "an answer after no more", next,
+                 (uint64_t)TABLES_NO_MORE << 32);
+        count_after_no_more(request, word, subgoal);
+    }
+}
+
 /* The lists */
 
 static enum request_kind draw_kind(const struct known *known)
@@ -737,6 +792,8 @@ static uint64_t run_request(struct run *run, const struct request *request)
     if (request->kind == JOIN)
         check_join(run, request, word, before);
     learn_result(&run->known, request, word);
+    if (!only_reads(request->kind))
+        check_ends(run, request, word);
     return word;
 }
 
@@ -922,7 +979,7 @@ static const struct published session[] = {
     {NEXT_OF(1, 1), WORD(TABLES_AT, 2)},
     {FINISH_OF(1), WORD(TABLES_DONE, 0)},
     {ANSWER_OF(1, A, B), REFUSED_WORD(8)},
-    {NEXT_OF(1, 2), WORD(TABLES_NONE, 0)},
+    {NEXT_OF(1, 2), WORD(TABLES_NO_MORE, 0)},
     {INSTANCE_OF(2), WORD(TABLES_CELLS, 5)},
 };
 
@@ -965,7 +1022,49 @@ static const struct published joined[] = {
 static const struct published join_short_of_nodes[] = {
     SOURCES,
     {JOIN_OF(3, 0, 0, 1, 1), REFUSED_WORD(10)},
-    {NEXT_OF(3, 0), WORD(TABLES_NONE, 0)},
+    {NEXT_OF(3, 0), WORD(TABLES_NONE_YET, 0)},
+};
+
+/*
+ * Once next has said no more it says so again from the same place, whatever is
+ * called: of 1, which has two answers, behind the second, and of 2, which has none.
+ */
+#define NO_MORE_OF_BOTH {NEXT_OF(1, 2), WORD(TABLES_NO_MORE, 0)}, {NEXT_OF(2, 0), WORD(TABLES_NO_MORE, 0)}
+
+static const struct published no_more[] = {
+    {CALL_OF(F2, X, Y), WORD(TABLES_NEW, 1)},
+    {CALL_OF(G2, X, Y), WORD(TABLES_NEW, 2)},
+    {NEXT_OF(1, 0), WORD(TABLES_NONE_YET, 0)},
+    {ANSWER_OF(1, B, A), WORD(TABLES_NEW, 1)},
+    {NEXT_OF(1, 1), WORD(TABLES_NONE_YET, 0)},
+    {ANSWER_OF(1, A, A), WORD(TABLES_NEW, 2)},
+    {NEXT_OF(1, 1), WORD(TABLES_AT, 2)},
+    {NEXT_OF(1, 2), WORD(TABLES_NONE_YET, 0)},
+    {FINISH_OF(1), WORD(TABLES_DONE, 0)},
+    {NEXT_OF(1, 2), WORD(TABLES_NO_MORE, 0)},
+    {NEXT_OF(2, 0), WORD(TABLES_NONE_YET, 0)},
+    {FINISH_OF(2), WORD(TABLES_DONE, 0)},
+    NO_MORE_OF_BOTH,
+    {ANSWER_OF(1, B, A), REFUSED_WORD(8)},
+    NO_MORE_OF_BOTH,
+    {ANSWER_OF(1, A, B), REFUSED_WORD(8)},
+    NO_MORE_OF_BOTH,
+    {ANSWER_OF(2, A, B), REFUSED_WORD(8)},
+    NO_MORE_OF_BOTH,
+    {JOIN_OF(1, 0, 0, 1, 1), REFUSED_WORD(8)},
+    {JOIN_OF(2, 0, 0, 1, 1), REFUSED_WORD(8)},
+    NO_MORE_OF_BOTH,
+    {FINISH_OF(1), WORD(TABLES_DONE, 0)},
+    {FINISH_OF(2), WORD(TABLES_DONE, 0)},
+    NO_MORE_OF_BOTH,
+    {CALL_OF(F2, Y, X), WORD(TABLES_OLD_FINISHED, 1)},
+    {CALL_OF(G1, X), WORD(TABLES_NEW, 3)},
+    {ANSWER_OF(3, A), WORD(TABLES_NEW, 3)},
+    {JOIN_OF(3, 0, 0), WORD(TABLES_JOINED, 0)},
+    {FINISH_OF(3), WORD(TABLES_DONE, 0)},
+    NO_MORE_OF_BOTH,
+    {NEXT_OF(1, 1), WORD(TABLES_AT, 2)},
+    {NEXT_OF(3, 3), WORD(TABLES_NO_MORE, 0)},
 };
 
 static void recode_argument(struct argument *argument, uint32_t edition)
@@ -1010,6 +1109,7 @@ static void check_published(uint32_t edition)
     run_published(joined, sizeof joined / sizeof *joined, edition, 21, 21);
     run_published(join_short_of_nodes, sizeof join_short_of_nodes / sizeof *join_short_of_nodes,
                   edition, 20, 18);
+    run_published(no_more, sizeof no_more / sizeof *no_more, edition, 20, 17);
 }
 
 /* The report */

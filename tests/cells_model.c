@@ -2,9 +2,9 @@
  * The calls on the cells of a space, sound or damaged: the tests' second opinion.
  *
  * Written from the request alone and for reading beside it. "01" is the request, "Q-7" the later
- * one on editions and "Q-2" that on joins, "OP 9" the ninth open point in 01 and "OP2 9" in the
- * later ones; words in quotation marks are theirs. Only the result words (TABLES_...) come from
- * tables.h.
+ * one on editions, "Q-2" that on joins and "Q-1" that on the end of next, "OP 9" the ninth open
+ * point in 01 and "OP2 9" in the later ones; words in quotation marks are theirs. Only the result
+ * words (TABLES_...) come from tables.h.
  *
  * Every call reads and judges first, in the order of 01's table of refusals, and writes only when
  * nothing is left to refuse: so "a refusal changes nothing". The parts, from top to bottom: the
@@ -818,8 +818,11 @@ uint64_t cells_model_next(const uint32_t *space, size_t space_cells, uint32_t su
         return refused(DAMAGED);
     uint32_t next = after == NONE ? of_subgoal(&s, subgoal, FIRST_ANSWER)
                                   : of_answer(&s, after, NEXT_ANSWER);
-    if (next == NONE)
-        return result(TABLES_NONE, 0);
+    if (next == NONE) {
+        /* Q-1, by "the subgoal's state at the time of the call"; nothing further is read (OP2 6). */
+        bool open = of_subgoal(&s, subgoal, STATE) == OPEN;
+        return result(open ? TABLES_NONE_YET : TABLES_NO_MORE, 0);
+    }
     if (!is_sound_answer_of(&s, next, subgoal))
         return refused(DAMAGED);
     return result(TABLES_AT, next);

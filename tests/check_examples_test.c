@@ -115,7 +115,9 @@ static void check_silence(void)
     unchained[51] = 0;
     unlisted[30] = 0;
     expect("unchained", "next after 0", tables_next(unchained, CELLS, 1, 0), SAID(TABLES_AT, 1));
-    expect("unchained", "next after 1", tables_next(unchained, CELLS, 1, 1), SAID(TABLES_NONE, 0));
+    expect("unchained", "next after 1", tables_next(unchained, CELLS, 1, 1), SAID(TABLES_NONE_YET, 0));
+    unchained[46] = 1; /* its state */
+    expect("unchained, finished", "next after 1", tables_next(unchained, CELLS, 1, 1), SAID(TABLES_NO_MORE, 0));
     expect("unlisted", "answer", tables_answer(unlisted, CELLS, 1, &six, 1), SAID(TABLES_NEW, 3));
 }
 

@@ -37,7 +37,7 @@ static const uint32_t possible[TALLY_ROWS] = {
              ROOM_REFUSALS,
     [ANSWER] = RESULT(TABLES_NEW) | RESULT(TABLES_OLD) | REFUSAL(7) | REFUSAL(8) | READER_REFUSALS | ROOM_REFUSALS,
     [FINISH] = RESULT(TABLES_DONE) | REFUSAL(7),
-    [NEXT] = RESULT(TABLES_AT) | RESULT(TABLES_NONE) | REFUSAL(7),
+    [NEXT] = RESULT(TABLES_AT) | RESULT(TABLES_NONE_YET) | RESULT(TABLES_NO_MORE) | REFUSAL(7),
     [LOAD] = RESULT(TABLES_CELLS) | REFUSAL(7) | REFUSAL(12),
     [INSTANCE] = RESULT(TABLES_CELLS) | REFUSAL(7) | REFUSAL(12),
     [COUNTS] = RESULT(TABLES_COUNTS) | REFUSAL(12),
@@ -706,7 +706,7 @@ static void expect(struct plain_table *plain, const struct request *request, uin
         fail(request_names[request->kind], "another word than by the cells that were read", word);
 }
 
-/* Every subgoal's answers in order, by next and load, against those that were read. */
+/* Every subgoal's answers in order, by next and load, against those that were read; at the end, the word of its state. */
 static void list_answers(struct plain_table *plain)
 {
     static struct request request;
@@ -732,7 +732,7 @@ static void list_answers(struct plain_table *plain)
         }
         request.kind = NEXT;
         request.number = subgoal;
-        expect(plain, &request, SAID(TABLES_NONE, 0));
+        expect(plain, &request, SAID(table.subgoal[subgoal - 1].finished ? TABLES_NO_MORE : TABLES_NONE_YET, 0));
     }
 }
 

@@ -106,6 +106,16 @@ static uint64_t word(uint64_t what, uint32_t value)
     return what << 32 | value;
 }
 
+/* Next has two words for no answer, of their own numbers and without a value. */
+static void test_ends(void)
+{
+    check(TABLES_NONE_YET == 6 && TABLES_NO_MORE == 9, "the numbers of the two words");
+    check(tables_what(word(TABLES_NO_MORE, 0)) == TABLES_NO_MORE, "no more");
+    check(tables_refused_by(word(TABLES_NONE_YET, 0)) == 0, "none yet is no refusal");
+    check(tables_refused_by(word(TABLES_NO_MORE, 0)) == 0, "no more is no refusal");
+    check(tables_broken_kind(word(TABLES_NO_MORE, 0)) == 0, "no more is not refusal 9");
+}
+
 static void test_words(void)
 {
     check(tables_value(word(TABLES_CELLS, 5)) == 5, "a value");
@@ -165,6 +175,9 @@ static void test_space(void)
     check(tables_value(tables_instance(space, SPACE_CELLS, 1, out, 1)) == 0, "and no value");
     check(tables_value(tables_instance(space, SPACE_CELLS, 1, out, 4)) == 2, "an instance");
     check(out[0] == goal[0] && out[1] == atom && out[2] == 0, "its cells");
+    check(tables_next(space, SPACE_CELLS, 1, 1) == word(TABLES_NONE_YET, 0), "none yet");
+    check(tables_finish(space, SPACE_CELLS, 1) == word(TABLES_DONE, 0), "finish");
+    check(tables_next(space, SPACE_CELLS, 1, 1) == word(TABLES_NO_MORE, 0), "no more");
 }
 
 int main(void)
@@ -173,6 +186,7 @@ int main(void)
     test_cells();
     test_arguments();
     test_functors();
+    test_ends();
     test_words();
     test_texts();
     test_space();

@@ -87,8 +87,10 @@ struct step {
      .copies = copy, .word = (result)}
 #define AT(subgoal, answer, found) \
     {.call = NEXT, .number = (subgoal), .after = (answer), .word = SAID(TABLES_AT, found)}
-#define NONE_AFTER(subgoal, answer) \
-    {.call = NEXT, .number = (subgoal), .after = (answer), .word = SAID(TABLES_NONE, 0)}
+#define NONE_YET_AFTER(subgoal, answer) \
+    {.call = NEXT, .number = (subgoal), .after = (answer), .word = SAID(TABLES_NONE_YET, 0)}
+#define NO_MORE_AFTER(subgoal, answer) \
+    {.call = NEXT, .number = (subgoal), .after = (answer), .word = SAID(TABLES_NO_MORE, 0)}
 #define LOADED(answer, ...) \
     {.call = LOAD, .number = (answer), .cells = CELLS(__VA_ARGS__), \
      .word = SAID(TABLES_CELLS, COUNT(__VA_ARGS__))}
@@ -149,38 +151,38 @@ static const struct row rows[] = {
     /* Pairing, entering, numbering */
     ROW("answers pair in order of the first, then of the second, and are numbered so",
         RULE_JOINED(NEW_ONES(3)), AT(3, 0, 6), LOADED(6, A, C), AT(3, 6, 7), LOADED(7, A, A),
-        AT(3, 7, 8), LOADED(8, A, D), NONE_AFTER(3, 8), COUNTED(30, 5, 8)),
+        AT(3, 7, 8), LOADED(8, A, D), NONE_YET_AFTER(3, 8), COUNTED(30, 5, 8)),
     ROW("the other way round, in order of the other",
         JOINED(2, 1, PAIRS(0, 1), 3, COPIES(1, 0, 0, 1), NEW_ONES(3)), AT(3, 0, 6), LOADED(6, A, C),
-        AT(3, 6, 7), LOADED(7, A, D), AT(3, 7, 8), LOADED(8, A, A), NONE_AFTER(3, 8)),
+        AT(3, 6, 7), LOADED(7, A, D), AT(3, 7, 8), LOADED(8, A, A), NONE_YET_AFTER(3, 8)),
     ROW("without pairs every combination gives an answer, each counted once",
         JOINED(1, 2, NO_CELLS, 3, COPIES(0, 1, 1, 0), NEW_ONES(4)), LOADED(6, B, B), LOADED(7, B, C),
-        LOADED(8, C, B), LOADED(9, C, C), NONE_AFTER(3, 9), COUNTED(32, 5, 9)),
+        LOADED(8, C, B), LOADED(9, C, C), NONE_YET_AFTER(3, 9), COUNTED(32, 5, 9)),
     ROW("all pairs must hold", JOINED(1, 2, PAIRS(1, 0, 0, 1), 3, HEAD, NEW_ONES(1)),
-        LOADED(6, A, A), NONE_AFTER(3, 6)),
+        LOADED(6, A, A), NONE_YET_AFTER(3, 6)),
     ROW("a term may be copied twice, another not at all",
         JOINED(1, 2, RULE, 3, COPIES(1, 1, 1, 1), NEW_ONES(3)), LOADED(6, C, C), LOADED(7, A, A),
         LOADED(8, D, D)),
     ROW("an answer that came before in the same join is old",
-        JOINED(1, 2, RULE, 3, COPIES(0, 0, 0, 0), NEW_ONES(1)), LOADED(6, A, A), NONE_AFTER(3, 6)),
+        JOINED(1, 2, RULE, 3, COPIES(0, 0, 0, 0), NEW_ONES(1)), LOADED(6, A, A), NONE_YET_AFTER(3, 6)),
     ROW("an answer that the target holds is old and keeps its number", ANSWERED(3, 6, A, A),
         RULE_JOINED(NEW_ONES(2)), AT(3, 0, 6), LOADED(6, A, A), AT(3, 6, 7), LOADED(7, A, C),
-        AT(3, 7, 8), LOADED(8, A, D), NONE_AFTER(3, 8), COUNTED(30, 5, 8)),
+        AT(3, 7, 8), LOADED(8, A, D), NONE_YET_AFTER(3, 8), COUNTED(30, 5, 8)),
     ROW("a second time there is nothing new", RULE_JOINED(NEW_ONES(3)), RULE_JOINED(NEW_ONES(0)),
         COUNTED(30, 5, 8)),
     ROW("nothing that matches is no refusal", JOINED(1, 2, PAIRS(0, 0), 3, HEAD, NEW_ONES(0)),
-        NONE_AFTER(3, 0)),
+        NONE_YET_AFTER(3, 0)),
     ROW("a source without answers gives none, on either side",
         JOINED(1, 5, NO_CELLS, 3, COPIES(0, 0, 0, 1), NEW_ONES(0)),
         JOINED(5, 1, PAIRS(0, 0), 3, COPIES(1, 0, 0, 0), NEW_ONES(0)),
-        JOINED(5, 5, PAIRS(0, 0), 3, COPIES(1, 0, 0, 0), NEW_ONES(0)), NONE_AFTER(3, 0)),
+        JOINED(5, 5, PAIRS(0, 0), 3, COPIES(1, 0, 0, 0), NEW_ONES(0)), NONE_YET_AFTER(3, 0)),
     ROW("a subgoal may be joined with itself", JOINED(2, 2, PAIRS(1, 0), 3, HEAD, NEW_ONES(1)),
-        LOADED(6, B, D), NONE_AFTER(3, 6)),
+        LOADED(6, B, D), NONE_YET_AFTER(3, 6)),
     ROW("a target without variables takes the empty answer, once",
-        JOINED(1, 2, RULE, 4, NO_CELLS, NEW_ONES(1)), AT(4, 0, 6), LOADED_NONE(6), NONE_AFTER(4, 6),
+        JOINED(1, 2, RULE, 4, NO_CELLS, NEW_ONES(1)), AT(4, 0, 6), LOADED_NONE(6), NONE_YET_AFTER(4, 6),
         COUNTED(26, 5, 6), JOINED(1, 2, RULE, 4, NO_CELLS, NEW_ONES(0)), COUNTED(26, 5, 6)),
     ROW("and none where nothing matches", JOINED(1, 2, PAIRS(0, 0), 4, NO_CELLS, NEW_ONES(0)),
-        JOINED(1, 5, NO_CELLS, 4, NO_CELLS, NEW_ONES(0)), NONE_AFTER(4, 0)),
+        JOINED(1, 5, NO_CELLS, 4, NO_CELLS, NEW_ONES(0)), NONE_YET_AFTER(4, 0)),
     ROW("the empty answer of a source is an answer", {.call = ANSWER, .number = 4, .word = SAID(TABLES_NEW, 6)},
         FINISHED(4), JOINED(4, 1, NO_CELLS, 3, COPIES(1, 1, 1, 0), NEW_ONES(2)), LOADED(7, B, A),
         LOADED(8, C, A), JOINED(4, 4, PAIRS(0, 0), 3, HEAD, NAMES)),
@@ -200,7 +202,11 @@ static const struct row rows[] = {
         RULE_JOINED(NEW_ONES(3)), OLD(3, 7, A, A), ANSWERED(3, 9, D, D), AT(3, 8, 9), FINISHED(3),
         RULE_JOINED(REFUSED(8)), CALLED(6, V1, X),
         JOINED(3, 1, PAIRS(1, 0), 6, COPIES(1, 1), NEW_ONES(2)), LOADED(10, B), LOADED(11, C),
-        NONE_AFTER(6, 11)),
+        NONE_YET_AFTER(6, 11)),
+    ROW("a join leaves its target open, and what is finished has no more", NO_MORE_AFTER(1, 3), NO_MORE_AFTER(5, 0),
+        NONE_YET_AFTER(3, 0), RULE_JOINED(NEW_ONES(3)), NONE_YET_AFTER(3, 8), FINISHED(3), NO_MORE_AFTER(3, 8),
+        RULE_JOINED(REFUSED(8)), NO_MORE_AFTER(3, 8), JOINED(1, 2, NO_CELLS, 5, COPIES(0, 0), REFUSED(8)),
+        NO_MORE_AFTER(5, 0), NO_MORE_AFTER(1, 3)),
 
     /* Refusals, and which comes first */
     ROW("7 for each of the three numbers, before all else", JOINED(0, 2, RULE, 3, HEAD, REFUSED(7)),
@@ -249,7 +255,7 @@ static const struct row rows[] = {
     ROW("4 for one of 257 that matches, after 16", CALLED(6, V1, X), CALLED(7, W1, X),
         ANSWERED_NESTED(6, 6, 128), ANSWERED_NESTED(7, 7, 129), ANSWERED(6, 8, A), ANSWERED(7, 9, A),
         FINISHED(6), FINISHED(7), JOINED(6, 7, NO_CELLS, 3, COPIES(0, 0, 1, 0), REFUSED(4)),
-        JOINED(6, 7, NO_CELLS, 3, COPIES(0, 0, 2, 0), NAMES), NONE_AFTER(3, 0),
+        JOINED(6, 7, NO_CELLS, 3, COPIES(0, 0, 2, 0), NAMES), NONE_YET_AFTER(3, 0),
         JOINED(6, 7, PAIRS(0, 0), 3, COPIES(0, 0, 1, 0), NEW_ONES(1)), LOADED(10, A, A)),
 
     /* Room: every answer enters, or none */
@@ -259,10 +265,10 @@ static const struct row rows[] = {
              RULE_JOINED(NEW_ONES(0)), JOINED(1, 2, PAIRS(0, 0), 3, HEAD, NEW_ONES(0)),
              JOINED(1, 2, RULE, 3, COPIES(0, 0, 0, 0), NEW_ONES(0)),
              JOINED(1, 2, RULE, 4, NO_CELLS, REFUSED(11))),
-    ROW_WITH("10 for one node less, and none enters", 29, 20, RULE_JOINED(REFUSED(10)), NONE_AFTER(3, 0),
-             COUNTED(26, 5, 5), ANSWERED(3, 6, A, C), RULE_JOINED(REFUSED(10)), NONE_AFTER(3, 6),
+    ROW_WITH("10 for one node less, and none enters", 29, 20, RULE_JOINED(REFUSED(10)), NONE_YET_AFTER(3, 0),
+             COUNTED(26, 5, 5), ANSWERED(3, 6, A, C), RULE_JOINED(REFUSED(10)), NONE_YET_AFTER(3, 6),
              JOINED(1, 2, RULE, 3, COPIES(0, 0, 0, 0), NEW_ONES(1)), COUNTED(29, 5, 7)),
-    ROW_WITH("11 for one record less, and none enters", 30, 7, RULE_JOINED(REFUSED(11)), NONE_AFTER(3, 0),
+    ROW_WITH("11 for one record less, and none enters", 30, 7, RULE_JOINED(REFUSED(11)), NONE_YET_AFTER(3, 0),
              COUNTED(26, 5, 5), JOINED(1, 2, RULE, 4, NO_CELLS, NEW_ONES(1)), COUNTED(26, 5, 6)),
     ROW_WITH("10 before 11, although the records run out at an earlier answer", 29, 5,
              RULE_JOINED(REFUSED(10)), JOINED(1, 2, RULE, 4, NO_CELLS, REFUSED(11)),

@@ -3,8 +3,8 @@
  * subgoals, one straight after the other and both accepted, change places. Each
  * list is run from fresh in both orders, and what came of it is compared: every
  * reply but for answer numbers, the counts, and what next, load and instance give
- * of each subgoal. Exchanges that are not allowed must show a difference, by the
- * same comparison.
+ * of each subgoal, to the word at its end. Exchanges that are not allowed must show
+ * a difference, by the same comparison.
  */
 #define _DEFAULT_SOURCE
 
@@ -37,6 +37,8 @@ enum met_case {
     SEVERAL, /* exchanges in one list */
     JOIN_BEHIND,
     REFUSED_BEHIND,
+    NONE_YET_AT_END, /* of a subgoal compared */
+    NO_MORE_AT_END,
     SAME_SUBGOAL, /* from here on exchanges that are not allowed */
     FINISH_BETWEEN,
     NO_ROOM,
@@ -51,6 +53,8 @@ static const char *const case_names[MET_CASES] = {
     [SEVERAL] = "lists of several exchanges",
     [JOIN_BEHIND] = "a join with new answers behind them",
     [REFUSED_BEHIND] = "a refused call behind them",
+    [NONE_YET_AT_END] = "subgoals compared to none yet",
+    [NO_MORE_AT_END] = "to no more",
     [SAME_SUBGOAL] = "one subgoal",
     [FINISH_BETWEEN] = "a finish between",
     [NO_ROOM] = "one refused for want of room",
@@ -355,17 +359,27 @@ static bool same_answer(const struct run *one, uint32_t answer, const struct run
     return same_written(instance, other_instance);
 }
 
-/* The answers to a subgoal in the order of next. */
-static bool same_answers(const struct run *one, const struct run *other, uint32_t subgoal)
+/* The word at the end of a subgoal, by what a call of it says of its state. */
+static uint64_t end_of(uint64_t called)
 {
-    uint32_t answer = 0, other_answer = 0;
+    bool finished = tables_what(called) == TABLES_OLD_FINISHED;
+    met[finished ? NO_MORE_AT_END : NONE_YET_AT_END]++;
+    return (uint64_t)(finished ? TABLES_NO_MORE : TABLES_NONE_YET) << 32;
+}
+
+/* The answers to a subgoal, which was called with this result, in the order of next. */
+static bool same_answers(const struct run *one, const struct run *other, uint64_t called)
+{
+    uint32_t subgoal = tables_value(called), answer = 0, other_answer = 0;
     for (;;) {
         uint64_t next = tables_next(one->space, one->space_cells, subgoal, answer);
         uint64_t other_next = tables_next(other->space, other->space_cells, subgoal, other_answer);
         if (tables_refused_by(next) != 0)
             fail("next is refused");
+        if (tables_what(next) != TABLES_AT && next != end_of(called))
+            fail("next ends with another word than that of the state");
         if (tables_what(next) != TABLES_AT || tables_what(other_next) != TABLES_AT)
-            return tables_what(next) == tables_what(other_next);
+            return next == other_next;
         answer = tables_value(next);
         other_answer = tables_value(other_next);
         if (!same_answer(one, answer, other, other_answer))
@@ -385,7 +399,7 @@ static bool same_subgoals(const struct list *list, struct run *one, struct run *
             fail("a term that was called is new");
         if (word != make_plain(other, &made->request, NULL))
             return false;
-        if (!same_answers(one, other, tables_value(word)))
+        if (!same_answers(one, other, word))
             return false;
     }
     return true;

@@ -1,5 +1,5 @@
-/* The plain table of document 01, with the editions of Q-7 and the joins of Q-2: subgoals and
-   answers as lists of compact forms, no trie. */
+/* The plain table of document 01, with the editions of Q-7, the joins of Q-2 and the two words of
+   Q-1: subgoals and answers as lists of compact forms, no trie. */
 #include "plain_table.h"
 
 #include <stdbool.h>
@@ -41,9 +41,10 @@ enum outcome {
     OUTCOME_OLD_OPEN = 3,
     OUTCOME_OLD_FINISHED = 4,
     OUTCOME_AT = 5,
-    OUTCOME_NONE = 6,
+    OUTCOME_NONE_YET = 6,
     OUTCOME_CELLS = 7,
     OUTCOME_COUNTS = 8,
+    OUTCOME_NO_MORE = 9,
     OUTCOME_JOINED = 10,
     OUTCOME_REFUSED = 256
 };
@@ -842,7 +843,8 @@ uint64_t plain_table_finish(struct plain_table *table, uint32_t subgoal)
     return result(OUTCOME_DONE, 0);
 }
 
-/* The lowest answer number above the given one under that subgoal; 0 is from the start. */
+/* The lowest answer number above the given one under that subgoal; 0 is from the start. Where there
+   is none the subgoal's state decides: none yet while it is open, no more once it is finished. */
 uint64_t plain_table_next(const struct plain_table *table, uint32_t subgoal, uint32_t after)
 {
     if (!is_number_within(subgoal, table->subgoal_count)) {
@@ -856,7 +858,7 @@ uint64_t plain_table_next(const struct plain_table *table, uint32_t subgoal, uin
             return result(OUTCOME_AT, number);
         }
     }
-    return result(OUTCOME_NONE, 0);
+    return result(subgoal_at(table, subgoal)->finished ? OUTCOME_NO_MORE : OUTCOME_NONE_YET, 0);
 }
 
 /* The m terms in pair form, numbered. */

@@ -29,9 +29,10 @@ enum outcome {
     OLD_OPEN = 3,
     OLD_FINISHED = 4,
     AT = 5,
-    NONE = 6,
+    NONE_YET = 6,
     CELLS = 7,
     COUNTS = 8,
+    NO_MORE = 9,
     REFUSED = 256 /* plus the refusal's number */
 };
 
@@ -275,8 +276,10 @@ static void print_result(struct text *printed, uint64_t result, const uint32_t *
         add_format(printed, "refused %" PRIu32 "\n", outcome - REFUSED);
     else if (outcome == DONE)
         print(printed, "done\n");
-    else if (outcome == NONE)
-        print(printed, "none\n");
+    else if (outcome == NONE_YET)
+        print(printed, "none yet\n");
+    else if (outcome == NO_MORE)
+        print(printed, "no more\n");
     else if (outcome == CELLS)
         print_cells(printed, out, value);
     else if (outcome == COUNTS)

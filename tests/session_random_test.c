@@ -37,7 +37,7 @@ static const struct {
      {"new ", "old ", "refused 3\n", "refused 4\n", "refused 5\n", "refused 7\n", "refused 8\n",
       "refused 10\n", "refused 11\n", "bad\n"}},
     {FINISH, {"done\n", "refused 7\n", "bad\n"}},
-    {NEXT, {"at ", "none\n", "refused 7\n", "bad\n"}},
+    {NEXT, {"at ", "none yet\n", "no more\n", "refused 7\n", "bad\n"}},
     {LOAD, {"cells ", "cells\n", "refused 7\n", "bad\n"}},
     {INSTANCE, {"cells ", "refused 7\n", "refused 12\n", "bad\n"}},
     {COUNTS, {"counts "}},

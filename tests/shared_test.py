@@ -2,7 +2,7 @@
 import ctypes
 import sys
 
-NEW, OLD, OLD_OPEN, OLD_FINISHED, AT, NONE, CELLS, COUNTS, JOINED, REFUSED = 1, 2, 3, 4, 5, 6, 7, 8, 10, 256
+NEW, OLD, OLD_OPEN, OLD_FINISHED, AT, NONE_YET, CELLS, COUNTS, NO_MORE, JOINED, REFUSED = *range(1, 11), 256
 EDITION_2 = 2
 F2, G2, X, Y, A, B = 0x40000102, 0x40000202, 0x10000007, 0x10000009, 0x20000001, 0x20000002
 PAIR, EMPTY = 0x50000000, 0x20000000
@@ -66,11 +66,12 @@ def try_table(call):
     said(0, "fresh", 0, 20, 2, 3, EDITION_2)
     said(NEW, "call", 1, *cells([F2, X, Y]))
     said(OLD_OPEN, "call", 1, *cells([F2, Y, X]))
+    said(NONE_YET, "next", 0, 1, 0)
     said(NEW, "answer", 1, 1, *cells([A, PAIR, B, EMPTY]))
     said(OLD, "answer", 1, 1, *cells([A, PAIR, B, EMPTY]))
     said(REFUSED + 3, "answer", 0, 1, *cells([]))
     said(AT, "next", 1, 1, 0)
-    said(NONE, "next", 0, 1, 1)
+    said(NONE_YET, "next", 0, 1, 1)
     said(CELLS, "load", 4, 1, *out)
     expect("loaded", list(out[0][:5]), [A, PAIR, B, EMPTY, 0])
     said(CELLS, "instance", 5, 1, *out)
@@ -81,7 +82,10 @@ def try_table(call):
     said(0, "check", 0)
     said(0, "finish", 0, 1)
     said(OLD_FINISHED, "call", 1, *cells([F2, X, Y]))
+    said(NO_MORE, "next", 0, 1, 1)
     said(REFUSED + 8, "answer", 0, 1, *cells([A, A]))
+    said(NO_MORE, "next", 0, 1, 1)
+    said(AT, "next", 1, 1, 0)
     said(NEW, "call", 2, *cells([F2, X, X]))
     said(JOINED, "join", 1, 1, 1, *cells([0, 0]), 2, *cells([1, 0]))
     said(JOINED, "join", 0, 1, 1, *cells([0, 0]), 2, *cells([1, 0]))

@@ -30,8 +30,8 @@ bool tally_result(const uint32_t possible[TALLY_ROWS], uint32_t edition, unsigne
 static void print_row(uint32_t edition, unsigned row)
 {
     static const char *const whats[RESULT_WHATS] = {
-        "done",  "new",    "old", "open",   "finished",    "at", "none",
-        "cells", "counts", "9",   "joined", "joined none",
+        "done",  "new",    "old",     "open",   "finished",    "at", "none yet",
+        "cells", "counts", "no more", "joined", "joined none",
     };
     printf("  %-8s", row_name(row));
     for (unsigned result = 0; result < RESULTS; result++) {

@@ -28,7 +28,7 @@ use Rattle.store.specs.Decisions as decisions
 use Rattle.store.specs.Decisions.{Decision, says, gives, finishes, known, sound, onPath, loaded, instanced, handed, decide}
 use Rattle.store.specs.Calls.{reply, outAfter}
 use Rattle.agreement.specs.Records.{withState, changedView, Fits, says-fits, gives-fits, finish-fits}
-use Rattle.agreement.proofs.SameRecords.{later, stateCell, LastSame, no-last, some-last, SubgoalSame, Same, same-counts, subgoal-judged, answer-judged, answer-own-judged, variables-met, own-low, own-high, gather-subgoal, gather-answer}
+use Rattle.agreement.proofs.SameRecords.{later, stateCell, LastSame, no-last, some-last, SubgoalSame, Same, same-counts, subgoal-judged, subgoal-state, answer-judged, answer-own-judged, variables-met, own-low, own-high, gather-subgoal, gather-answer}
 
 -- what the plain table gives and the decision on a view agree, out being lent
 pub record Agrees (c : Coding) (v : View) (out : List ℕ) (r : Result Table) (d : Decision) : Type 0 where
@@ -146,21 +146,21 @@ module _ (c : Coding) (laws : CodingLaws c) (t : Table) (v : View) (S : Same c t
       some a h = omega arith
 
   -- what follows an answer is handed out
-  handed-same : (s a : ℕ) → handed v s (later t a s) ≡ says (table.onward t s a)
+  handed-same : (s a : ℕ) → 0 < s → s ≤ length (t .subgoals) → handed v s (later t a s) ≡ says (table.onward t s a)
   unfolding handed table.onward following
-  handed-same s a = by-cases (eqb (later t a s) 0)
-      (λ e. rw e)
+  handed-same s a low high = by-cases (eqb (later t a s) 0)
+      (λ e. rw (e, subgoal-state c laws t v S s low high))
       (λ e. let f = after-found (subgoalOfAnswer t) (suc (length (t .answers))) a s (eqb-false _ _ e) in
       rw (e, answer-own-judged c laws t v S (later t a s) (omega (arith, f .above)) (omega (arith, f .below)) s (f .under)))
 
   onward-first : (s : ℕ) → 0 < s → s ≤ length (t .subgoals) → decisions.onward v s 0 ≡ says (table.onward t s 0)
   unfolding decisions.onward
-  onward-first s low high = rw (subgoal-judged c laws t v S s low high, S .subgoal s low high .first) (handed-same s 0)
+  onward-first s low high = rw (subgoal-judged c laws t v S s low high, S .subgoal s low high .first) (handed-same s 0 low high)
 
   onward-next : (s a : ℕ) → 0 < s → s ≤ length (t .subgoals) → 0 < a → a ≤ length (t .answers) → subgoalOfAnswer t a ≡ s → decisions.onward v s a ≡ says (table.onward t s a)
   unfolding decisions.onward
   onward-next s a low high p q e =
-      rw (subgoal-judged c laws t v S s low high, ne-eqb a 0 (λ z. omega arith), answer-judged c laws t v S a p q, S .answer a p q .next, e) (handed-same s a)
+      rw (subgoal-judged c laws t v S s low high, ne-eqb a 0 (λ z. omega arith), answer-judged c laws t v S a p q, S .answer a p q .next, e) (handed-same s a low high)
 
   -- where next may start
   starting-from : (s a : ℕ) → table.starting t s a ≡ true → (a ≡ 0 → ⊥) → (0 < a) × (a ≤ length (t .answers)) × (subgoalOfAnswer t a ≡ s)

@@ -6,7 +6,7 @@ use Prim.Native.Nat.{ℕ, _≤_}
 use Rattle.forms.specs.Cells.{arityOf}
 use Rattle.plain.specs.Coding.{Coding, codingOf}
 use Rattle.plain.specs.CodingLaws.{CodingLaws}
-use Rattle.plain.specs.Requests.{Request, answer, next, Counts, Result, trace, left}
+use Rattle.plain.specs.Requests.{State, Request, answer, next, Counts, Result, trace, left}
 use Rattle.plain.specs.Table.{Table, fresh, counted, step, tableTrace}
 use Rattle.plain.specs.Order.{Accepted, Exchangeable, Exchanged, unchanged, exchange, behind, again, unnumbered, heard}
 use Rattle.plain.specs.Order.{HandsOut, SameAnswers, SameButNumbers, OtherOrder, Rearranged, ArrivalOrder}
@@ -50,10 +50,10 @@ module _ (z : Sizes) (c : Coding) (cells : Cells z) (laws : CodingLaws c) (libra
       → Holds z c (left (step c) t qs) (left library cs qs)
   left-holds t cs k qs = left-related (step c) library (Holds z c) (step-state z c cells laws library decides) qs t cs k
 
-  hands-same : (t : Table) (cs : List ℕ) → Holds z c t cs → (i a : ℕ) (bs : List ℕ) → HandsOut (step c) t i a bs
-      → HandsOut library cs i a bs
-  hands-same t cs k i a [] h = reply-same t cs (next i a) k ∙ h
-  hands-same t cs k i a (b ∷ bs) h = (reply-same t cs (next i a) k ∙ h .0, hands-same t cs k i b bs (h .1))
+  hands-same : (t : Table) (cs : List ℕ) → Holds z c t cs → (i : ℕ) (x : State) (a : ℕ) (bs : List ℕ)
+      → HandsOut (step c) t i x a bs → HandsOut library cs i x a bs
+  hands-same t cs k i x a [] h = reply-same t cs (next i a) k ∙ h
+  hands-same t cs k i x a (b ∷ bs) h = (reply-same t cs (next i a) k ∙ h .0, hands-same t cs k i x b bs (h .1))
 
   -- ---- exchanges
 
@@ -86,10 +86,11 @@ module _ (z : Sizes) (c : Coding) (cells : Cells z) (laws : CodingLaws c) (libra
   answers-cells : (t u : Table) (cs ds : List ℕ) → Holds z c t cs → Holds z c u ds → (i : ℕ)
       → SameAnswers (step c) counted i t u → SameAnswers library countedCells i cs ds
   answers-cells t u cs ds k l i h = record {
+    state = h .state;
     numbers = h .numbers;
-    handed = hands-same t cs k i 0 (h .numbers) (h .handed);
+    handed = hands-same t cs k i (h .state) 0 (h .numbers) (h .handed);
     other-numbers = h .other-numbers;
-    other-handed = hands-same u ds l i 0 (h .other-numbers) (h .other-handed);
+    other-handed = hands-same u ds l i (h .state) 0 (h .other-numbers) (h .other-handed);
     loads = λ out. seen-same t cs k _ ∙ h .loads out ∙ sym (seen-same u ds l _);
     instances = λ out. seen-same t cs k _ ∙ h .instances out ∙ sym (seen-same u ds l _);
   }

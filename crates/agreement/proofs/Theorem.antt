@@ -23,7 +23,7 @@ use Rattle.store.specs.Calls.{cellStep, spaceStep, underAny, under}
 use Rattle.agreement.proofs.HeaderTests.{header-read}
 use Rattle.agreement.specs.Records.{Wide}
 use Rattle.agreement.specs.Promise.{Agreement, Promise, Marked, Marked2}
-use Rattle.agreement.specs.Consequences.{Untouched, Following, SoundForEver}
+use Rattle.agreement.specs.Consequences.{Untouched, Following, SoundForEver, NoMoreForEver}
 use Rattle.agreement.proofs.CellChanges as cells
 use Rattle.agreement.proofs.FreshView as fresh
 use Rattle.agreement.proofs.Holding.{Cells}
@@ -77,6 +77,9 @@ following e k = calls.following (sizesOf e) (codingOf e) (cells-hold (sizesOf e)
 
 pub sound-for-ever : (e : ℕ) → knownEdition e ≡ true → SoundForEver (sizesOf e) (codingOf e) spaceStep
 sound-for-ever e k = calls.sound-for-ever (sizesOf e) (codingOf e) (cells-hold (sizesOf e) (cells.sizes-wide e)) (compact-laws (arityOf e)) spaceStep (deciding e k)
+
+pub no-more-for-ever : (e : ℕ) → knownEdition e ≡ true → NoMoreForEver (sizesOf e) (codingOf e) spaceStep
+no-more-for-ever e k = calls.no-more-for-ever (sizesOf e) (codingOf e) (cells-hold (sizesOf e) (cells.sizes-wide e)) (compact-laws (arityOf e)) spaceStep (deciding e k)
 
 pub untouched : Untouched spaceStep
 untouched = refusals.untouched

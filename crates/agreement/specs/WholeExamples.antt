@@ -12,7 +12,7 @@ use Rattle.forms.specs.Numbering.{rank, seen, met, renamed, numbered}
 use Rattle.forms.specs.Compact.{compact, elements, compactForm, filled, lastOf, tailOf, inside, into, collected, entered, items, front, formTerms, pairForm, same, areForms, legalForm}
 use Rattle.forms.specs.Converting.{reading}
 use Rattle.plain.specs.Coding.{judged, handedOn, predicate, compacted}
-use Rattle.plain.specs.Requests.{Request, answer, next, Reply, new, at, none, lent, trace}
+use Rattle.plain.specs.Requests.{Request, answer, next, Reply, new, at, noneYet, lent, trace}
 use Rattle.plain.specs.Examples.{var, atom, fun}
 use Rattle.space.specs.Layout.{subgoalWidth, answerWidth}
 use Rattle.space.specs.Heading.{inRange, capacity, whole, counted, headerOf, spaceHeader}
@@ -94,7 +94,7 @@ Checked =
     (wholeSpace sample ≡ true)
     × (replies sample (next 1 1 ∷ []) ≡ at 2 ∷ [])
     × (wholeSpace unchained ≡ false)
-    × (replies unchained (next 1 0 ∷ next 1 1 ∷ []) ≡ at 1 ∷ none ∷ [])
+    × (replies unchained (next 1 0 ∷ next 1 1 ∷ []) ≡ at 1 ∷ noneYet ∷ [])
     × (wholeSpace unlisted ≡ false)
     × (replies unlisted (answer 1 (atom 6 ∷ []) ∷ []) ≡ new 3 ∷ [])
     × (wholeSpace endless ≡ false)

@@ -13,7 +13,7 @@ use Rattle.basis.proofs.Cases.{by-cases}
 use Rattle.plain.specs.Words.{Word, has}
 use Rattle.plain.specs.Coding.{Coding, Reading, refused, accepted}
 use Rattle.plain.specs.CodingLaws.{CodingLaws}
-use Rattle.plain.specs.Requests.{State, Open, Finished, Request, call, answer, finish, next, load, instance, counts, join, new, oldSubgoal, oldAnswer, cells, joined, refused, short, Result, lent}
+use Rattle.plain.specs.Requests.{State, Open, Finished, Request, call, answer, finish, next, load, instance, counts, join, new, oldSubgoal, oldAnswer, cells, joined, refused, short, lacksNext, Result, lent}
 use Rattle.plain.specs.Table.{Table, subgoalAt, answerAt, subgoalOfAnswer, calledForms, answersTo, nodes, subgoalOf, answerOf, following, withSubgoal, withAnswer, withFinished, stays, becomes, known, fits, appended, called, answered, whileOpen, starting, onward, writes, entered, sideOf, joining, step}
 use Rattle.plain.specs.Joins.{Forms, declined, formed, Side, combined, before, allRead, isOpen, ground, named, joinOf}
 use Rattle.plain.specs.Consequences.{RefusedBy, Known, Refusing, RefusingBy}
@@ -251,10 +251,14 @@ module _ (c : Coding) (t : Table) (Q : ℕ → Type 0)
   answered-keeps s (accepted w m) f =
       answered-cases (Keeps []) t s w m (λ s k r h. absurd h) (λ absent. appended-keeps (withAnswer t s w) (ltb (length (t .answers)) (t .A)) (suc (length (t .answers))))
 
+  lacks-keeps : (x : State) → Keeps [] (becomes t (lacksNext x))
+  lacks-keeps Open r h = absurd h
+  lacks-keeps Finished r h = absurd h
+
   onward-keeps : (s a : ℕ) → Keeps [] (becomes t (pick (starting t s a) (onward t s a) (refused 7)))
   unfolding onward
   onward-keeps s a = by-cases (starting t s a)
-      (λ e. by-cases (eqb (following t s a) 0) (λ f. rw (e, f) (λ r h. absurd h)) (λ f. rw (e, f) (λ r h. absurd h)))
+      (λ e. by-cases (eqb (following t s a) 0) (λ f. rw (e, f) (lacks-keeps (subgoalAt t s .state))) (λ f. rw (e, f) (λ r h. absurd h)))
       (λ e. rw e (keeps [] 7 seven))
 
   joining-keeps : (s m : ℕ) (x : Forms) → Read c m x → Keeps [] (joining t s x)

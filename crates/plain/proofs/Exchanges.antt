@@ -11,9 +11,9 @@ use Rattle.basis.specs.Choice.{pick}
 use Rattle.basis.proofs.Cases.{by-cases}
 use Rattle.plain.specs.Words.{Word, has, distinct}
 use Rattle.plain.specs.Coding.{Coding, Reading, refused, accepted}
-use Rattle.plain.specs.Requests.{Open, Request, answer, load, instance, Reply, new, oldAnswer, refused, cells}
+use Rattle.plain.specs.Requests.{State, Open, Request, answer, load, instance, Reply, new, oldAnswer, refused, cells}
 use Rattle.plain.specs.Requests.{short, Counts, Result, Seen, trace, left}
-use Rattle.plain.specs.Table.{Table, Answer, fresh, noAnswer, subgoalAt, answerAt, subgoalOfAnswer, answersTo}
+use Rattle.plain.specs.Table.{Table, Subgoal, Answer, fresh, noAnswer, subgoalAt, answerAt, subgoalOfAnswer, answersTo}
 use Rattle.plain.specs.Table.{answerNodes, nodes, counted, answerOf, withAnswer, fits, appended, answered, writes}
 use Rattle.plain.specs.Table.{step, tableTrace}
 use Rattle.plain.specs.Consequences.{numbersOf, Visits, reached}
@@ -112,7 +112,7 @@ subgoalAt-same t u r s = rw (r .subgoals)
 abbrev allOf : Table → ℕ → List ℕ
 allOf t s = numbersOf s 1 (t .answers)
 
-hands-out : (c : Coding) (t : Table) (s a : ℕ) (bs : List ℕ) → Visits c t s a bs → HandsOut (step c) t s a bs
+hands-out : (c : Coding) (t : Table) (s a : ℕ) (bs : List ℕ) → Visits c t s a bs → HandsOut (step c) t s (subgoalAt t s .state) a bs
 hands-out c t s a [] v = v
 hands-out c t s a (b ∷ bs) v = (v .0, hands-out c t s b bs (v .1))
 
@@ -135,10 +135,12 @@ module _ (c : Coding) (t u : Table) (r : Renumbered t u) where
 
   answers-same : (s : ℕ) → 0 < s → s ≤ length (t .subgoals) → SameAnswers (step c) counted s t u
   answers-same s low high = record {
+    state = subgoalAt t s .state;
     numbers = allOf t s;
     handed = hands-out c t s 0 (allOf t s) (visiting c t s low high);
     other-numbers = allOf u s;
-    other-handed = hands-out c u s 0 (allOf u s) (visiting c u s low (rw (← (r .subgoals)) high));
+    other-handed = subst (λ (x : State). HandsOut (step c) u s x 0 (allOf u s)) (sym (ap (λ (g : Subgoal). g .state) (subgoalAt-same t u r s)))
+        (hands-out c u s 0 (allOf u s) (visiting c u s low (rw (← (r .subgoals)) high)));
     loads = loads-same s;
     instances = instances-same s;
   }

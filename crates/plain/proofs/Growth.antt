@@ -37,7 +37,7 @@ grows-trans t u v g h = record {
   answers = λ a k. h .answers a (omega (arith, g .more-answers)) ∙ g .answers a k;
 }
 
-answer-grows : (t : Table) (s : ℕ) (w : Word) → Grows t (withAnswer t s w)
+pub answer-grows : (t : Table) (s : ℕ) (w : Word) → Grows t (withAnswer t s w)
 answer-grows t s w = record {
   N = refl;
   F = refl;
@@ -48,7 +48,7 @@ answer-grows t s w = record {
   answers = λ a h. answerAt-before t s w a h;
 }
 
-entering-grows : {c : Coding} {s : ℕ} {t u : Table} → AnswersEnter c s t u → Grows t u
+pub entering-grows : {c : Coding} {s : ℕ} {t u : Table} → AnswersEnter c s t u → Grows t u
 entering-grows {t = t} no-more = grows-refl t
 entering-grows {s = s} {t = t} {u = u} (one-more w e rest) = grows-trans t (withAnswer t s w) u (answer-grows t s w) (entering-grows rest)
 

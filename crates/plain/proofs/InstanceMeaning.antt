@@ -209,7 +209,7 @@ module _ (c : Coding) (cs : List ℕ) where
 
 -- ---- among the calls of a list
 
-left-append : (c : Coding) (t : Table) (xs ys : List Request) → left (step c) t (xs ++ ys) ≡ left (step c) (left (step c) t xs) ys
+pub left-append : (c : Coding) (t : Table) (xs ys : List Request) → left (step c) t (xs ++ ys) ≡ left (step c) (left (step c) t xs) ys
 unfolding left
 left-append c t [] ys = refl
 left-append c t (q ∷ xs) ys = left-append c (step c t q .state) xs ys

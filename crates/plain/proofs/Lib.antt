@@ -19,6 +19,7 @@ pub mod Soundness
 pub mod StoredForms
 pub mod JoinRefusals
 pub mod NextLaws
+pub mod Endings
 pub mod Renumbering
 pub mod Exchanges
 pub mod OrderRuledOut

@@ -1,4 +1,4 @@
--- Next from 0 on gives every answer to a subgoal once, in increasing order, and then none.
+-- Next from 0 on gives every answer to a subgoal once, in increasing order, and then the word for its state; "no more" is final.
 use mathlib.Core.Path.{_≡_, refl, sym, ap, _∙_, subst}
 use mathlib.Core.Bool.{true}
 use mathlib.Core.List.{List, [], _∷_, _++_, append-assoc, append-nil}
@@ -11,8 +11,8 @@ use borrow.Author.Tests.{eqb-true, eqb-false, eq-eqb, ne-eqb, lt-ltb, le-leb}
 use Rattle.basis.specs.Choice.{pick}
 use Rattle.basis.proofs.Cases.{by-cases}
 use Rattle.plain.specs.Coding.{Coding}
-use Rattle.plain.specs.Requests.{next, at, none}
-use Rattle.plain.specs.Table.{Table, Answer, noAnswer, answerAt, subgoalOfAnswer, after, following, starting, onward, step}
+use Rattle.plain.specs.Requests.{next, at, lacksNext}
+use Rattle.plain.specs.Table.{Table, Answer, noAnswer, subgoalAt, answerAt, subgoalOfAnswer, after, following, starting, onward, step}
 use Rattle.plain.specs.Consequences.{numbersOf, Visits, Visiting}
 use Rattle.plain.proofs.AfterLaws.{after-low, after-found, after-least, after-skip}
 
@@ -21,7 +21,7 @@ unfolding following
 following-after t s a = refl
 
 pub next-reply : (c : Coding) (t : Table) (s a : ℕ) → 0 < s → s ≤ length (t .subgoals) → starting t s a ≡ true
-    → step c t (next s a) .reply ≡ pick (eqb (following t s a) 0) none (at (following t s a))
+    → step c t (next s a) .reply ≡ pick (eqb (following t s a) 0) (lacksNext (subgoalAt t s .state)) (at (following t s a))
 unfolding step onward
 next-reply c t s a low high e = rw (lt-ltb 0 s low, le-leb s (length (t .subgoals)) high, e)
 

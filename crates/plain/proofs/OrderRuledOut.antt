@@ -15,7 +15,7 @@ use Rattle.forms.specs.Compact.{entered, items, front, formTerms, pairForm, sam
 use Rattle.forms.specs.Converting.{reading}
 use Rattle.plain.specs.Words.{has, add, union, inits, allInits, prefixes, distinct}
 use Rattle.plain.specs.Coding.{judged, handedOn, predicate, compacted, codingOf}
-use Rattle.plain.specs.Requests.{Request, call, answer, Counts, Reply, at, none, Result, Seen, trace, left}
+use Rattle.plain.specs.Requests.{Request, call, answer, Counts, Reply, at, noneYet, noMore, lacksNext, State, Open, Finished, Result, Seen, trace, left}
 use Rattle.plain.specs.Table.{Table, fresh, noSubgoal, noAnswer, subgoalAt, answerAt, answersTo, answerNodes}
 use Rattle.plain.specs.Table.{nodes, counted, number, subgoalOf, answerOf, after, following, starting, onward}
 use Rattle.plain.specs.Table.{writes, fits, appended, called, answered, step}
@@ -46,16 +46,18 @@ abbrev firstCell : List Seen → ℕ
 firstCell [] = 0
 firstCell (x ∷ xs) = getD (x .out) 0 0
 
-loads-differ : (ns ms : List ℕ) → HandsOut numberStored one 1 0 ns → HandsOut numberStored two 1 0 ms
+loads-differ : (x : State) (ns ms : List ℕ) → HandsOut numberStored one 1 x 0 ns → HandsOut numberStored two 1 x 0 ms
     → trace numberStored counted one (loadsOf ns (0 ∷ [])) ≡ trace numberStored counted two (loadsOf ms (0 ∷ [])) → ⊥
 unfolding left trace step counted called answered fits appended starting onward writes nodes answerNodes answersTo
     number subgoalOf answerOf after following subgoalAt answerAt noSubgoal noAnswer distinct prefixes union add has
     allInits inits judged handedOn reading callable predicate compacted compactForm areTerms pairForm formTerms front
     symbolic tokenOf items entered filled lastOf tailOf into inside collected whole reads begun applied paired shapeOf
     arityOf every compact elements pairs numbered renamed met seen rank same
-loads-differ [] ms a b e = let a′ : at 1 ≡ none = a in let z : _≡_ {A = ℕ} 0 1 = cc in omega arith
-loads-differ (n ∷ ns) [] a b e = let b′ : at 2 ≡ none = b in let z : _≡_ {A = ℕ} 0 1 = cc in omega arith
-loads-differ (n ∷ ns) (m ∷ ms) a b e =
+loads-differ Open [] ms a b e = let a′ : at 1 ≡ noneYet = a in let z : _≡_ {A = ℕ} 0 1 = cc in omega arith
+loads-differ Finished [] ms a b e = let a′ : at 1 ≡ noMore = a in let z : _≡_ {A = ℕ} 0 1 = cc in omega arith
+loads-differ Open (n ∷ ns) [] a b e = let b′ : at 2 ≡ noneYet = b in let z : _≡_ {A = ℕ} 0 1 = cc in omega arith
+loads-differ Finished (n ∷ ns) [] a b e = let b′ : at 2 ≡ noMore = b in let z : _≡_ {A = ℕ} 0 1 = cc in omega arith
+loads-differ x (n ∷ ns) (m ∷ ms) a b e =
     let a′ : at 1 ≡ at n = a .0 in
     let b′ : at 2 ≡ at m = b .0 in
     let i : n ≡ 1 = cc in
@@ -86,7 +88,7 @@ unfolding left step counted called answered fits appended nodes answerNodes answ
 number-stored h =
     let k : SameAnswers numberStored counted 1 one two =
     h .rearranging _ _ exchanged .states .same-answers 1 (omega arith) (omega arith) in
-    loads-differ (k .numbers) (k .other-numbers) (k .handed) (k .other-handed) (k .loads (0 ∷ []))
+    loads-differ (k .state) (k .numbers) (k .other-numbers) (k .handed) (k .other-handed) (k .loads (0 ∷ []))
 
 -- ---- a count by the last answer
 

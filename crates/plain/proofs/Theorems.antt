@@ -20,6 +20,7 @@ use Rattle.plain.proofs.CompactCoding.{compact-laws}
 use Rattle.plain.proofs.Growth.{Grows, grows-trans, step-grows, left-grows}
 use Rattle.plain.proofs.Soundness.{Sound, sound-step, sound-left, sound-reached, keeping}
 use Rattle.plain.proofs.NextLaws.{visiting}
+use Rattle.plain.proofs.Endings.{ending}
 use Rattle.plain.proofs.JoinLaws.{join-given}
 use Rattle.plain.proofs.JoinRefusals.{join-refusing}
 
@@ -232,6 +233,7 @@ consequences c laws = record {
   refusing = refusing c;
   refusing-by = refusing-by c laws;
   visiting = visiting c;
+  ending = ending c;
   calling = calling c laws;
   answering = answering c laws;
   loading = loading c laws;

@@ -9,7 +9,9 @@ use Rattle.basis.specs.Choice.{pick}
 use Rattle.forms.specs.Numbering.{numbered}
 use Rattle.plain.specs.Words.{Word, distinct, most, brings, newcomers}
 use Rattle.plain.specs.Coding.{Coding}
-use Rattle.plain.specs.Requests.{Request, call, answer, finish, next, load, instance, join, Reply, new, oldSubgoal, oldAnswer, done, at, none, cells, used, joined, refused, short, lent, left}
+use Rattle.plain.specs.Requests.{Finished, Request, call, answer, finish, next, load, instance, join}
+use Rattle.plain.specs.Requests.{Reply, new, oldSubgoal, oldAnswer, done, at, noneYet, noMore, cells, used, joined}
+use Rattle.plain.specs.Requests.{refused, short, lacksNext, lent, left}
 use Rattle.plain.specs.Joins.{combined}
 use Rattle.plain.specs.Table.{Table, Answer, fresh, subgoalAt, answerAt, subgoalOfAnswer, answersTo, nodes, writes, entered, step}
 
@@ -34,7 +36,8 @@ Gives i (oldSubgoal n s) = n ≡ i
 Gives i (oldAnswer n) = n ≡ i
 Gives i done = ⊥
 Gives i (at n) = ⊥
-Gives i none = ⊥
+Gives i noneYet = ⊥
+Gives i noMore = ⊥
 Gives i (cells n) = ⊥
 Gives i (used n) = ⊥
 Gives i (joined n) = ⊥
@@ -48,7 +51,8 @@ RefusedBy r (oldSubgoal n s) = ⊥
 RefusedBy r (oldAnswer n) = ⊥
 RefusedBy r done = ⊥
 RefusedBy r (at n) = ⊥
-RefusedBy r none = ⊥
+RefusedBy r noneYet = ⊥
+RefusedBy r noMore = ⊥
 RefusedBy r (cells n) = ⊥
 RefusedBy r (used n) = ⊥
 RefusedBy r (joined n) = ⊥
@@ -70,9 +74,9 @@ unfoldable pub numbersOf : ℕ → ℕ → List Answer → List ℕ
 numbersOf s n [] = []
 numbersOf s n (a ∷ l) = let r = numbersOf s (suc n) l in pick (eqb (a .subgoal) s) (n ∷ r) r
 
--- next from a on gives these numbers, each from the one before, and then none
+-- next from a on gives these numbers, each from the one before, and then the word for the state
 abbrev pub Visits : Coding → Table → ℕ → ℕ → List ℕ → Type 0
-Visits c t s a [] = step c t (next s a) .reply ≡ none
+Visits c t s a [] = step c t (next s a) .reply ≡ lacksNext (subgoalAt t s .state)
 Visits c t s a (b ∷ bs) = (step c t (next s a) .reply ≡ at b) × Visits c t s b bs
 
 -- ---- tables
@@ -102,9 +106,14 @@ module _ (c : Coding) where
   abbrev pub RefusingBy : Type 0
   RefusingBy = (t : Table) (q : Request) (r : ℕ) → RefusedBy r (step c t q .reply) → Known r
 
-  -- next from 0 on gives every answer to a subgoal once, in increasing order, and then none
+  -- next from 0 on gives every answer to a subgoal once, in increasing order, and then "none yet" of an open subgoal, "no more" of a finished one
   abbrev pub Visiting : Type 0
   Visiting = (t : Table) (s : ℕ) → 0 < s → s ≤ length (t .subgoals) → Visits c t s 0 (numbersOf s 1 (t .answers))
+
+  -- "no more" is said of finished subgoals alone, and is final: next from the same answer says it again after any list of calls
+  abbrev pub Ending : Type 0
+  Ending = (t : Table) (s a : ℕ) → step c t (next s a) .reply ≡ noMore
+      → (subgoalAt t s .state ≡ Finished) × ((qs : List Request) → step c (left (step c) t qs) (next s a) .reply ≡ noMore)
 
   -- two calls give one number exactly where their terms are variants, whatever was called before and in between
   abbrev pub Calling : Type 0
@@ -161,6 +170,7 @@ pub record Consequences (c : Coding) : Type 0 where
   pub refusing : Refusing c
   pub refusing-by : RefusingBy c
   pub visiting : Visiting c
+  pub ending : Ending c
   pub calling : Calling c
   pub answering : Answering c
   pub loading : Loading c

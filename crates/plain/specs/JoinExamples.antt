@@ -10,7 +10,7 @@ use Rattle.forms.specs.Compact.{compact, elements, compactForm, filled, lastOf,
 use Rattle.forms.specs.Converting.{reading}
 use Rattle.plain.specs.Words.{has, add, union, inits, allInits, prefixes, distinct}
 use Rattle.plain.specs.Coding.{judged, handedOn, predicate, compacted, codingOf}
-use Rattle.plain.specs.Requests.{Request, call, answer, finish, next, load, counts, join, Reply, new, done, at, none, cells, used, joined, refused, trace}
+use Rattle.plain.specs.Requests.{Request, call, answer, finish, next, load, counts, join, Reply, new, done, at, noneYet, noMore, cells, used, joined, refused, trace}
 use Rattle.plain.specs.Joins.{pairsNamed, copiesNamed, named, matching, copied, along, combined, before, allRead, ground, joinOf}
 use Rattle.plain.specs.Table as table
 use Rattle.plain.specs.Table.{Table, fresh, noSubgoal, noAnswer, subgoalAt, answerAt, answersTo, answerNodes, nodes, counted, number, subgoalOf, answerOf, fits, appended, called, answered, writes, sideOf, joining, step, tableTrace}
@@ -51,8 +51,8 @@ abbrev pub Joined : Type 0
 Joined =
     (replies (fresh 24 3 7) (sources ++ (chain ∷ ends) ++ (chain ∷ chain ∷ counts ∷ load 6 (0 ∷ 0 ∷ []) ∷ []))
     ≡ sourceReplies ++ (refused 14 ∷ done ∷ done ∷ joined 2 ∷ joined 0 ∷ used (count 24 3 7) ∷ cells 2 ∷ []))
-    × (replies (fresh 24 3 7) (sources ++ ends ++ (join 1 2 [] 3 (0 ∷ 0 ∷ 1 ∷ 1 ∷ []) ∷ next 3 6 ∷ next 3 7 ∷ []))
-    ≡ sourceReplies ++ (done ∷ done ∷ joined 2 ∷ at 7 ∷ none ∷ []))
+    × (replies (fresh 24 3 7) (sources ++ ends ++ (join 1 2 [] 3 (0 ∷ 0 ∷ 1 ∷ 1 ∷ []) ∷ next 3 6 ∷ next 3 7 ∷ next 2 5 ∷ []))
+    ≡ sourceReplies ++ (done ∷ done ∷ joined 2 ∷ at 7 ∷ noneYet ∷ noMore ∷ []))
     -- first = second: each answer of q with those of q that have its second term; copied are both first terms
     × (replies (fresh 40 3 9) (sources ++ ends ++ (join 2 2 (1 ∷ 1 ∷ []) 3 (0 ∷ 0 ∷ 1 ∷ 0 ∷ []) ∷ counts ∷ []))
     ≡ sourceReplies ++ (done ∷ done ∷ joined 4 ∷ used (count 27 3 9) ∷ []))

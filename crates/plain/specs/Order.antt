@@ -11,9 +11,9 @@ use lib.Dec.{eqb}
 use lib.ListN.{length}
 use Rattle.basis.specs.Choice.{pick}
 use Rattle.plain.specs.Coding.{Coding}
-use Rattle.plain.specs.Requests.{Request, call, answer, finish, next, load, instance, counts, join}
-use Rattle.plain.specs.Requests.{Counts, Reply, new, oldSubgoal, oldAnswer, done, at, none, cells, used, joined}
-use Rattle.plain.specs.Requests.{refused, short, Result, Seen, trace, left}
+use Rattle.plain.specs.Requests.{State, Request, call, answer, finish, next, load, instance, counts, join}
+use Rattle.plain.specs.Requests.{Counts, Reply, new, oldSubgoal, oldAnswer, done, at, noneYet, noMore, cells, used, joined}
+use Rattle.plain.specs.Requests.{refused, short, lacksNext, Result, Seen, trace, left}
 use Rattle.plain.specs.Table.{Table, fresh, answersTo, counted, step}
 use Rattle.plain.specs.Consequences.{Gives, reached}
 
@@ -51,7 +51,8 @@ unnumbered (oldSubgoal n s) = oldSubgoal 0 s
 unnumbered (oldAnswer n) = oldAnswer 0
 unnumbered done = done
 unnumbered (at n) = at 0
-unnumbered none = none
+unnumbered noneYet = noneYet
+unnumbered noMore = noMore
 unnumbered (cells n) = cells 0
 unnumbered (used n) = used n
 unnumbered (joined n) = joined n
@@ -64,9 +65,9 @@ unfoldable pub compared : Request → Reply → Reply
 compared (call cs) r = r
 compared (answer s cs) r = unnumbered r
 compared (finish s) r = r
-compared (next s a) r = none
-compared (load a out) r = none
-compared (instance a out) r = none
+compared (next s a) r = done
+compared (load a out) r = done
+compared (instance a out) r = done
 compared counts r = r
 compared (join f g ps s cs) r = r
 
@@ -106,19 +107,21 @@ abbrev pub instancesOf : List ℕ → List ℕ → List Request
 instancesOf bs out = map (λ b. instance b out) bs
 
 module _ {S : Type 0} (step : S → Request → Result S) where
-  -- next on subgoal i, from answer a on, hands out these numbers, each from the one before, and then says none
-  abbrev pub HandsOut : S → ℕ → ℕ → List ℕ → Type 0
-  HandsOut s i a [] = step s (next i a) .reply ≡ none
-  HandsOut s i a (b ∷ bs) = (step s (next i a) .reply ≡ at b) × HandsOut s i b bs
+  -- next on subgoal i, from answer a on, hands out these numbers, each from the one before, and then the word for x
+  abbrev pub HandsOut : S → ℕ → State → ℕ → List ℕ → Type 0
+  HandsOut s i x a [] = step s (next i a) .reply ≡ lacksNext x
+  HandsOut s i x a (b ∷ bs) = (step s (next i a) .reply ≡ at b) × HandsOut s i x b bs
 
 module _ {S : Type 0} (step : S → Request → Result S) (count : S → Counts) where
   -- Subgoal i has the same answers in the same order: the answers that next hands out in s and those that it hands out
-  -- in t, loaded one after another into any out, show the same, cell by cell; and so their instances.
+  -- in t, loaded one after another into any out, show the same, cell by cell; and so their instances. Next ends with
+  -- the same word in both.
   pub record SameAnswers (i : ℕ) (s t : S) : Type 0 where
+    pub state : State
     pub numbers : List ℕ
-    pub handed : HandsOut step s i 0 numbers
+    pub handed : HandsOut step s i state 0 numbers
     pub other-numbers : List ℕ
-    pub other-handed : HandsOut step t i 0 other-numbers
+    pub other-handed : HandsOut step t i state 0 other-numbers
     pub loads : (out : List ℕ)
         → trace step count s (loadsOf numbers out) ≡ trace step count t (loadsOf other-numbers out)
     pub instances : (out : List ℕ)

@@ -32,12 +32,18 @@ pub data Reply : Type 0 where
   oldAnswer : ℕ → Reply
   done : Reply
   at : ℕ → Reply
-  none : Reply
+  noneYet : Reply
+  noMore : Reply
   cells : ℕ → Reply
   used : Counts → Reply
   joined : ℕ → Reply
   refused : ℕ → Reply
   short : ℕ → Reply
+
+-- what next answers where no answer is left: an open subgoal may get more, a finished one not
+abbrev pub lacksNext : State → Reply
+lacksNext Open = noneYet
+lacksNext Finished = noMore
 
 -- what a call leaves: its answer, out, and the table
 pub record Result (S : Type 0) : Type 0 where

@@ -10,8 +10,8 @@ use Rattle.plain.specs.Words.{Word, trieNodes}
 use Rattle.plain.specs.Coding.{Coding, Reading, refused, accepted, codingOf}
 use Rattle.plain.specs.Joins.{Forms, declined, formed, Side, joinOf}
 use Rattle.plain.specs.Requests.{State, Open, Finished, Request, call, answer, finish, next, load, instance, counts, join}
-use Rattle.plain.specs.Requests.{Counts, Reply, new, oldSubgoal, oldAnswer, done, at, none, cells, used, joined, refused}
-use Rattle.plain.specs.Requests.{short, Result, Seen, trace}
+use Rattle.plain.specs.Requests.{Counts, Reply, new, oldSubgoal, oldAnswer, done, at, cells, used, joined, refused}
+use Rattle.plain.specs.Requests.{short, lacksNext, Result, Seen, trace}
 
 -- ---- state
 
@@ -180,9 +180,9 @@ whileOpen t Finished r = becomes t (refused 8)
 unfoldable pub starting : Table → ℕ → ℕ → Bool
 starting t s a = pick (eqb a 0) true (pick (leb a (length (t .answers))) (eqb (subgoalOfAnswer t a) s) false)
 
--- the first answer after a
+-- the first answer after a, or by the state whether one may still come
 unfoldable pub onward : Table → ℕ → ℕ → Reply
-onward t s a = let n = following t s a in pick (eqb n 0) none (at n)
+onward t s a = let n = following t s a in pick (eqb n 0) (lacksNext (subgoalAt t s .state)) (at n)
 
 -- the cells before what was in out, or 12 with the need where out is too short
 unfoldable pub writes : Table → List ℕ → List ℕ → Result Table

@@ -12,7 +12,7 @@ use Rattle.basis.specs.Choice.{pick}
 use Rattle.basis.proofs.Cases.{by-cases}
 use Rattle.plain.specs.Words.{Word}
 use Rattle.plain.specs.Coding.{Coding, codingOf}
-use Rattle.plain.specs.Requests.{Reply, Request, next, load, instance, counts, lent, none, at, cells, refused, short}
+use Rattle.plain.specs.Requests.{Reply, Request, next, load, instance, counts, lent, State, lacksNext, at, cells, refused, short}
 use Rattle.space.specs.Layout.{Sizes, sizesOf}
 use Rattle.space.specs.Heading.{spaceHeader}
 use Rattle.space.specs.declared.Head.{Head}
@@ -21,7 +21,7 @@ use Rattle.space.specs.declared.Header.the-variants as header
 use Rattle.trie.specs.Paths.{Path, gather, longest}
 use Rattle.trie.specs.Paths as path
 use Rattle.store.specs.Views.{View, viewOf, subgoalTrie, answerTrie}
-use Rattle.store.specs.Decisions.{Decision, says, gives, refuses, soundSubgoal, soundAnswer, soundAnswerOf, soundPair, starting, handed, onward, onPath, loaded, instanced, decide}
+use Rattle.store.specs.Decisions.{Decision, says, stateOf, gives, refuses, soundSubgoal, soundAnswer, soundAnswerOf, soundPair, starting, handed, onward, onPath, loaded, instanced, decide}
 use Rattle.store.specs.Changes.{change}
 use Rattle.store.specs.Calls.{reply, under, underAny, spaceStep, Answers}
 use Rattle.store.proofs.AnswersLaws.{step-none}
@@ -39,11 +39,11 @@ module _ (P : Decision → Type 0) (refusing : (r : ℕ) → P (refuses r)) wher
   known-comes : (n s : ℕ) (d : Decision) → P d → P (pick (ltb 0 s) (pick (leb s n) d (refuses 7)) (refuses 7))
   known-comes n s d x = pick-comes (ltb 0 s) _ _ (pick-comes (leb s n) d (refuses 7) x (refusing 7)) (refusing 7)
 
-  handed-comes : (v : View) (s a : ℕ) → P (says none) → P (says (at a)) → P (handed v s a)
+  handed-comes : (v : View) (s a : ℕ) → ((x : State) → P (says (lacksNext x))) → P (says (at a)) → P (handed v s a)
   unfolding handed
-  handed-comes v s a x y = pick-comes (eqb a 0) _ _ x (sound-comes (soundAnswerOf v s a) _ y)
+  handed-comes v s a x y = pick-comes (eqb a 0) _ _ (x (stateOf (v .subgoal s .state))) (sound-comes (soundAnswerOf v s a) _ y)
 
-  onward-comes : (v : View) (s a : ℕ) → P (says none) → ((n : ℕ) → P (says (at n))) → P (onward v s a)
+  onward-comes : (v : View) (s a : ℕ) → ((x : State) → P (says (lacksNext x))) → ((n : ℕ) → P (says (at n))) → P (onward v s a)
   unfolding onward
   onward-comes v s a x y =
       sound-comes (soundSubgoal v s) _
@@ -63,7 +63,7 @@ module _ (P : Decision → Type 0) (refusing : (r : ℕ) → P (refuses r)) wher
   instanced-comes c v s d x = path-comes (gather longest (subgoalTrie v) 0 (v .subgoal s .leaf)) _ d x
 
   module _ (c : Coding) (v : View) where
-    next-comes : (s a : ℕ) → P (says none) → ((n : ℕ) → P (says (at n))) → P (decide c v (next s a))
+    next-comes : (s a : ℕ) → ((x : State) → P (says (lacksNext x))) → ((n : ℕ) → P (says (at n))) → P (decide c v (next s a))
     unfolding decide
     next-comes s a x y = known-comes (v .subgoals) s _ (pick-comes (starting v s a) _ _ (onward-comes v s a x y) (refusing 7))
 
@@ -98,7 +98,7 @@ module _ (c : Coding) (v : View) where
   counts-reads = says-reads _
 
   pub next-reads : (s a : ℕ) → Reads (decide c v (next s a))
-  next-reads s a = next-comes Reads refuses-reads c v s a (says-reads none) (λ n. says-reads (at n))
+  next-reads s a = next-comes Reads refuses-reads c v s a (λ x. says-reads (lacksNext x)) (λ n. says-reads (at n))
 
   pub load-reads : (a : ℕ) (out : List ℕ) → Reads (decide c v (load a out))
   load-reads a out = load-comes Reads refuses-reads c v a out gives-reads

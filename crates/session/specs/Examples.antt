@@ -96,7 +96,7 @@ sessionText =
     ++ letters "cells 40000012 40000021 20000004 40000031 20000004\n"
     ++ letters "done\n"
     ++ letters "refused 8\n"
-    ++ letters "none\n"
+    ++ letters "no more\n"
     ++ letters "counts 11 1 2\n"
 
 -- over a space that it fills, and an out of 7 cells

@@ -3,7 +3,7 @@ use Prim.Native.Nat.{ℕ, _+_, _*_}
 use mathlib.Core.List.{List, [], _∷_, _++_}
 use lib.ListN.{take}
 use Rattle.plain.specs.Requests.{State, Open, Finished, Counts}
-use Rattle.plain.specs.Requests.{Reply, new, oldSubgoal, oldAnswer, done, at, none, cells, used, joined, refused, short}
+use Rattle.plain.specs.Requests.{Reply, new, oldSubgoal, oldAnswer, done, at, noneYet, noMore, cells, used, joined, refused, short}
 use Rattle.text.specs.Letters.{letters}
 use Rattle.text.specs.Fields.{space, cellDigits}
 use Rattle.text.specs.Digits.{cellTexts, numbered, Puts}
@@ -26,8 +26,11 @@ textDone = letters "done"
 abbrev pub textAt : List ℕ
 textAt = letters "at"
 
-abbrev pub textNone : List ℕ
-textNone = letters "none"
+abbrev pub textNoneYet : List ℕ
+textNoneYet = letters "none yet"
+
+abbrev pub textNoMore : List ℕ
+textNoMore = letters "no more"
 
 abbrev pub textCells : List ℕ
 textCells = letters "cells"
@@ -62,7 +65,8 @@ replyText (oldSubgoal n s) out = numbered textOld n ++ (space ∷ stateText s)
 replyText (oldAnswer n) out = numbered textOld n
 replyText done out = textDone
 replyText (at n) out = numbered textAt n
-replyText none out = textNone
+replyText noneYet out = textNoneYet
+replyText noMore out = textNoMore
 replyText (cells n) out = textCells ++ cellTexts (take n out)
 replyText (used y) out = countsText (y .nodes) (y .subgoals) (y .answers)
 replyText (joined n) out = numbered textJoined n

@@ -89,14 +89,15 @@ pub fn print_finish(answer: FinishAnswer, text: &mut [u8]) -> usize
     }
 }
 
-// The number of the answer, or none where there are no more.
+// The number of the answer, or whether one may still come.
 pub fn print_next(answer: NextAnswer, text: &mut [u8]) -> usize
     requires { ⌜ replyBytes ≤ length (now text) ⌝ }
     ensures { λ r. ⌜ PrintsReply (saidNext answer) (now (text .entry)) r (now (text .exit)) ⌝ }
 {
     match answer {
         NextAnswer::At(n) => return put_numbered(b"at", n, text, 0),
-        NextAnswer::NoMore => return put(b"none", text, 0),
+        NextAnswer::NoneYet => return put(b"none yet", text, 0),
+        NextAnswer::NoMore => return put(b"no more", text, 0),
         NextAnswer::Refused(r) => return print_refused(r, text),
     }
 }

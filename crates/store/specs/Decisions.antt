@@ -10,8 +10,8 @@ use Rattle.forms.specs.Numbering.{met}
 use Rattle.plain.specs.Words.{Word, has, most}
 use Rattle.plain.specs.Coding.{Coding, Reading, refused, accepted}
 use Rattle.plain.specs.Requests.{State, Open, Finished, Request, call, answer, finish, next, load, instance, counts}
-use Rattle.plain.specs.Requests.{Counts, Reply, new, oldSubgoal, oldAnswer, done, at, none, cells, used, refused}
-use Rattle.plain.specs.Requests.{short, join}
+use Rattle.plain.specs.Requests.{Counts, Reply, new, oldSubgoal, oldAnswer, done, at, cells, used, refused}
+use Rattle.plain.specs.Requests.{short, lacksNext, join}
 use Rattle.plain.specs.Joins.{Forms, declined, formed, Side, joinOf}
 use Rattle.space.specs.Judging.{subgoalSound, answerSound}
 use Rattle.space.specs.declared.Subgoal.{Subgoal}
@@ -124,9 +124,9 @@ whileOpen Finished d = refuses 8
 unfoldable pub starting : View → ℕ → ℕ → Bool
 starting v s a = pick (eqb a 0) true (pick (leb a (v .answers)) (eqb (v .answer a .subgoal) s) false)
 
--- answer a is handed out
+-- answer a is handed out, or by the state whether one may still come
 unfoldable pub handed : View → ℕ → ℕ → Decision
-handed v s a = pick (eqb a 0) (says none) (sound (soundAnswerOf v s a) (says (at a)))
+handed v s a = pick (eqb a 0) (says (lacksNext (stateOf (v .subgoal s .state)))) (sound (soundAnswerOf v s a) (says (at a)))
 
 unfoldable pub onward : View → ℕ → ℕ → Decision
 onward v s a =

@@ -13,7 +13,7 @@ use Rattle.forms.specs.Converting.{reading}
 use Rattle.forms.specs.Compact.{areForms, legalForm}
 use Rattle.plain.specs.Coding.{judged, handedOn, predicate, compacted, substituted, codingOf}
 use Rattle.plain.specs.Requests.{Open, Finished, Request, call, answer, finish, next, load, instance, counts, Counts}
-use Rattle.plain.specs.Requests.{Reply, new, oldSubgoal, oldAnswer, done, at, none, cells, used, refused, short, Seen}
+use Rattle.plain.specs.Requests.{Reply, new, oldSubgoal, oldAnswer, done, at, cells, used, refused, short, Seen}
 use Rattle.plain.specs.Requests.{lent, trace}
 use Rattle.plain.specs.Examples.{var, atom, int, fun, count, saw, three, sessionCalls, sessionSeen, numberCalls}
 use Rattle.plain.specs.Examples.{numberReplies}

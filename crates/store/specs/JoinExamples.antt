@@ -11,7 +11,7 @@ use Rattle.forms.specs.Converting.{reading}
 use Rattle.forms.specs.Compact.{areForms, legalForm}
 use Rattle.plain.specs.Words.{has, common, most}
 use Rattle.plain.specs.Coding.{judged, handedOn, predicate, compacted, codingOf}
-use Rattle.plain.specs.Requests.{Request, call, next, load, counts, join, Reply, new, at, none, cells, used, joined, refused, lent, trace, left}
+use Rattle.plain.specs.Requests.{Request, call, next, load, counts, join, Reply, new, at, noneYet, cells, used, joined, refused, lent, trace, left}
 use Rattle.plain.specs.Joins.{pairsNamed, copiesNamed, named, matching, copied, along, combined, before, allRead, ground, joinOf}
 use Rattle.plain.specs.Examples.{atom, fun, count}
 use Rattle.plain.specs.JoinExamples.{sources, ends, chain}
@@ -40,7 +40,7 @@ filledCells n f a = left (cellStep sizes (codingOf 1)) (space n f a) (sources ++
 abbrev pub Joined : Type 0
 Joined =
     (replies (filledCells 24 3 7) (chain ∷ chain ∷ counts ∷ load 6 (0 ∷ 0 ∷ []) ∷ next 3 6 ∷ next 3 7 ∷ [])
-    ≡ joined 2 ∷ joined 0 ∷ used (count 24 3 7) ∷ cells 2 ∷ at 7 ∷ none ∷ [])
+    ≡ joined 2 ∷ joined 0 ∷ used (count 24 3 7) ∷ cells 2 ∷ at 7 ∷ noneYet ∷ [])
     × (replies (filledCells 23 3 7) (chain ∷ counts ∷ []) ≡ refused 10 ∷ used (count 21 3 5) ∷ [])
     × (replies (filledCells 24 3 6) (chain ∷ counts ∷ []) ≡ refused 11 ∷ used (count 21 3 5) ∷ [])
     × (replies (filledCells 27 3 9) (join 2 2 (1 ∷ 1 ∷ []) 3 (0 ∷ 0 ∷ 1 ∷ 0 ∷ []) ∷ counts ∷ [])

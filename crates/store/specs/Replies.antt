@@ -1,6 +1,6 @@
 -- What each answer of the code says: the number and values that the request's paper gives for each case.
 use mathlib.Core.List.{List}
-use Rattle.plain.specs.Requests.{State, Open, Finished, Counts, Reply, new, oldSubgoal, oldAnswer, done, at, none}
+use Rattle.plain.specs.Requests.{State, Open, Finished, Counts, Reply, new, oldSubgoal, oldAnswer, done, at, noneYet, noMore}
 use Rattle.plain.specs.Requests.{cells, used, joined, refused, short}
 use Rattle.forms.specs.declared.Answer.{Answer}
 use Rattle.forms.specs.declared.Answer.the-variants as converted
@@ -40,7 +40,8 @@ saidFinish (finish.Refused r) = refused r
 
 abbrev pub saidNext : NextAnswer → Reply
 saidNext (next.At n) = at n
-saidNext next.NoMore = none
+saidNext next.NoneYet = noneYet
+saidNext next.NoMore = noMore
 saidNext (next.Refused r) = refused r
 
 abbrev pub saidJoin : JoinAnswer → Reply

@@ -27,9 +27,10 @@ pub enum FinishAnswer {
     Refused(u32),
 }
 
-// What next answers: the number of the next answer, or that there is none.
+// What next answers: the number of the next answer, that none is there yet, or that no more will be.
 pub enum NextAnswer {
     At(u32),
+    NoneYet,
     NoMore,
     Refused(u32),
 }

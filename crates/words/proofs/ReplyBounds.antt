@@ -18,7 +18,7 @@ use Rattle.forms.specs.declared.Reading as forms
 use Rattle.forms.specs.declared.Reading.the-variants.{Form, Refusal}
 use Rattle.forms.proofs.RoundTrip.{legal-parts}
 use Rattle.plain.specs.Coding.{Reading, refused, accepted, handedOn, judged, predicate, compacted, substituted, codingOf}
-use Rattle.plain.specs.Requests.{State, Open, Finished, Request, call, answer, finish, next, load, instance, counts, join, lent, oldSubgoal, oldAnswer, at, none, refused}
+use Rattle.plain.specs.Requests.{State, Open, Finished, Request, call, answer, finish, next, load, instance, counts, join, lent, oldSubgoal, oldAnswer, at, lacksNext, refused}
 use Rattle.plain.specs.Words.{Word}
 use Rattle.plain.specs.Joins.{Forms, declined, formed, joinOf}
 use Rattle.plain.proofs.Changes.{Read, all-read, join-cases}
@@ -147,10 +147,14 @@ module _ (v : View) where
   small-answered-at s w (stopped parent last left) = small-answered-new s (length left) (entersAnswer s parent last left) tt
   small-answered-at s w damaged = omega arith
 
+  small-lacks : (x : State) → Small (says (lacksNext x))
+  small-lacks Open = tt
+  small-lacks Finished = tt
+
   small-handed : (s a : ℕ) → Small (handed v s a)
   unfolding handed
   small-handed s a =
-      small-either (eqb a 0) (says none) (sound (soundAnswerOf v s a) (says (at a))) tt (small-sound (says (at a)) (soundAnswerOf v s a) (λ q. tt))
+      small-either (eqb a 0) (says (lacksNext (stateOf (v .subgoal s .state)))) (sound (soundAnswerOf v s a) (says (at a))) (small-lacks (stateOf (v .subgoal s .state))) (small-sound (says (at a)) (soundAnswerOf v s a) (λ q. tt))
 
   small-onward : (s a : ℕ) → Small (onward v s a)
   unfolding onward

@@ -1,6 +1,6 @@
 -- Answers that a result word holds: their refusal's number and their count of cells are small. Every call gives such.
 use Prim.Native.Nat.{_^_, _≤_, _<_}
-use Rattle.plain.specs.Requests.{Reply, new, oldSubgoal, oldAnswer, done, at, none, cells, used, joined, refused, short}
+use Rattle.plain.specs.Requests.{Reply, new, oldSubgoal, oldAnswer, done, at, noneYet, noMore, cells, used, joined, refused, short}
 use Rattle.agreement.specs.Faults.{Fault, nothing, heading, node, subgoal, answer}
 
 abbrev pub Bounded : Reply → Type 0
@@ -12,7 +12,8 @@ Bounded (oldSubgoal n s) = Unit {0}
 Bounded (oldAnswer n) = Unit {0}
 Bounded done = Unit {0}
 Bounded (at n) = Unit {0}
-Bounded none = Unit {0}
+Bounded noneYet = Unit {0}
+Bounded noMore = Unit {0}
 Bounded (used c) = Unit {0}
 Bounded (joined n) = Unit {0}
 

@@ -2,7 +2,7 @@
 use Prim.Native.Nat.{ℕ, _+_, _*_, _^_}
 use mathlib.Core.List.{List, [], _∷_}
 use mathlib.Core.Path.{_≡_, refl}
-use Rattle.plain.specs.Requests.{Open, Finished, finish, next, new, oldSubgoal, oldAnswer, done, at, none, cells, refused, short}
+use Rattle.plain.specs.Requests.{Open, Finished, finish, next, new, oldSubgoal, oldAnswer, done, at, noneYet, noMore, cells, refused, short}
 use Rattle.basis.specs.Editions.{knownEdition}
 use Rattle.space.specs.Layout.{sizes, subgoalWidth, answerWidth}
 use Rattle.space.specs.Heading.{inRange, capacity, whole, counted, headerOf, spaceHeader}
@@ -22,13 +22,14 @@ pub words :
     × (word (oldSubgoal 5 Open) ≡ 12884901893)
     × (word (oldSubgoal 5 Finished) ≡ 17179869189)
     × (word (at 5) ≡ 21474836485)
-    × (word none ≡ 25769803776)
+    × (word noneYet ≡ 25769803776)
+    × (word noMore ≡ 38654705664)
     × (word (cells 5) ≡ 30064771077)
     -- 256 + 9, and 256 + 12 with the cells that out would need
     × (word (refused 9) ≡ 265 * 2 ^ 32)
     × (word (short 383) ≡ 268 * 2 ^ 32 + 383)
 unfolding word
-words = (refl, refl, refl, refl, refl, refl, refl, refl, refl, refl)
+words = (refl, refl, refl, refl, refl, refl, refl, refl, refl, refl, refl)
 
 pub calls :
     -- its cells are room for a space like it, and not for one with an answer more

@@ -6,7 +6,7 @@ use lib.Dec.{leb}
 use lib.ListN.{length, drop}
 use Rattle.basis.specs.Choice.{pick}
 use Rattle.plain.specs.Requests.{Open, Finished, Request, counts, Counts}
-use Rattle.plain.specs.Requests.{Reply, new, oldSubgoal, oldAnswer, done, at, none, cells, used, joined, refused, short}
+use Rattle.plain.specs.Requests.{Reply, new, oldSubgoal, oldAnswer, done, at, noneYet, noMore, cells, used, joined, refused, short}
 use Rattle.space.specs.declared.FreshAnswer.{FreshAnswer}
 use Rattle.space.specs.declared.FreshAnswer.the-variants as fresh
 use Rattle.space.specs.Fresh.{freshAnswerIn, freshSpaceIn}
@@ -25,9 +25,10 @@ word (oldAnswer n) = worded 2 n
 word (oldSubgoal n Open) = worded 3 n
 word (oldSubgoal n Finished) = worded 4 n
 word (at n) = worded 5 n
-word none = worded 6 0
+word noneYet = worded 6 0
 word (cells n) = worded 7 n
 word (used c) = worded 8 3
+word noMore = worded 9 0
 word (joined n) = worded 10 n
 word (refused r) = worded (256 + r) 0
 word (short n) = worded (256 + 12) n
@@ -57,7 +58,8 @@ counting (oldSubgoal n s) f x = x
 counting (oldAnswer n) f x = x
 counting done f x = x
 counting (at n) f x = x
-counting none f x = x
+counting noneYet f x = x
+counting noMore f x = x
 counting (cells n) f x = x
 counting (joined n) f x = x
 counting (refused r) f x = x

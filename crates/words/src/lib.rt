@@ -34,11 +34,13 @@ const OLD_FINISHED: u32 = 4;
 
 const AT: u32 = 5;
 
-const NO_MORE: u32 = 6;
+const NONE_YET: u32 = 6;
 
 const CELLS: u32 = 7;
 
 pub const COUNTS: u32 = 8;
+
+const NO_MORE: u32 = 9;
 
 const JOINED: u32 = 10;
 
@@ -127,13 +129,14 @@ pub fn finish_word(answer: FinishAnswer) -> u64
     }
 }
 
-// That there is none more is no refusal, and no answer has number 0.
+// That none is left is no refusal, and no answer has number 0.
 pub fn next_word(answer: NextAnswer) -> u64
     requires { ⌜ Bounded (saidNext answer) ⌝ }
     ensures { λ w. ⌜ w ≡ word (saidNext answer) ⌝ }
 {
     match answer {
         NextAnswer::At(n) => return result_word(AT, n),
+        NextAnswer::NoneYet => return result_word(NONE_YET, 0),
         NextAnswer::NoMore => return result_word(NO_MORE, 0),
         NextAnswer::Refused(r) => return refusal_word(r),
     }
