@@ -20,9 +20,11 @@ use Rattle.convert.specs.declared.Step.{Step}
 use Rattle.convert.specs.declared.Step.the-variants.{Done, Malformed}
 use Rattle.forms.specs.Cells.{payload, variable, constant, nil, PAIR, BLIST, ELIST, EPAIR, shapeOf, tokenOf}
 use Rattle.forms.specs.Terms.{Term, cell, arg, pair, pairs, every, applied}
+use Rattle.forms.specs.Due.{dueAfter}
 use Rattle.forms.specs.Compact.{compact, elements, Item, term, last, tail, filled, lastOf, tailOf, inside, into, collected, whole, entered, items, front}
 use Rattle.forms.proofs.ShapeLaws.{Marks, marks, constant-shape}
 use Rattle.forms.proofs.ReadLaws.{WellFormed, AllWellFormed, applied-short, applied-length, applied-every, applied-well-formed, compact-size, pairs-joins, compact-joins}
+use Rattle.forms.proofs.DueLaws.{due-after}
 use Rattle.forms.proofs.CompactLaws.{items-compact, Good, collected-good, forms}
 use Rattle.forms.proofs.FormLaws.{pairs-size, every-pairs-least}
 use Rattle.convert.specs.Loading.{inOrder, after, ordered, counted, itemsAt, Span, Unfit, FormsRan, Rest, NoRest, RestRan}
@@ -429,7 +431,7 @@ module _ (arity : ℕ → ℕ) (s : List ℕ) (limit : ℕ) where
     to-begun e = let m : Marks (shapeOf arity) (tokenOf arity) = marks arity in rw (items-cons at h, e, m .begins)
 
     -- a symbol whose number is in order, and its arguments
-    pub forms-symbol : (k due count₁ : ℕ) (r : Step) → shapeOf arity (getD s at 0) ≡ Symbol k → due ≡ k + (n - 1) → ordered count (getD s at 0 ∷ []) ≡ true → count₁ ≡ after count (getD s at 0)
+    pub forms-symbol : (k due count₁ : ℕ) (r : Step) → shapeOf arity (getD s at 0) ≡ Symbol k → due ≡ dueAfter n k → ordered count (getD s at 0 ∷ []) ≡ true → count₁ ≡ after count (getD s at 0)
         → FormsRan arity s limit (at + 1) due count₁ (set out to (getD s at 0)) (to + 1) out′ r → FormsRan arity s limit at n count out to out′ r
     unfolding pairs compact
     forms-symbol k due count₁ (Done next end count′) e d o q w =
@@ -447,19 +449,25 @@ module _ (arity : ℕ → ℕ) (s : List ℕ) (limit : ℕ) where
     forms-symbol k due count₁ Malformed e d o q (inl w) =
         let c : ℕ = getD s at 0 in
         let ts : List Term = front (itemsAt arity s (at + 1)) in
-        let w₁ : Unfit limit (to + 1) (k + (n - 1)) ts = subst (λ (x : ℕ). Unfit limit (to + 1) x ts) d w in
+        let w₁ : Unfit limit (to + 1) (k + (n - 1)) ts = subst (λ (x : ℕ). Unfit limit (to + 1) x ts) (d ∙ due-after n k some) w in
         let w₂ : Unfit limit to n (applied k (cell c) ts) = subst (λ (x : ℕ). Unfit limit to x (applied k (cell c) ts)) n-suc (unfit-symbol limit to k (n - 1) c ts (leb k (length ts)) refl w₁) in
         let q₁ : front (itemsAt arity s at) ≡ applied k (cell c) ts = ap front (to-filled k e) ∙ front-filled k (cell c) (itemsAt arity s (at + 1)) in
         inl (subst (λ (l : List Term). Unfit limit to n l) (sym q₁) w₂)
     forms-symbol k due count₁ Malformed e d o q (inr w) =
         inr (span-unordered s at (getD s at 0 ∷ []) count out to (getD s at 0 ∷ []) (set out to (getD s at 0)) (at + 1) (to + 1) (after count (getD s at 0)) (span-symbol s at count out to h o) (rw q at w))
 
-    pub forms-begin-short : (out₁ : List ℕ) → getD s at 0 ≡ BLIST → RestRan arity s (limit - (n - 1)) (at + 1) false count out to out₁ Malformed → FormsRan arity s limit at n count out to out′ Malformed
-    forms-begin-short out₁ e (inl w) =
+    begin-short : (out₁ : List ℕ) → getD s at 0 ≡ BLIST → RestRan arity s (limit - (n - 1)) (at + 1) false count out to out₁ Malformed → FormsRan arity s limit at n count out to out′ Malformed
+    begin-short out₁ e (inl w) =
         let is : List Item = itemsAt arity s (at + 1) in
         let v : Unfit limit to n (front (whole (collected is))) = subst (λ (x : ℕ). Unfit limit to x (front (whole (collected is)))) n-suc (begin-unfit limit to (n - 1) is (whole-begins (collected is)) w) in
         inl (subst (λ (l : List Item). Unfit limit to n (front l)) (sym (to-begun e)) v)
-    forms-begin-short out₁ e (inr w) = inr (span-unordered s at (BLIST ∷ []) count out to [] out (at + 1) to count (span-mark s at count out to BLIST h e refl) w)
+    begin-short out₁ e (inr w) = inr (span-unordered s at (BLIST ∷ []) count out to [] out (at + 1) to count (span-mark s at count out to BLIST h e refl) w)
+
+    -- a list is one of the terms due, and leaves room for those behind it
+    pub forms-begin-short : (out₁ : List ℕ) (due : ℕ) → due ≡ dueAfter n 0 → getD s at 0 ≡ BLIST
+        → RestRan arity s (limit - due) (at + 1) false count out to out₁ Malformed → FormsRan arity s limit at n count out to out′ Malformed
+    forms-begin-short out₁ due d e w =
+        begin-short out₁ e (subst (λ x. RestRan arity s (limit - x) (at + 1) false count out to out₁ Malformed) (d ∙ omega arith) w)
 
     -- BLIST and the rest of the list are the list's form
     list-span : (out₁ : List ℕ) (next end count₁ : ℕ) (u : Term) (form : List ℕ) → getD s at 0 ≡ BLIST → compact u ≡ BLIST ∷ form → Span s (at + 1) form count out to (pairs u) out₁ next end count₁
@@ -467,25 +475,32 @@ module _ (arity : ℕ → ℕ) (s : List ℕ) (limit : ℕ) where
     list-span out₁ next end count₁ u form e q v =
         rw q (span-append s at (BLIST ∷ []) count out to [] out (at + 1) to count form (pairs u) out₁ next end count₁ (span-mark s at count out to BLIST h e refl) v)
 
-    -- a list
-    pub forms-begin : (out₁ : List ℕ) (next end count₁ : ℕ) (r : Step) → getD s at 0 ≡ BLIST
+    begin-ran : (out₁ : List ℕ) (next end count₁ : ℕ) (r : Step) → getD s at 0 ≡ BLIST
         → RestRan arity s (limit - (n - 1)) (at + 1) false count out to out₁ (Done next end count₁)
         → FormsRan arity s limit next (n - 1) count₁ out₁ end out′ r → FormsRan arity s limit at n count out to out′ r
     unfolding every front filled
-    forms-begin out₁ next end count₁ (Done next′ end′ count′) e v w = (
+    begin-ran out₁ next end count₁ (Done next′ end′ count′) e v w = (
       v .0 ∷ w .0,
       (v .1, w .1),
       omega (arith, w .2),
       span-append s at (compact (v .0)) count out to (pairs (v .0)) out₁ next end count₁ (every compact (w .0)) (every pairs (w .0)) out′ next′ end′ count′ (list-span out₁ next end count₁ (v .0) (v .2) e (v .3 .1) (v .4)) (w .3),
       w .4,
     )
-    forms-begin out₁ next end count₁ Malformed e v (inl w) =
+    begin-ran out₁ next end count₁ Malformed e v (inl w) =
         let q = span-items at (v .0) count out to (pairs (v .0)) out₁ next end count₁ (list-span out₁ next end count₁ (v .0) (v .2) e (v .3 .1) (v .4)) (v .1) in
         let w₁ : Unfit limit (to + length (pairs (v .0))) (n - 1) (front (itemsAt arity s next)) = subst (λ (x : ℕ). Unfit limit x (n - 1) (front (itemsAt arity s next))) (v .4 .end-at) w in
         let w₂ : Unfit limit to n (v .0 ∷ front (itemsAt arity s next)) = subst (λ (x : ℕ). Unfit limit to x (v .0 ∷ front (itemsAt arity s next))) n-suc (unfit-behind limit to (n - 1) (v .0) (front (itemsAt arity s next)) w₁) in
         inl (subst (λ (l : List Item). Unfit limit to n (front l)) (sym q) w₂)
-    forms-begin out₁ next end count₁ Malformed e v (inr w) =
+    begin-ran out₁ next end count₁ Malformed e v (inr w) =
         inr (span-unordered s at (compact (v .0)) count out to (pairs (v .0)) out₁ next end count₁ (list-span out₁ next end count₁ (v .0) (v .2) e (v .3 .1) (v .4)) w)
+
+    pub forms-begin : (out₁ : List ℕ) (next end count₁ due : ℕ) (r : Step) → due ≡ dueAfter n 0 → getD s at 0 ≡ BLIST
+        → RestRan arity s (limit - due) (at + 1) false count out to out₁ (Done next end count₁)
+        → FormsRan arity s limit next due count₁ out₁ end out′ r → FormsRan arity s limit at n count out to out′ r
+    forms-begin out₁ next end count₁ due r d e v w =
+        let z : due ≡ n - 1 = d ∙ omega arith in
+        begin-ran out₁ next end count₁ r e (subst (λ x. RestRan arity s (limit - x) (at + 1) false count out to out₁ (Done next end count₁)) z v)
+        (subst (λ x. FormsRan arity s limit next x count₁ out₁ end out′ r) z w)
 
   -- ---- one term
 

@@ -18,9 +18,11 @@ use Rattle.convert.specs.declared.Step.the-variants.{Done, Malformed}
 use Rattle.forms.specs.Cells.{shapeOf, variable, nil, PAIR, BLIST, ELIST, EPAIR}
 use Rattle.forms.specs.Terms.{Term, cell, arg, pair, pairs, every, applied, paired, begun, reads}
 use Rattle.forms.specs.Numbering.{seen, met, renamed}
+use Rattle.forms.specs.Due.{dueAfter}
 use Rattle.forms.specs.Compact.{compact, elements}
 use Rattle.forms.proofs.ShapeLaws.{pair-cell-of}
 use Rattle.forms.proofs.ReadLaws.{applied-short, applied-length, applied-drop, applied-every, pairs-joins, compact-joins, compact-size, elements-size, reads-after, reads-within}
+use Rattle.forms.proofs.DueLaws.{due-after}
 use Rattle.forms.proofs.NumberingLaws.{met-length}
 use Rattle.forms.proofs.FormLaws.{met-compact, met-elements}
 use Rattle.convert.specs.Readers.{numberedFrom, Stored, termsAt, TermsRan, ListRan, elementsOf}
@@ -99,11 +101,11 @@ module _ (arity : ℕ → ℕ) (s : List ℕ) where
           rw e (few k (cell (getD s at 0)) ts (leb k (length ts)) refl w₁)
 
       -- a symbol is stored, and its arguments are due
-      pub terms-symbol : (vars₁ : List ℕ) (count₁ : ℕ) (out₁ : List ℕ) (to₁ k due : ℕ) (r : Step) → shapeOf arity (getD s at 0) ≡ Symbol k → due ≡ k + (n - 1)
+      pub terms-symbol : (vars₁ : List ℕ) (count₁ : ℕ) (out₁ : List ℕ) (to₁ k due : ℕ) (r : Step) → shapeOf arity (getD s at 0) ≡ Symbol k → due ≡ dueAfter n k
           → Stored (getD s at 0 ∷ []) vars count out to vars₁ count₁ out₁ to₁
           → TermsRan arity s (at + 1) due vars₁ count₁ out₁ to₁ vars′ out′ r → TermsRan arity s at n vars count out to vars′ out′ r
       terms-symbol vars₁ count₁ out₁ to₁ k due r e d v w =
-          symbol-ran vars₁ count₁ out₁ to₁ k (termsAt arity s (at + 1)) (n - 1) (omega arith) r (at-symbol k e) refl v (subst (λ x. TermsRan arity s (at + 1) x vars₁ count₁ out₁ to₁ vars′ out′ r) d w)
+          symbol-ran vars₁ count₁ out₁ to₁ k (termsAt arity s (at + 1)) (n - 1) (omega arith) r (at-symbol k e) refl v (subst (λ x. TermsRan arity s (at + 1) x vars₁ count₁ out₁ to₁ vars′ out′ r) (d ∙ due-after n k some) w)
 
       pair-ran : (vars₁ : List ℕ) (count₁ : ℕ) (out₁ : List ℕ) (next end : ℕ) (ts : List Term) (m : ℕ) → n ≡ suc m → (r : Step)
           → termsAt arity s at ≡ paired ts → 2 ≤ length ts → next ≡ at + 1 + length (every pairs (take 2 ts))
@@ -124,14 +126,14 @@ module _ (arity : ℕ → ℕ) (s : List ℕ) where
           )
       pair-ran vars₁ count₁ out₁ next end (x ∷ y ∷ ts) m p Malformed e g q v e″ w = let w₁ : length ts < m = rw e″ at w in rw (e, p) (omega arith)
 
-      -- a list is stored
-      pub terms-pair : (vars₁ : List ℕ) (count₁ : ℕ) (out₁ : List ℕ) (next end : ℕ) (r : Step) → shapeOf arity (getD s at 0) ≡ Pair → count ≤ length vars
+      -- a list is stored, which is one of the terms due
+      pub terms-pair : (vars₁ : List ℕ) (count₁ : ℕ) (out₁ : List ℕ) (next end due : ℕ) (r : Step) → shapeOf arity (getD s at 0) ≡ Pair → due ≡ dueAfter n 0 → count ≤ length vars
           → ListRan arity s (at + 1) vars count (set out to BLIST) (to + 1) vars₁ out₁ (Done next end count₁)
-          → TermsRan arity s next (n - 1) vars₁ count₁ out₁ end vars′ out′ r → TermsRan arity s at n vars count out to vars′ out′ r
-      terms-pair vars₁ count₁ out₁ next end r e g v w =
+          → TermsRan arity s next due vars₁ count₁ out₁ end vars′ out′ r → TermsRan arity s at n vars count out to vars′ out′ r
+      terms-pair vars₁ count₁ out₁ next end due r e d g v w =
           pair-ran vars₁ count₁ out₁ next end (termsAt arity s (at + 1)) (n - 1) (omega arith) r (at-pair e) (v .0) (v .1)
           (stored-append (BLIST ∷ []) (elementsOf (termsAt arity s (at + 1))) vars count out to vars count (set out to BLIST) (to + 1) vars₁ count₁ out₁ end (stored-cell vars count out to BLIST refl g) (v .2))
-          (at-after (at + 1) 2 next (v .0) (v .1)) w
+          (at-after (at + 1) 2 next (v .0) (v .1)) (subst (λ x. TermsRan arity s next x vars₁ count₁ out₁ end vars′ out′ r) (d ∙ omega arith) w)
 
   -- ---- the list reader
 

@@ -22,19 +22,19 @@ pub fn terms(s: &[u32], from: Place, n: usize, out: &mut [u32], edition: u32, li
         }
         let c = s[at];
         if c == forms::BLIST {
+            let behind = forms::due_after(due, 0);
             let elements = Place {
                 at: at + 1,
                 to: to,
                 count: count,
             };
-            let Step::Done(next, end, met) = list(s, elements, out, edition, limit - (due - 1))
-            else {
+            let Step::Done(next, end, met) = list(s, elements, out, edition, limit - behind) else {
                 return Step::Malformed;
             };
             at = next;
             to = end;
             count = met;
-            due -= 1;
+            due = behind;
             continue;
         }
         if forms::is_variable(c) {
@@ -45,7 +45,7 @@ pub fn terms(s: &[u32], from: Place, n: usize, out: &mut [u32], edition: u32, li
             count = met_after(c, count);
             at += 1;
             to += 1;
-            due -= 1;
+            due = forms::due_after(due, 0);
             continue;
         }
         let forms::Shape::Symbol(k) = forms::shape_of(c, edition) else {
@@ -57,7 +57,7 @@ pub fn terms(s: &[u32], from: Place, n: usize, out: &mut [u32], edition: u32, li
         out[to] = c;
         at += 1;
         to += 1;
-        due = k + (due - 1);
+        due = forms::due_after(due, k);
     }
     Step::Done(at, to, count)
 }

@@ -51,8 +51,9 @@ fn insert(out: &mut [u32], to: usize, end: usize, x: u32)
     out[i] = moved;
 }
 
-// Reads n terms from `from` on and writes their compact forms from `start` on. The places are numbers, and not one
-// struct as in the form reader: handed over in memory, an element of a list took a quarter longer.
+// Reads n terms from `from` on and writes their compact forms from `start` on. A list counts as a term without arguments,
+// since the two that its pair has are read with it. The places are numbers, and not one struct as in the form reader:
+// handed over in memory, an element of a list took a quarter longer.
 pub fn terms(
     s: &[u32],
     from: usize,
@@ -82,7 +83,7 @@ pub fn terms(
             count = known_after(r, count);
             at += 1;
             to += 1;
-            due -= 1;
+            due = forms::due_after(due, 0);
             continue;
         }
         match forms::shape_of(c, edition) {
@@ -90,7 +91,7 @@ pub fn terms(
                 out[to] = c;
                 at += 1;
                 to += 1;
-                due = k + (due - 1);
+                due = forms::due_after(due, k);
             }
             forms::Shape::Pair => {
                 out[to] = forms::BLIST;
@@ -101,7 +102,7 @@ pub fn terms(
                 at = next;
                 to = end;
                 count = met;
-                due -= 1;
+                due = forms::due_after(due, 0);
             }
             forms::Shape::Illegal => return Step::Malformed,
         }

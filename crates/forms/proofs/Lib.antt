@@ -4,6 +4,7 @@ pub mod CompactLaws
 pub mod NumberingLaws
 pub mod FormLaws
 pub mod ExactLaws
+pub mod DueLaws
 pub mod RoundTrip
 pub mod LongestForms
 pub mod Theorems

@@ -1,5 +1,6 @@
 pub mod Cells
 pub mod Terms
+pub mod Due
 pub mod Numbering
 pub mod Compact
 pub mod Converting

@@ -1,4 +1,4 @@
--- The marked terms M1 to M8 of the request; beside them one of edition 2, and what M6 leaves of out.
+-- The marked terms M1 to M8 of the request; beside them one of edition 2, what M6 leaves of out, and sums of what is due.
 use Prim.Native.Nat.{ℕ, _+_, _*_}
 use mathlib.Core.List.{List, [], _∷_, _++_}
 use mathlib.Core.Path.{_≡_, refl}
@@ -6,6 +6,7 @@ use lib.ListN.{length, replicate}
 use Rattle.forms.specs.declared.Answer.{Answer}
 use Rattle.forms.specs.declared.Answer.the-variants.{Cells, Refused, Short}
 use Rattle.forms.specs.Cells.{tag, nil, PAIR, BLIST, ELIST, EPAIR, shapeOf, symbolic, tokenOf, arityOf}
+use Rattle.forms.specs.Due.{arguments, dueOf}
 use Rattle.forms.specs.Terms.{Term, pairs, every, applied, paired, begun, reads, areTerms}
 use Rattle.forms.specs.Numbering.{rank, seen, met, renamed, numbered}
 use Rattle.forms.specs.Compact.{compact, elements, compactForm, filled, lastOf, tailOf, inside, into, collected}
@@ -103,3 +104,31 @@ unfolding written reading loading fittingForm fittingTerms compacting expanding 
     collected whole reads begun applied paired shapeOf arityOf every compact elements pairs numbered renamed met seen
     rank same
 marked-out = (refl, refl, refl, refl)
+
+-- ---- what is due
+
+-- the sum before each of the cells, and after the last
+unfoldable pub dues : (ℕ → ℕ) → ℕ → List ℕ → List ℕ
+dues arity due [] = due ∷ []
+dues arity due (c ∷ cs) = due ∷ dues arity (dueOf arity due (c ∷ [])) cs
+
+abbrev pub MarkedDue : Type 0
+MarkedDue =
+    -- f(a,[b|X])
+    (dues (arityOf 1) 1 (fun 1 2 ∷ tag 2 1 ∷ PAIR ∷ tag 2 2 ∷ var 0 ∷ []) ≡ 1 ∷ 2 ∷ 1 ∷ 2 ∷ 1 ∷ 0 ∷ [])
+    -- two terms, [1|2] and X
+    × (dues (arityOf 1) 2 (PAIR ∷ int 1 ∷ int 2 ∷ var 0 ∷ []) ≡ 2 ∷ 3 ∷ 2 ∷ 1 ∷ 0 ∷ [])
+    -- no terms, no cells
+    × (dues (arityOf 1) 0 [] ≡ 0 ∷ [])
+    -- an argument is missing, or a second term: the sum ends above 0
+    × (dues (arityOf 1) 1 (fun 1 2 ∷ tag 2 1 ∷ []) ≡ 1 ∷ 2 ∷ 1 ∷ [])
+    × (dues (arityOf 1) 2 (PAIR ∷ int 1 ∷ int 2 ∷ []) ≡ 2 ∷ 3 ∷ 2 ∷ 1 ∷ [])
+    -- a cell is left over: the sum is 0 before it
+    × (dues (arityOf 1) 1 (tag 2 1 ∷ int 1 ∷ []) ≡ 1 ∷ 0 ∷ 0 ∷ [])
+    -- a functor of 40 arguments in edition 2
+    × (dueOf (arityOf 2) 1 (tag 4 (3 * 256 + 40) ∷ []) ≡ 40)
+    × (dueOf (arityOf 2) 1 (wideTerm 7 9) ≡ 0)
+
+pub marked-due : MarkedDue
+unfolding dues dueOf arguments shapeOf arityOf
+marked-due = (refl, refl, refl, refl, refl, refl, refl, refl)

@@ -1,7 +1,9 @@
 // What a cell stands for, in pair form and in compact form, and what readers and converters answer.
 ghost use mathlib.Core.Path.{_≡_};
+ghost use Prim.Native.Nat.{_+_, _^_, _≤_, _<_};
 ghost use Rattle.forms.specs.Cells.{shapeOf, arityOf, payload, variable, constant, callable};
 ghost use Rattle.forms.specs.Converting.{converterEdition};
+ghost use Rattle.forms.specs.Due.{arguments, dueAfter};
 
 // What a cell of pair form stands for: a symbol that takes some arguments (a variable, an atom and
 // an integer take none), a pair, or nothing legal.
@@ -139,4 +141,24 @@ pub fn shape_of(c: u32, edition: u32) -> Shape
         return Shape::Symbol(0);
     }
     Shape::Illegal
+}
+
+// The arity of a cell of pair form: how many terms follow it in the term that it begins.
+pub fn arguments_of(c: u32, edition: u32) -> usize
+    ensures { λ r. ⌜ (r ≡ arguments (shapeOf (arityOf edition) c)) × (r ≤ 255) ⌝ }
+{
+    match shape_of(c, edition) {
+        Shape::Symbol(k) => k,
+        Shape::Pair => 2,
+        Shape::Illegal => 0,
+    }
+}
+
+// How many terms are due behind a cell of this arity, where `due` were before it; 0 means that the last has ended.
+// Whatever counts the terms still due counts here.
+pub fn due_after(due: usize, arity: usize) -> usize
+    requires { ⌜ (0 < due) × (due + arity < 2 ^ 32) ⌝ }
+    ensures { λ r. ⌜ r ≡ dueAfter due arity ⌝ }
+{
+    due + arity - 1
 }

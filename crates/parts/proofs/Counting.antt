@@ -12,11 +12,12 @@ use Rattle.basis.proofs.Cases.{by-cases}
 use Rattle.forms.specs.declared.Shape.{Shape}
 use Rattle.forms.specs.declared.Shape.the-variants.{Symbol}
 use Rattle.forms.specs.Cells.{nil, BLIST, ELIST, EPAIR, shapeOf}
+use Rattle.forms.specs.Due.{arguments}
 use Rattle.forms.specs.Terms.{Term, cell, arg, pair, pairs, every}
 use Rattle.forms.specs.Compact.{compact, elements}
 use Rattle.forms.proofs.ReadLaws.{WellFormed, AllWellFormed}
 use Rattle.convert.proofs.CopyLaws.{take-grow}
-use Rattle.parts.specs.Segments.{argumentsOf, takes, solid, weight, weights, allTake, Countable, CountsTo}
+use Rattle.parts.specs.Segments.{takes, solid, weight, weights, allTake, Countable, CountsTo}
 
 module _ (arity : ℕ → ℕ) where
   -- ---- tokens one behind another
@@ -46,7 +47,7 @@ module _ (arity : ℕ → ℕ) where
   symbol-weight c k e = by-cases (eqb c ELIST) (λ p. rw p) (λ p. rw (p, e))
 
   pub symbol-takes : (c k : ℕ) → shapeOf arity c ≡ Symbol k → takes arity c ≡ k
-  unfolding argumentsOf
+  unfolding arguments
   symbol-takes c k e = rw e
 
   -- what is none
@@ -72,21 +73,21 @@ module _ (arity : ℕ → ℕ) where
   Listed e w cells = cells + allTake arity w + weights arity e + 1 ≡ weights arity w + allTake arity e
 
   listed-cell : (c : ℕ) (e : List ℕ) (b : Bool) → shapeOf arity c ≡ Symbol 0 → Listed e (pick b (ELIST ∷ e) (e ++ (EPAIR ∷ c ∷ []))) 1
-  unfolding weights allTake weight shapeOf argumentsOf solid
+  unfolding weights allTake weight shapeOf arguments solid
   listed-cell c e true s = omega arith
   listed-cell c e false s =
       omega (arith, weights-append e (EPAIR ∷ c ∷ []), take-append e (EPAIR ∷ c ∷ []), symbol-weight c 0 s, symbol-takes c 0 s)
 
   -- a tail behind EPAIR, and one whose elements go on
   listed-tail : (e w : List ℕ) (cells : ℕ) → Counted w 0 cells → Listed e (e ++ (EPAIR ∷ w)) cells
-  unfolding weights allTake weight shapeOf argumentsOf solid
+  unfolding weights allTake weight shapeOf arguments solid
   listed-tail e w cells p = omega (arith, weights-append e (EPAIR ∷ w), take-append e (EPAIR ∷ w))
 
   listed-more : (e h w : List ℕ) (cells others : ℕ) → Counted h 0 cells → Listed h w others → Listed e (e ++ w) (suc (cells + others))
   listed-more e h w cells others p q = omega (arith, weights-append e w, take-append e w)
 
   listed-whole : (h w : List ℕ) (k cells others : ℕ) → k ≡ 0 → Counted h 0 cells → Listed h w others → Counted (BLIST ∷ w) k (suc (cells + others))
-  unfolding weights allTake weight shapeOf argumentsOf solid
+  unfolding weights allTake weight shapeOf arguments solid
   listed-whole h w k cells others z p q = omega arith
 
   mutual

@@ -13,13 +13,14 @@ use Rattle.basis.specs.Choice.{pick}
 use Rattle.basis.proofs.Cases.{by-cases}
 use Rattle.forms.specs.declared.Shape.the-variants.{Symbol, Illegal}
 use Rattle.forms.specs.Cells.{nil, BLIST, ELIST, EPAIR, shapeOf}
+use Rattle.forms.specs.Due.{arguments, dueAfter}
 use Rattle.forms.specs.Terms.{Term, cell, arg, pair, pairs, every}
 use Rattle.forms.specs.Compact.{compact, elements, formTerms}
 use Rattle.forms.proofs.ReadLaws.{WellFormed, AllWellFormed}
 use Rattle.forms.proofs.FormLaws.{pairs-size}
 use Rattle.plain.specs.Words.{Word}
 use Rattle.parts.specs.Parts.{startOf, GroundForm}
-use Rattle.parts.specs.Segments.{closing, argumentsOf, takes}
+use Rattle.parts.specs.Segments.{closing, takes}
 use Rattle.parts.proofs.GroundForms.{all-well, form-ground, form-count, form-tokens}
 
 -- ---- the pass
@@ -44,15 +45,15 @@ Sound (c ∷ cs) depth = (closing c ≡ true → 0 < depth) × Sound cs (depthAf
 
 module _ (arity : ℕ → ℕ) where
   -- the arguments due after a token, where one was due at least; within a list none is taken
-  unfoldable pub dueAfter : ℕ → ℕ → ℕ → ℕ
-  dueAfter c due depth = pick (eqb c BLIST) due (pick (closing c) due (pick (isNone depth) (takes arity c + less due) due))
+  unfoldable pub dueAfterToken : ℕ → ℕ → ℕ → ℕ
+  dueAfterToken c due depth = pick (eqb c BLIST) due (pick (closing c) due (pick (isNone depth) (dueAfter due (takes arity c)) due))
 
   -- the places at which a term begins: those where nothing is due
   unfoldable pub begins : List ℕ → ℕ → ℕ → ℕ → List ℕ
   begins [] at due depth = []
   begins (c ∷ cs) at due depth =
-      pick (isNone due) (at ∷ begins cs (suc at) (dueAfter c 1 depth) (depthAfter c depth))
-      (begins cs (suc at) (dueAfter c due depth) (depthAfter c depth))
+      pick (isNone due) (at ∷ begins cs (suc at) (dueAfterToken c 1 depth) (depthAfter c depth))
+      (begins cs (suc at) (dueAfterToken c due depth) (depthAfter c depth))
 
   -- ---- one token
 
@@ -72,8 +73,8 @@ module _ (arity : ℕ → ℕ) where
       never : (x : ℕ) → c ≡ x → shapeOf arity x ≡ Illegal → ⊥
       never x p q = let d : shapeOf arity c ≡ Illegal = ap (shapeOf arity) p ∙ q in let z : _≡_ {A = ℕ} 0 1 = cc in omega arith
 
-  symbol-due : (c k due depth : ℕ) → shapeOf arity c ≡ Symbol k → dueAfter c (suc due) depth ≡ passed k due depth
-  unfolding dueAfter argumentsOf
+  symbol-due : (c k due depth : ℕ) → shapeOf arity c ≡ Symbol k → dueAfterToken c (suc due) depth ≡ passed k due depth
+  unfolding dueAfterToken arguments
   symbol-due c k due zero e = let s = symbol-closing c k e in rw (s .0, s .1, e) (omega arith)
   symbol-due c k due (suc depth) e = let s = symbol-closing c k e in rw (s .0, s .1)
 
@@ -108,11 +109,11 @@ module _ (arity : ℕ → ℕ) where
       → begins (w ++ r) at (suc due) (suc depth) ≡ begins r (at + length w) (passed 0 due depth) depth
 
   closes-last : (e : List ℕ) → Passes e 0 → Closes (ELIST ∷ e)
-  unfolding begins dueAfter depthAfter closing
+  unfolding begins dueAfterToken depthAfter closing
   closes-last e p at due depth r = p (suc at) due depth r ∙ rw (suc-add, add-suc)
 
   closes-tail : (e w : List ℕ) → Passes e 0 → Passes w 0 → Closes (e ++ (EPAIR ∷ w))
-  unfolding begins dueAfter depthAfter closing
+  unfolding begins dueAfterToken depthAfter closing
   closes-tail e w p q at due depth r =
       rw (append-assoc e (EPAIR ∷ w) r, p at due (suc depth) ((EPAIR ∷ w) ++ r), q (suc (at + length e)) due depth r, length-append e (EPAIR ∷ w), suc-add)
       (ap (λ (i : ℕ). begins r i (passed 0 due depth) depth) (omega arith))
@@ -126,7 +127,7 @@ module _ (arity : ℕ → ℕ) where
   closes-cell c e false s p = closes-tail e (c ∷ []) p (passes-cell c 0 s)
 
   passes-list : (w : List ℕ) (k : ℕ) → k ≡ 0 → Closes w → Passes (BLIST ∷ w) k
-  unfolding begins dueAfter depthAfter
+  unfolding begins dueAfterToken depthAfter
   passes-list w k z q at due depth r = rw z (q (suc at) due depth r ∙ rw (suc-add, add-suc))
 
   mutual

@@ -12,12 +12,13 @@ use borrow.Author.Tests.{ltb-true, ltb-false, eq-eqb, ne-eqb}
 use Rattle.basis.specs.Choice.{pick}
 use Rattle.basis.proofs.Cases.{by-cases}
 use Rattle.forms.specs.Cells.{BLIST, arityOf}
+use Rattle.forms.specs.Due.{dueAfter}
 use Rattle.plain.specs.Coding.{compactCoding}
 use Rattle.plain.proofs.CompactCoding.{compact-laws}
 use Rattle.parts.specs.Parts.{startOf, GroundForm, InHand}
 use Rattle.parts.specs.Segments.{closing, takes}
 use Rattle.parts.specs.Hands.{Takeable, Taken}
-use Rattle.parts.proofs.Scanning.{isNone, less, depthAfter, Sound, dueAfter, begins, begins-here, begins-count, begins-at, form-sound, start-last}
+use Rattle.parts.proofs.Scanning.{isNone, less, depthAfter, Sound, dueAfterToken, begins, begins-here, begins-count, begins-at, form-sound, start-last}
 
 less-sub : (n : ℕ) → less n ≡ n - 1
 less-sub zero = refl
@@ -26,41 +27,41 @@ less-sub (suc n) = omega arith
 -- ---- a token
 
 module _ (arity : ℕ → ℕ) (c due depth : ℕ) where
-  begins-step : (cs : List ℕ) (at : ℕ) → 0 < due → begins arity (c ∷ cs) at due depth ≡ begins arity cs (suc at) (dueAfter arity c due depth) (depthAfter c depth)
+  begins-step : (cs : List ℕ) (at : ℕ) → 0 < due → begins arity (c ∷ cs) at due depth ≡ begins arity cs (suc at) (dueAfterToken arity c due depth) (depthAfter c depth)
   begins-step cs at h = go due h
     where
-      go : (d : ℕ) → 0 < d → begins arity (c ∷ cs) at d depth ≡ begins arity cs (suc at) (dueAfter arity c d depth) (depthAfter c depth)
+      go : (d : ℕ) → 0 < d → begins arity (c ∷ cs) at d depth ≡ begins arity cs (suc at) (dueAfterToken arity c d depth) (depthAfter c depth)
       go zero h = absurd (omega arith)
       go (suc d) h = unfold begins in refl
 
   -- the token's effect on both counts
   pub record Counts (due′ depth′ : ℕ) : Type 0 where
-    pub dues : due′ ≡ dueAfter arity c due depth
+    pub dues : due′ ≡ dueAfterToken arity c due depth
     pub depths : depth′ ≡ depthAfter c depth
 
   pub opens : c ≡ BLIST → Counts due (depth + 1)
-  unfolding dueAfter depthAfter
+  unfolding dueAfterToken depthAfter
   opens e = record { dues = rw (eq-eqb c BLIST e); depths = rw (eq-eqb c BLIST e) (add-one depth) }
 
   module _ (n : c ≡ BLIST → ⊥) where
     pub shuts : closing c ≡ true → Counts due (depth - 1)
-    unfolding dueAfter depthAfter
+    unfolding dueAfterToken depthAfter
     shuts s = record { dues = rw (ne-eqb c BLIST n, s); depths = rw (ne-eqb c BLIST n, s) (sym (less-sub depth)) }
 
     pub passes : closing c ≡ false → 0 < depth → Counts due depth
-    unfolding dueAfter depthAfter
+    unfolding dueAfterToken depthAfter
     passes s h = record { dues = rw (ne-eqb c BLIST n, s) (inner depth h); depths = rw (ne-eqb c BLIST n, s) }
       where
-        inner : (d : ℕ) → 0 < d → due ≡ pick (isNone d) (takes arity c + less due) due
+        inner : (d : ℕ) → 0 < d → due ≡ pick (isNone d) (dueAfter due (takes arity c)) due
         inner zero h = absurd (omega arith)
         inner (suc d) h = refl
 
-    pub counts : closing c ≡ false → depth ≤ 0 → (k : ℕ) → k ≡ takes arity c → Counts (k + (due - 1)) depth
-    unfolding dueAfter depthAfter
-    counts s h k e = record { dues = rw (ne-eqb c BLIST n, s) (inner depth h); depths = rw (ne-eqb c BLIST n, s) }
+    pub counts : closing c ≡ false → depth ≤ 0 → (k due′ : ℕ) → k ≡ takes arity c → due′ ≡ dueAfter due k → Counts due′ depth
+    unfolding dueAfterToken depthAfter
+    counts s h k due′ e d = record { dues = rw (ne-eqb c BLIST n, s) (d ∙ inner depth h); depths = rw (ne-eqb c BLIST n, s) }
       where
-        inner : (d : ℕ) → d ≤ 0 → k + (due - 1) ≡ pick (isNone d) (takes arity c + less due) due
-        inner zero h = omega (arith, less-sub due)
+        inner : (d : ℕ) → d ≤ 0 → dueAfter due k ≡ pick (isNone d) (dueAfter due (takes arity c)) due
+        inner zero h = rw e
         inner (suc d) h = absurd (omega arith)
 
 -- ---- the form
@@ -176,7 +177,7 @@ module _ (e m : ℕ) (form held₀ held : List ℕ) (at begun due depth : ℕ) (
       rest =
           ap (λ (j : ℕ). begins (arityOf e) (drop j form) j due′ depth′) (add-one at)
           ∙ ap (λ (d : ℕ). begins (arityOf e) (drop (suc at) form) (suc at) d depth′) (n .dues)
-          ∙ ap (λ (d : ℕ). begins (arityOf e) (drop (suc at) form) (suc at) (dueAfter (arityOf e) c due depth) d) (n .depths)
+          ∙ ap (λ (d : ℕ). begins (arityOf e) (drop (suc at) form) (suc at) (dueAfterToken (arityOf e) c due depth) d) (n .depths)
           ∙ sym (begins-step (arityOf e) c due depth (drop (suc at) form) at some)
           ∙ ap (λ (l′ : List ℕ). begins (arityOf e) l′ at due depth) (sym (drop-cons form at 0 h)) ∙ t .rest;
       sound = subst (λ (j : ℕ). Sound (drop j form) depth′) (sym (add-one at)) (subst (λ (d : ℕ). Sound (drop (suc at) form) d) (sym (n .depths)) (whole .1));

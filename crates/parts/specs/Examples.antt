@@ -5,6 +5,7 @@ use mathlib.Core.List.{List, [], _∷_, _++_, map}
 use mathlib.Core.Path.{_≡_, refl}
 use lib.ListN.{length, replicate}
 use Rattle.forms.specs.Cells.{tag, BLIST, ELIST, EPAIR, arityOf, shapeOf, symbolic, tokenOf}
+use Rattle.forms.specs.Due.{arguments}
 use Rattle.forms.specs.Terms.{pairs, every}
 use Rattle.forms.specs.Numbering.{rank, seen, met, renamed, numbered}
 use Rattle.forms.specs.Compact.{compact, elements, filled, lastOf, tailOf, inside, into, collected, whole, entered}
@@ -12,7 +13,7 @@ use Rattle.forms.specs.Compact.{items, front, formTerms, pairForm, same, areFor
 use Rattle.plain.specs.Words.{Word}
 use Rattle.plain.specs.Joins.{Terms, declined, formed, matching, copied}
 use Rattle.parts.specs.Parts.{parts, startOf, allFit, fitted}
-use Rattle.parts.specs.Segments.{segment, argumentsOf, solid, weight, weights, allTake}
+use Rattle.parts.specs.Segments.{segment, solid, weight, weights, allTake}
 
 abbrev int : ℕ → ℕ
 int n = tag 3 n
@@ -66,7 +67,7 @@ Counted =
     × (length (pairForm (arityOf 1) form) ≡ 18)
 
 pub counted : Counted
-unfolding weights allTake weight argumentsOf solid arityOf shapeOf symbolic tokenOf every pairs compact elements
+unfolding weights allTake weight arguments solid arityOf shapeOf symbolic tokenOf every pairs compact elements
     filled lastOf tailOf inside into collected whole entered items front formTerms pairForm
 counted = (refl, refl, refl)
 

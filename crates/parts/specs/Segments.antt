@@ -10,6 +10,7 @@ use Rattle.basis.specs.Choice.{pick}
 use Rattle.forms.specs.declared.Shape.{Shape}
 use Rattle.forms.specs.declared.Shape.the-variants.{Symbol, Pair, Illegal}
 use Rattle.forms.specs.Cells.{ELIST, EPAIR, shapeOf}
+use Rattle.forms.specs.Due.{arguments}
 
 -- ---- the tokens of one term
 
@@ -36,14 +37,9 @@ segment held i = slice (from held i) (until held i) held
 unfoldable pub closing : ℕ → Bool
 closing c = pick (eqb c ELIST) true (eqb c EPAIR)
 
--- the arguments that a symbol takes
-unfoldable pub argumentsOf : Shape → ℕ
-argumentsOf (Symbol k) = k
-argumentsOf Pair = 0
-argumentsOf Illegal = 0
-
+-- the arguments that a symbol takes; a mark takes none, and there is no pair among tokens
 abbrev pub takes : (ℕ → ℕ) → ℕ → ℕ
-takes arity c = argumentsOf (shapeOf arity c)
+takes arity c = arguments (shapeOf arity c)
 
 -- whether a token stands for cells of its own: a symbol for itself and for the pair before it, ELIST for [] and the
 -- pair before the last element

@@ -68,7 +68,7 @@ pub fn take_in_hand(form: &[u32], m: usize, held: &mut [u32], edition: u32)
         if 0 < depth {
             continue;
         }
-        due = tokens::arguments(c, edition) + (due - 1);
+        due = forms::due_after(due, forms::arguments_of(c, edition));
     }
     held[m] = (HANDED + at) as u32;
 }

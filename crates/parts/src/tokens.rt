@@ -3,7 +3,7 @@ ghost use mathlib.Core.Path.{_≡_};
 ghost use Prim.Native.Nat.{_≤_};
 ghost use lib.ListN.{take};
 ghost use Rattle.forms.specs.Cells.{arityOf};
-ghost use Rattle.parts.specs.Segments.{closing, takes, weight, Countable, CountsTo};
+ghost use Rattle.parts.specs.Segments.{closing, weight, Countable, CountsTo};
 
 // Whether a token is ELIST or EPAIR, behind which stands what a list ends in.
 pub fn closes(c: u32) -> bool
@@ -13,17 +13,6 @@ pub fn closes(c: u32) -> bool
         return true;
     }
     c == forms::EPAIR
-}
-
-// How many arguments a token takes: none, unless it is a functor.
-pub fn arguments(c: u32, edition: u32) -> usize
-    ensures { λ r. ⌜ (r ≡ takes (arityOf edition) c) × (r ≤ 255) ⌝ }
-{
-    match forms::shape_of(c, edition) {
-        forms::Shape::Symbol(k) => return k,
-        forms::Shape::Pair => return 0,
-        forms::Shape::Illegal => return 0,
-    }
 }
 
 // Twice one for a symbol and for ELIST.
@@ -47,12 +36,12 @@ pub fn cells_of(form: &[u32], n: usize, k: usize, edition: u32) -> usize
 {
     let mut at = 0;
     let mut cells = 0;
-    let mut due = k;
+    let mut taken = k;
     while at < n {
         let c = form[at];
         cells += weight_of(c, edition);
-        due += arguments(c, edition);
+        taken += forms::arguments_of(c, edition);
         at += 1;
     }
-    cells - due
+    cells - taken
 }

@@ -7,17 +7,9 @@ use mathlib.Core.Path.{_≡_}
 use lib.ListN.{length, take, getD}
 use lib.Seq.{sets, slice}
 use Rattle.basis.specs.Choice.{pick}
-use Rattle.forms.specs.declared.Shape.{Shape}
-use Rattle.forms.specs.declared.Shape.the-variants.{Symbol, Pair, Illegal}
 use Rattle.forms.specs.Cells.{payload, variable, arityOf}
 use Rattle.forms.specs.Terms.{Term, pairs, every}
 use Rattle.convert.specs.Readers.{termsAt}
-
--- how many terms follow a cell of this shape in the term that it begins
-unfoldable pub arguments : Shape → ℕ
-arguments (Symbol k) = k
-arguments Pair = 2
-arguments Illegal = 0
 
 -- each of the first m terms starts at its place, and the place after the last is where it ends
 abbrev pub StartsAt : List Term → ℕ → List ℕ → Type 0

@@ -8,7 +8,6 @@ use Rattle.parts.proofs.take_in_hand.Statement.{statement}
 use Rattle.parts.proofs.take_in_hand.Tie as tie
 use Rattle.parts.proofs.take_in_hand.Reads as reads
 use Rattle.parts.proofs.take_in_hand.Lts as lts
-use Rattle.parts.proofs.tokens.arguments.Reads as arguments-reads
 use Rattle.parts.proofs.tokens.closes.Reads as closes-reads
 
 abbrev Inv-loop : tie.InvT-loop
@@ -86,20 +85,17 @@ loop-less-4 c = search needs
 loop-again-4 : tie.Need-loop-again-4 Inv-loop μ-loop
 loop-again-4 c = taking-token _ _ _ _ _ _ _ _ _ (c .before .before .before .before .before .before .before .loop .inv) (c .before .before .before .before .before .before .loop-test .taken) _ _ (search needs) (passes _ _ _ _ (c .before .before .before .if2 .left) (sym (c .before .before .closes .ensures) ∙ c .before .if3 .left) (c .if4 .taken)) (search needs) (search needs)
 
-arguments-requires : tie.Need-arguments-requires Inv-loop μ-loop
-arguments-requires c κs = search needs
+arguments-of-requires : tie.Need-arguments-of-requires Inv-loop μ-loop
+arguments-of-requires c κs = search needs
 
-sub-due : tie.Need-sub-due Inv-loop μ-loop
-sub-due c = search needs
-
-add-due : tie.Need-add-due Inv-loop μ-loop
-add-due c = search needs
+due-after-requires : tie.Need-due-after-requires Inv-loop μ-loop
+due-after-requires c κs = search needs
 
 loop-less-5 : tie.Need-loop-less-5 Inv-loop μ-loop
 loop-less-5 c = search needs
 
 loop-again-5 : tie.Need-loop-again-5 Inv-loop μ-loop
-loop-again-5 c = taking-token _ _ _ _ _ _ _ _ _ (c .before .before .before .before .before .before .before .before .loop .inv) (c .before .before .before .before .before .before .before .loop-test .taken) _ _ (search needs) (counts _ _ _ _ (c .before .before .before .before .if2 .left) (sym (c .before .before .before .closes .ensures) ∙ c .before .before .if3 .left) (c .before .if4 .left) _ (c .arguments .ensures .0)) (search needs) (search needs)
+loop-again-5 c = taking-token _ _ _ _ _ _ _ _ _ (c .before .before .before .before .before .before .before .before .before .loop .inv) (c .before .before .before .before .before .before .before .before .loop-test .taken) _ _ (search needs) (counts _ _ _ _ (c .before .before .before .before .before .if2 .left) (sym (c .before .before .before .before .closes .ensures) ∙ c .before .before .before .if3 .left) (c .before .before .if4 .left) _ _ (c .before .arguments-of .ensures .0) (c .due-after .ensures)) (search needs) (search needs)
 
 add-held-3 : tie.Need-add-held-3 Inv-loop μ-loop
 add-held-3 c = search needs
@@ -148,9 +144,8 @@ take-in-hand-spec =
     loop-again-3
     loop-less-4
     loop-again-4
-    arguments-requires
-    sub-due
-    add-due
+    arguments-of-requires
+    due-after-requires
     loop-less-5
     loop-again-5
     add-held-3

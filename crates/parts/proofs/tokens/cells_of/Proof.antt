@@ -11,16 +11,15 @@ use Rattle.parts.proofs.tokens.cells_of.Statement.{statement}
 use Rattle.parts.proofs.tokens.cells_of.Tie as tie
 use Rattle.parts.proofs.tokens.cells_of.Reads as reads
 use Rattle.parts.proofs.tokens.cells_of.Lts as lts
-use Rattle.parts.proofs.tokens.arguments.Reads as arguments-reads
 use Rattle.parts.proofs.tokens.weight_of.Reads as weight-of-reads
 
 abbrev Inv-loop : tie.InvT-loop
-Inv-loop form n k edition at₀ cells₀ due₀ at cells due =
-    (at ≤ n) × (cells ≡ weights (arityOf edition) (take at form)) × (due ≡ allTake (arityOf edition) (take at form) + k)
-    × (cells ≤ 2 * at) × (due ≤ 383 + 255 * at)
+Inv-loop form n k edition at₀ cells₀ taken₀ at cells taken =
+    (at ≤ n) × (cells ≡ weights (arityOf edition) (take at form)) × (taken ≡ allTake (arityOf edition) (take at form) + k)
+    × (cells ≤ 2 * at) × (taken ≤ 383 + 255 * at)
 
 abbrev μ-loop : tie.MeasureT-loop
-μ-loop form n k edition at₀ cells₀ due₀ at cells due = n - at
+μ-loop form n k edition at₀ cells₀ taken₀ at cells taken = n - at
 
 loop-holds : tie.Need-loop-holds Inv-loop μ-loop
 unfolding weights allTake
@@ -38,11 +37,11 @@ weight-of-requires c κs = search needs
 add-cells : tie.Need-add-cells Inv-loop μ-loop
 add-cells c = search needs
 
-arguments-requires : tie.Need-arguments-requires Inv-loop μ-loop
-arguments-requires c κs = search needs
+arguments-of-requires : tie.Need-arguments-of-requires Inv-loop μ-loop
+arguments-of-requires c κs = search needs
 
-add-due : tie.Need-add-due Inv-loop μ-loop
-add-due c = search needs
+add-taken : tie.Need-add-taken Inv-loop μ-loop
+add-taken c = search needs
 
 add-at : tie.Need-add-at Inv-loop μ-loop
 add-at c = search needs
@@ -57,9 +56,9 @@ loop-again c =
     let at = c .before .before .before .before .loop .at in (
       omega arith,
       omega (arith, weights-grow (arityOf edition) form at (omega arith), c .before .weight-of .ensures),
-      omega (arith, take-grow-one (arityOf edition) form at (omega arith), c .arguments .ensures),
+      omega (arith, take-grow-one (arityOf edition) form at (omega arith), c .arguments-of .ensures),
       omega (arith, c .before .weight-of .ensures),
-      omega (arith, c .arguments .ensures),
+      omega (arith, c .arguments-of .ensures),
     )
 
 sub-result : tie.Need-sub-result Inv-loop μ-loop
@@ -79,8 +78,8 @@ cells-of-spec =
     shared-slice-read-c
     weight-of-requires
     add-cells
-    arguments-requires
-    add-due
+    arguments-of-requires
+    add-taken
     add-at
     loop-less
     loop-again
