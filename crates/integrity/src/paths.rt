@@ -7,9 +7,8 @@ use convert::buffers::TERMS_OF_FEW;
 use convert::buffers::TERMS_OF_MOST;
 use convert::buffers::TERMS_OF_SOME;
 use convert::load_counted;
-use convert::load_terms;
-use forms::Loading;
 use forms::is_callable;
+use reads::paths::is_legal_with;
 use trie::End;
 use trie::Gathered;
 use trie::Short;
@@ -25,18 +24,6 @@ ghost use Rattle.plain.specs.Coding.{predicate};
 ghost use Rattle.trie.specs.Runs.{Ends, pathTo};
 ghost use Rattle.agreement.specs.Whole.{pathPasses};
 ghost use Rattle.integrity.specs.Tests.{calledForm, formWhole};
-
-// Is this the form of m legal terms? The buffer is long enough for them.
-fn is_legal_with(form: &[u32], m: usize, cells: &mut [u32], edition: u32) -> bool
-    requires { ⌜ RoomForTerms (now form) (now cells) ⌝ }
-    ensures { λ r. ⌜ r ≡ legalForm (arityOf edition) m (now (form .entry)) ⌝ }
-{
-    let loaded = load_terms(form, m, cells, edition);
-    match loaded {
-        Loading::Terms(_) => return true,
-        Loading::NoForm => return false,
-    }
-}
 
 // Does the form begin with an atom or a functor?
 fn begins(form: &[u32]) -> bool

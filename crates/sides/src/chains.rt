@@ -7,9 +7,8 @@ use convert::buffers::SOME_TOKENS;
 use convert::buffers::TERMS_OF_FEW;
 use convert::buffers::TERMS_OF_MOST;
 use convert::buffers::TERMS_OF_SOME;
-use convert::load_terms;
-use forms::Loading;
 use parts::is_ground;
+use reads::paths::is_legal_with;
 use space::AnswerRead;
 use space::Head;
 use space::Subgoal;
@@ -26,7 +25,6 @@ ghost use mathlib.Core.Bool.{_&&_};
 ghost use Prim.Native.Nat.{_≤_};
 ghost use Rattle.forms.specs.Cells.{arityOf};
 ghost use Rattle.forms.specs.Compact.{legalForm};
-ghost use Rattle.convert.specs.Holds.{RoomForTerms};
 ghost use Rattle.trie.specs.Paths.{tokens};
 ghost use Rattle.trie.specs.Runs.{Ends, pathTo};
 ghost use Rattle.store.specs.Contracts.{Held};
@@ -39,18 +37,6 @@ fn both(a: bool, b: bool) -> bool
         return b;
     }
     false
-}
-
-// Is this the form of m legal terms? The buffer is long enough for them.
-fn is_legal_with(form: &[u32], m: usize, cells: &mut [u32], edition: u32) -> bool
-    requires { ⌜ RoomForTerms (now form) (now cells) ⌝ }
-    ensures { λ r. ⌜ r ≡ legalForm (arityOf edition) m (now (form .entry)) ⌝ }
-{
-    let loaded = load_terms(form, m, cells, edition);
-    match loaded {
-        Loading::Terms(_) => return true,
-        Loading::NoForm => return false,
-    }
 }
 
 // The same with a buffer of its own. Short forms get short ones.

@@ -1,9 +1,9 @@
--- `sides::chains::is_legal_with` meets its contract.
+-- `reads::paths::is_legal_with` meets its contract.
 use Rattle.reads.proofs.ReadsForms.{form-loaded, form-refused}
 use Rattle.basis.proofs.Tests.{told}
 use borrow.Author.Needs.{needs}
-use Rattle.sides.proofs.chains.is_legal_with.Statement.{statement}
-use Rattle.sides.proofs.chains.is_legal_with.Tie as tie
+use Rattle.reads.proofs.paths.is_legal_with.Statement.{statement}
+use Rattle.reads.proofs.paths.is_legal_with.Tie as tie
 
 load-terms-requires : tie.Need-load-terms-requires
 load-terms-requires c κs = search needs
