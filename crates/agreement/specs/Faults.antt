@@ -1,6 +1,6 @@
--- What is broken in a space that does not pass: the first thing that the check meets, in its own order: the header; then
--- the nodes, the subgoals and the answers by number, each as Whole.antt tests it; then the chains, where the first answer
--- is named that they leave out.
+-- What is broken in a space that does not pass: the first thing that the check meets, in its own order: the header;
+-- then the nodes, the subgoals and the answers by number, each as Whole.antt tests it; then the chains, where the
+-- first answer is named that they leave out.
 use Prim.Native.Nat.{ℕ, zero, suc, _<_, _≤_}
 use mathlib.Core.Bool.{Bool, true, false, _||_}
 use mathlib.Core.List.{List, [], _∷_}

@@ -1,5 +1,5 @@
--- What the contracts of the calls come to together: calls made one after another, each meeting its contract, show what the
--- plain table shows. A reader of the code needs nothing else of `spaceStep`.
+-- What the contracts of the calls come to together: calls made one after another, each meeting its contract, show
+-- what the plain table shows. A reader of the code needs nothing else of `spaceStep`.
 use Prim.Native.Nat.{ℕ}
 use mathlib.Core.List.{List, [], _∷_, map}
 use mathlib.Core.Path.{_≡_}

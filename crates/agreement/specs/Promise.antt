@@ -13,8 +13,8 @@ use Rattle.space.specs.declared.FreshAnswer.the-variants.{Done}
 use Rattle.store.specs.Calls.{cellStep, spaceStep, countedCells}
 
 -- A library keeps the promise: for every N, F and A, every content of a space for which fresh answers done, and every
--- list of calls with all that is lent to them, after each call the same answer with its numbers, the same refusal (12 with
--- its need), the same three counts and the same cells of out as on the plain table.
+-- list of calls with all that is lent to them, after each call the same answer with its numbers, the same refusal (12
+-- with its need), the same three counts and the same cells of out as on the plain table.
 abbrev pub Kept : Sizes → Coding → (List ℕ → Request → Result (List ℕ)) → Type 0
 Kept z c step =
     (n f a : ℕ) (s : List ℕ) (qs : List Request) → freshAnswer z n f a s ≡ Done

@@ -14,7 +14,8 @@ use Rattle.space.specs.declared.Answer.{Answer}
 use Rattle.trie.specs.Append.{newRoot, withPath}
 use Rattle.store.specs.Views.{View}
 use Rattle.store.specs.Changes.{newSubgoal}
-use Rattle.store.specs.Decisions.{Decision, says, gives, entersSubgoal, entersAnswer, entersEmpty, finishes, entersAnswers}
+use Rattle.store.specs.Decisions.{Decision, says, gives, entersSubgoal, entersAnswer, entersEmpty, finishes}
+use Rattle.store.specs.Decisions.{entersAnswers}
 
 -- a record has at least the cells of edition 1
 pub record Wide (z : Sizes) : Type 0 where
@@ -58,7 +59,14 @@ withState g x = record { leaf = g .leaf; root = g .root; variables = g .variable
 
 -- a is its last answer, and its first where it had none
 abbrev pub withLast : Subgoal → ℕ → Subgoal
-withLast g a = record { leaf = g .leaf; root = g .root; variables = g .variables; state = g .state; first = pick (eqb (g .last) 0) a (g .first); last = a }
+withLast g a = record {
+  leaf = g .leaf;
+  root = g .root;
+  variables = g .variables;
+  state = g .state;
+  first = pick (eqb (g .last) 0) a (g .first);
+  last = a;
+}
 
 abbrev pub withNext : Answer → ℕ → Answer
 withNext y a = record { leaf = y .leaf; subgoal = y .subgoal; next = a }
@@ -100,16 +108,20 @@ withNewAnswer v path nodes s leaf =
       answers = a;
       node = updated path leaf (withLink (path leaf) a);
       subgoal = updated (v .subgoal) s (withLast (v .subgoal s) a);
-      answer = updated (pick (eqb before 0) (v .answer) (updated (v .answer) before (withNext (v .answer before) a))) a (record { leaf = leaf; subgoal = s; next = 0 });
+      answer = updated (pick (eqb before 0) (v .answer)
+          (updated (v .answer) before (withNext (v .answer before) a))) a
+          (record { leaf = leaf; subgoal = s; next = 0 });
     }
 
--- what a decision that fits makes of them; none that enters answers one after another does: it is taken answer by answer
+-- what a decision that fits makes of them; none that enters answers one after another does: it is taken answer by
+-- answer
 unfoldable pub changedView : View → Decision → View
 changedView v (says r) = v
 changedView v (gives ks) = v
 changedView v (entersSubgoal parent last left m) = withNewSubgoal v parent last left m
 changedView v (entersAnswer s parent last left) =
-    withNewAnswer v (withPath (v .node) (v .nodes) parent last left) (v .nodes + length left) s (v .nodes + length left - 1)
+    withNewAnswer v (withPath (v .node) (v .nodes) parent last left) (v .nodes + length left) s
+    (v .nodes + length left - 1)
 changedView v (entersEmpty s) = withNewAnswer v (v .node) (v .nodes) s (v .subgoal s .root)
 changedView v (finishes s) = record {
   N = v .N;
@@ -128,9 +140,12 @@ changedView v (entersAnswers s ws) = v
 pub data Fits (v : View) : Decision → Type 0 where
   says-fits : (r : Reply) → Fits v (says r)
   gives-fits : (ks : List ℕ) → Fits v (gives ks)
-  subgoal-fits : (parent last : ℕ) (left : Word) (m : ℕ) → parent < v .nodes → last < v .nodes → 1 ≤ length left → v .nodes + length left + 1 ≤ v .N → v .subgoals < v .F
+  subgoal-fits : (parent last : ℕ) (left : Word) (m : ℕ) → parent < v .nodes → last < v .nodes → 1 ≤ length left
+      → v .nodes + length left + 1 ≤ v .N → v .subgoals < v .F
       → Fits v (entersSubgoal parent last left m)
-  answer-fits : (s parent last : ℕ) (left : Word) → 1 ≤ s → s ≤ v .subgoals → v .subgoal s .last ≤ v .answers → parent < v .nodes → last < v .nodes → 1 ≤ length left → v .nodes + length left ≤ v .N → v .answers < v .A
+  answer-fits : (s parent last : ℕ) (left : Word) → 1 ≤ s → s ≤ v .subgoals → v .subgoal s .last ≤ v .answers
+      → parent < v .nodes → last < v .nodes → 1 ≤ length left → v .nodes + length left ≤ v .N → v .answers < v .A
       → Fits v (entersAnswer s parent last left)
-  empty-fits : (s : ℕ) → 1 ≤ s → s ≤ v .subgoals → v .subgoal s .last ≤ v .answers → v .subgoal s .root < v .nodes → v .answers < v .A → Fits v (entersEmpty s)
+  empty-fits : (s : ℕ) → 1 ≤ s → s ≤ v .subgoals → v .subgoal s .last ≤ v .answers → v .subgoal s .root < v .nodes
+      → v .answers < v .A → Fits v (entersEmpty s)
   finish-fits : (s : ℕ) → 1 ≤ s → s ≤ v .subgoals → Fits v (finishes s)

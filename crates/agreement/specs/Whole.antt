@@ -1,4 +1,5 @@
--- A check of a whole space: whether its records are those of some table, and which. What a call judges is what it reads; this reads all.
+-- A check of a whole space: whether its records are those of some table, and which. What a call judges is what it
+-- reads; this reads all.
 use Prim.Native.Nat.{ℕ, zero, suc, _+_, _-_}
 use mathlib.Core.Bool.{Bool, true, false, not, _&&_, _||_}
 use mathlib.Core.List.{List, [], _∷_, _++_}
@@ -51,7 +52,12 @@ module _ (v : View) where
   answerPath a = gather longest (answerTrie v) (v .subgoal (v .answer a .subgoal) .root) (v .answer a .leaf)
 
   abbrev pub subgoalRead : ℕ → Subgoal
-  subgoalRead s = record { form = wordOf (subgoalPath s); m = v .subgoal s .variables; state = stateOf (v .subgoal s .state) }
+  subgoalRead s = record {
+    form = wordOf (subgoalPath s);
+    m = v .subgoal s .variables;
+    state = stateOf
+        (v .subgoal s .state);
+  }
 
   abbrev pub answerRead : ℕ → Answer
   answerRead a = record { subgoal = v .answer a .subgoal; form = wordOf (answerPath a) }
@@ -94,9 +100,11 @@ module _ (c : Coding) (v : View) where
   unfoldable pub rootWhole : ℕ → Bool
   rootWhole i =
       let s = v .node (i - 1) .link in
-      eqb (v .node i .token) 0 && eqb (v .node i .sibling) 0 && (eqb i 0 || (ltb 0 s && leb s (v .subgoals) && eqb (v .subgoal s .root) i))
+      eqb (v .node i .token) 0 && eqb (v .node i .sibling) 0
+      && (eqb i 0 || (ltb 0 s && leb s (v .subgoals) && eqb (v .subgoal s .root) i))
 
-  -- its next sibling has the same parent; the search among its parent's children for its token finds it; and it is a leaf, or has children
+  -- its next sibling has the same parent; the search among its parent's children for its token finds it; and it is a
+  -- leaf, or has children
   unfoldable pub childWhole : ℕ → Bool
   childWhole i =
       pick (eqb (v .node i .sibling) 0) true (eqb (parent (v .node i .sibling)) (parent i))
@@ -146,7 +154,8 @@ module _ (c : Coding) (v : View) where
       && ltb (y .leaf) (v .nodes)
       && eqb (v .node (y .leaf) .link) a
       && pathPasses (answerPath v a) (λ w. c .legal (v .subgoal (y .subgoal) .variables) w)
-      && pick (eqb (y .next) 0) true (ltb a (y .next) && leb (y .next) (v .answers) && eqb (owner (y .next)) (y .subgoal))
+      && pick (eqb (y .next) 0) true
+      (ltb a (y .next) && leb (y .next) (v .answers) && eqb (owner (y .next)) (y .subgoal))
 
   -- the answers from a on, each by the one before, at most so many
   unfoldable pub chain : ℕ → ℕ → List ℕ
@@ -205,28 +214,35 @@ editionOf cs = getD cs 0 0
 
 -- ---- what the test is worth
 
--- what it asks of a coding besides the laws: a called form begins with an atom or a functor, and what is legal can be read again
+-- what it asks of a coding besides the laws: a called form begins with an atom or a functor, and what is legal can be
+-- read again
 pub record ReadingAgain (c : Coding) : Type 0 where
   pub called-begins : (ks : List ℕ) (w : Word) (m : ℕ) → c .called ks ≡ accepted w m → predicate w ≡ true
-  pub legal-called : (w : Word) → c .legal 1 w ≡ true → predicate w ≡ true → c .called (c .expand w) ≡ accepted w (length (met [] w))
+  pub legal-called : (w : Word) → c .legal 1 w ≡ true → predicate w ≡ true
+      → c .called (c .expand w) ≡ accepted w (length (met [] w))
   pub legal-answered : (m : ℕ) (w : Word) → c .legal m w ≡ true → (n : ℕ) × (c .answered m (c .expand w) ≡ accepted w n)
 
 -- of one edition, for a library
 module _ (z : Sizes) (c : Coding) (library : List ℕ → Request → Result (List ℕ)) where
-  -- (a) every space that calls leave of a fresh one passes, and says the table that the same calls leave of a fresh table
+  -- (a) every space that calls leave of a fresh one passes, and says the table that the same calls leave of a fresh
+  -- table
   abbrev pub WholePasses : Type 0
   WholePasses = (n f a : ℕ) (s : List ℕ) (qs : List Request) → freshAnswer z n f a s ≡ Done
-      → (let cs = left library (freshSpace z n f a s) qs in (wholeCells z c cs ≡ true) × (tableCells z cs ≡ left (step c) (fresh n f a) qs))
+      → (let cs = left library (freshSpace z n f a s) qs in (wholeCells z c cs ≡ true)
+      × (tableCells z cs ≡ left (step c) (fresh n f a) qs))
 
-  -- (b) every space that passes, whoever wrote it, answers every list of calls as the table does that it says: after each call the same
-  -- answer with its numbers, the same refusal, the same counts and the same cells of out. So it is never refused by 1 or 9.
+  -- (b) every space that passes, whoever wrote it, answers every list of calls as the table does that it says: after
+  -- each call the same answer with its numbers, the same refusal, the same counts and the same cells of out. So it is
+  -- never refused by 1 or 9.
   abbrev pub WholeAnswers : Type 0
-  WholeAnswers = (cs : List ℕ) (qs : List Request) → wholeCells z c cs ≡ true → trace library countedCells cs qs ≡ tableTrace c (tableCells z cs) qs
+  WholeAnswers = (cs : List ℕ) (qs : List Request) → wholeCells z c cs ≡ true
+      → trace library countedCells cs qs ≡ tableTrace c (tableCells z cs) qs
 
   -- and what the calls leave passes again, and says the table that they leave of that table
   abbrev pub WholeLasts : Type 0
   WholeLasts = (cs : List ℕ) (qs : List Request) → wholeCells z c cs ≡ true
-      → (let ds = left library cs qs in (wholeCells z c ds ≡ true) × (tableCells z ds ≡ left (step c) (tableCells z cs) qs))
+      → (let ds = left library cs qs in (wholeCells z c ds ≡ true)
+      × (tableCells z ds ≡ left (step c) (tableCells z cs) qs))
 
   -- all of it
   pub record Checking : Type 0 where
@@ -241,12 +257,14 @@ SpacePasses = (e n f a : ℕ) (s : List ℕ) (qs : List Request) → freshAnswer
     (wholeSpace cs ≡ true) × (tableOf cs ≡ left (step (codingOf e)) (fresh n f a) qs) × (editionOf cs ≡ e))
 
 abbrev pub SpaceAnswers : Type 0
-SpaceAnswers = (cs : List ℕ) (qs : List Request) → wholeSpace cs ≡ true → trace spaceStep countedCells cs qs ≡ tableTrace (codingOf (editionOf cs)) (tableOf cs) qs
+SpaceAnswers = (cs : List ℕ) (qs : List Request) → wholeSpace cs ≡ true
+    → trace spaceStep countedCells cs qs ≡ tableTrace (codingOf (editionOf cs)) (tableOf cs) qs
 
 abbrev pub SpaceLasts : Type 0
 SpaceLasts = (cs : List ℕ) (qs : List Request) → wholeSpace cs ≡ true
     → (let ds = left spaceStep cs qs in
-    (wholeSpace ds ≡ true) × (tableOf ds ≡ left (step (codingOf (editionOf cs))) (tableOf cs) qs) × (editionOf ds ≡ editionOf cs))
+    (wholeSpace ds ≡ true) × (tableOf ds ≡ left (step (codingOf (editionOf cs))) (tableOf cs) qs)
+    × (editionOf ds ≡ editionOf cs))
 
 -- all of it
 pub record SpaceChecking : Type 0 where

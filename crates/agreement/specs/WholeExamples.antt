@@ -1,5 +1,5 @@
--- The check on small spaces: one that calls leave, some that are damaged, two of them where no call refuses, and one with its nodes numbered
--- otherwise.
+-- The check on small spaces: one that calls leave, some that are damaged, two of them where no call refuses, and one
+-- with its nodes numbered otherwise.
 use mathlib.Core.Bool.{true, false}
 use mathlib.Core.List.{List, [], _∷_, map}
 use mathlib.Core.Path.{_≡_, refl}
@@ -9,7 +9,8 @@ use Rattle.basis.specs.Editions.{knownEdition}
 use Rattle.forms.specs.Cells.{arityOf, callable, shapeOf, symbolic, tokenOf}
 use Rattle.forms.specs.Terms.{pairs, every, applied, paired, begun, reads, areTerms}
 use Rattle.forms.specs.Numbering.{rank, seen, met, renamed, numbered}
-use Rattle.forms.specs.Compact.{compact, elements, compactForm, filled, lastOf, tailOf, inside, into, collected, entered, items, front, formTerms, pairForm, same, areForms, legalForm}
+use Rattle.forms.specs.Compact.{compact, elements, compactForm, filled, lastOf, tailOf, inside, into, collected}
+use Rattle.forms.specs.Compact.{entered, items, front, formTerms, pairForm, same, areForms, legalForm}
 use Rattle.forms.specs.Converting.{reading}
 use Rattle.plain.specs.Coding.{judged, handedOn, predicate, compacted}
 use Rattle.plain.specs.Requests.{Request, answer, next, Reply, new, at, noneYet, lent, trace}
@@ -24,7 +25,9 @@ use Rattle.trie.specs.Append.{leadCell, appendNode, appendPath}
 use Rattle.store.specs.Decisions.{answeredNew, answeredOld, answeredAt, answered, starting, handed, onward, decide}
 use Rattle.store.specs.Changes.{answerEntered, change}
 use Rattle.store.specs.Calls.{reply, outAfter, under, underAny, spaceStep, countedCells}
-use Rattle.agreement.specs.Whole.{everyBelow, upTo, rootWhole, childWhole, linkWhole, nodeWhole, endsWhole, subgoalWhole, answerWhole, chain, chains, wholeView, wholeUnder, wholeAny, wholeSpace}
+use Rattle.agreement.specs.Whole.{everyBelow, upTo, rootWhole, childWhole, linkWhole, nodeWhole, endsWhole}
+use Rattle.agreement.specs.Whole.{subgoalWhole, answerWhole, chain, chains, wholeView, wholeUnder, wholeAny}
+use Rattle.agreement.specs.Whole.{wholeSpace}
 use Rattle.agreement.specs.Faults as faults
 use Rattle.agreement.specs.Faults.{nothing, heading, firstFailing, among, chained, faultIn, faultUnder, faultOf}
 
@@ -81,7 +84,8 @@ skipping =
     ∷ 5 ∷ 1 ∷ 3
     ∷ 6 ∷ 1 ∷ 0 ∷ []
 
--- as of edition e, with this functor: in edition 2 fun 1 1 has 17 arguments, and fun 16 1 has one as in edition 1; there is no edition 3
+-- as of edition e, with this functor: in edition 2 fun 1 1 has 17 arguments, and fun 16 1 has one as in edition 1;
+-- there is no edition 3
 abbrev inEdition : ℕ → ℕ → List ℕ
 inEdition e p = set (set sample 0 e) 13 p
 
@@ -107,7 +111,14 @@ Checked =
     × (wholeSpace (inEdition 3 (fun 16 1)) ≡ false)
 
 pub checked : Checked
-unfolding upTo wholeSpace wholeAny wholeUnder wholeView chains chain answerWhole subgoalWhole endsWhole nodeWhole linkWhole childWhole rootWhole everyBelow trace lent inRange capacity counted knownEdition headerOf spaceHeader subgoalWidth answerWidth follows nodeSound bothOrNeither subgoalSound answerSound searchSiblings searchChildren walkFrom walk gather leadCell appendNode appendPath answeredNew answeredOld answeredAt answered starting handed onward decide answerEntered change reply outAfter under underAny spaceStep areForms legalForm judged handedOn reading callable predicate compacted compactForm areTerms pairForm formTerms front symbolic tokenOf items entered filled lastOf tailOf into inside collected reads begun applied paired shapeOf arityOf every compact elements pairs numbered renamed met seen rank same whole
+unfolding upTo wholeSpace wholeAny wholeUnder wholeView chains chain answerWhole subgoalWhole endsWhole nodeWhole
+    linkWhole childWhole rootWhole everyBelow trace lent inRange capacity counted knownEdition headerOf spaceHeader
+    subgoalWidth answerWidth follows nodeSound bothOrNeither subgoalSound answerSound searchSiblings searchChildren
+    walkFrom walk gather leadCell appendNode appendPath answeredNew answeredOld answeredAt answered starting handed
+    onward decide answerEntered change reply outAfter under underAny spaceStep areForms legalForm judged handedOn
+    reading callable predicate compacted compactForm areTerms pairForm formTerms front symbolic tokenOf items entered
+    filled lastOf tailOf into inside collected reads begun applied paired shapeOf arityOf every compact elements pairs
+    numbered renamed met seen rank same whole
 checked = (refl, refl, refl, refl, refl, refl, refl, refl, refl, refl, refl, refl, refl, refl)
 
 -- what is broken in them
@@ -125,5 +136,12 @@ FirstBroken =
     × (faultOf (inEdition 3 (fun 16 1)) ≡ heading)
 
 pub first-broken : FirstBroken
-unfolding faultOf faultUnder faultIn firstFailing chained among wholeSpace wholeAny wholeUnder wholeView chains chain answerWhole subgoalWhole endsWhole nodeWhole linkWhole childWhole rootWhole everyBelow trace lent inRange capacity counted knownEdition headerOf spaceHeader subgoalWidth answerWidth follows nodeSound bothOrNeither subgoalSound answerSound searchSiblings searchChildren walkFrom walk gather leadCell appendNode appendPath answeredNew answeredOld answeredAt answered starting handed onward decide answerEntered change reply outAfter under underAny spaceStep areForms legalForm judged handedOn reading callable predicate compacted compactForm areTerms pairForm formTerms front symbolic tokenOf items entered filled lastOf tailOf into inside collected reads begun applied paired shapeOf arityOf every compact elements pairs numbered renamed met seen rank same whole
+unfolding faultOf faultUnder faultIn firstFailing chained among wholeSpace wholeAny wholeUnder wholeView chains chain
+    answerWhole subgoalWhole endsWhole nodeWhole linkWhole childWhole rootWhole everyBelow trace lent inRange capacity
+    counted knownEdition headerOf spaceHeader subgoalWidth answerWidth follows nodeSound bothOrNeither subgoalSound
+    answerSound searchSiblings searchChildren walkFrom walk gather leadCell appendNode appendPath answeredNew
+    answeredOld answeredAt answered starting handed onward decide answerEntered change reply outAfter under underAny
+    spaceStep areForms legalForm judged handedOn reading callable predicate compacted compactForm areTerms pairForm
+    formTerms front symbolic tokenOf items entered filled lastOf tailOf into inside collected reads begun applied
+    paired shapeOf arityOf every compact elements pairs numbered renamed met seen rank same whole
 first-broken = (refl, refl, refl, refl, refl, refl, refl, refl, refl, refl)

@@ -54,7 +54,8 @@ pub record Span (s : List ℕ) (at : ℕ) (form : List ℕ) (count : ℕ) (out :
 abbrev pub Unfit : (limit to n : ℕ) → List Term → Type 0
 Unfit limit to n ts = n ≤ length ts → limit < to + length (every pairs (take n ts))
 
--- n terms were read, and their pair forms are written within the limit; or they do not fit, or variables are out of order
+-- n terms were read, and their pair forms are written within the limit; or they do not fit, or variables are out of
+-- order
 abbrev pub FormsRan : (ℕ → ℕ) → List ℕ → ℕ → ℕ → ℕ → ℕ → List ℕ → ℕ → List ℕ → Step → Type 0
 FormsRan arity s limit at n count out to out′ (Done next end count′) =
     (ts : List Term)

@@ -1,4 +1,5 @@
--- The marked terms M1 to M8 of the request; beside them one of edition 2, what M6 leaves of out, and sums of what is due.
+-- The marked terms M1 to M8 of the request; beside them one of edition 2, what M6 leaves of out, and sums of what is
+-- due.
 use Prim.Native.Nat.{ℕ, _+_, _*_}
 use mathlib.Core.List.{List, [], _∷_, _++_}
 use mathlib.Core.Path.{_≡_, refl}
@@ -11,7 +12,8 @@ use Rattle.forms.specs.Terms.{Term, pairs, every, applied, paired, begun
 use Rattle.forms.specs.Numbering.{rank, seen, met, renamed, numbered}
 use Rattle.forms.specs.Compact.{compact, elements, compactForm, filled, lastOf, tailOf, inside, into, collected}
 use Rattle.forms.specs.Compact.{whole, entered, items, front, formTerms, pairForm, same, areForms, legalForm}
-use Rattle.forms.specs.Converting.{reading, loading, fitting, fittingForm, fittingTerms, compacting, expanding, written}
+use Rattle.forms.specs.Converting.{reading, loading, fitting, fittingForm, fittingTerms, compacting, expanding}
+use Rattle.forms.specs.Converting.{written}
 
 abbrev var : ℕ → ℕ
 var = tag 1

@@ -40,7 +40,8 @@ beginning x = record { outer = x .first .first; inner = 0 }
 -- in order of the first, then of the second
 abbrev pub allForms : List ℕ → Sides → List ℕ → List ℕ → List Word
 allForms cs x ps ks =
-    combined ps ks (partsFrom cs (x .h) (x .first) (x .first .first)) (partsFrom cs (x .h) (x .second) (x .second .first))
+    combined ps ks (partsFrom cs (x .h) (x .first) (x .first .first))
+    (partsFrom cs (x .h) (x .second) (x .second .first))
 
 -- what is known of a join before it begins
 pub record Ready (cs : List ℕ) (x : Sides) (ps ks : List ℕ) : Type 0 where
@@ -68,7 +69,8 @@ added y m = record {
 -- the sums of the forms, unless one does not fit
 abbrev pub CountedOf : View → ℕ → (ℕ → ℕ) → List Word → Counted → Type 0
 CountedOf v s arity ws (counted.Sums y) =
-    (allFit arity ws ≡ true) × (y .sound ≡ allSound v s ws) × (y .missing ≡ sumMissing v s ws) × (y .lacking ≡ sumLacking v s ws)
+    (allFit arity ws ≡ true) × (y .sound ≡ allSound v s ws) × (y .missing ≡ sumMissing v s ws)
+    × (y .lacking ≡ sumLacking v s ws)
 CountedOf v s arity ws counted.TooLong = allFit arity ws ≡ false
 
 -- for whichever target has this answer root

@@ -51,7 +51,8 @@ pub record SourceIn (cs : List ℕ) (h : Head) (x : Source) : Type 0 where
 -- from answer a on its answers are sound, and no form of them holds a variable
 pub record Remains (cs : List ℕ) (h : Head) (x : Source) (a : ℕ) : Type 0 where
   pub within : a ≤ h .answers
-  pub sound : chainFrom (codingOf (h .edition)) (viewIn cs h) (x .number) (h .answers) a ≡ unbroken (formsFrom cs h (x .number) a)
+  pub sound : chainFrom (codingOf (h .edition)) (viewIn cs h) (x .number) (h .answers) a
+      ≡ unbroken (formsFrom cs h (x .number) a)
   pub ground : AllGround (arityOf (h .edition)) (x .variables) (formsFrom cs h (x .number) a)
 
 -- ---- answers in hand
@@ -85,7 +86,8 @@ Gathers cs e cells cells′ k =
 -- the path to an end is the form of m terms without variables, and there is room for it
 abbrev pub Takeable : List ℕ → End → ℕ → List ℕ → ℕ → Type 0
 Takeable cs e m held edition =
-    Ends cs e × ((w : Word) × (pathTo cs e ≡ tokens w) × GroundForm (arityOf edition) m w) × (m ≤ 32) × (hand ≤ length held)
+    Ends cs e × ((w : Word) × (pathTo cs e ≡ tokens w) × GroundForm (arityOf edition) m w) × (m ≤ 32)
+    × (hand ≤ length held)
 
 -- it is in hand afterwards
 abbrev pub Takes : List ℕ → End → ℕ → List ℕ → List ℕ → ℕ → Type 0
@@ -106,7 +108,8 @@ TakesFirst cs x leaf hands hands′ =
 
 abbrev pub SecondTakeable : List ℕ → Sides → ℕ → List ℕ → Type 0
 SecondTakeable cs x leaf hands =
-    (twoHands ≤ length hands) × Takeable cs (endOf (x .h) (x .second) leaf) (x .second .variables) (drop hand hands) (x .h .edition)
+    (twoHands ≤ length hands)
+    × Takeable cs (endOf (x .h) (x .second) leaf) (x .second .variables) (drop hand hands) (x .h .edition)
 
 -- the first hand stays
 abbrev pub TakesSecond : List ℕ → Sides → ℕ → List ℕ → List ℕ → Type 0
@@ -142,7 +145,8 @@ pub record Known (cs : List ℕ) (x : Sides) (ps ks : List ℕ) : Type 0 where
 -- the first's answer is in hand where one of the second is to be compared with it
 pub record Compared (cs : List ℕ) (x : Sides) (inner : ℕ) (hands form : List ℕ) : Type 0 where
   pub rest : Remains cs (x .h) (x .second) inner
-  pub held : 0 < inner → InHand (arityOf (x .h .edition)) (x .first .variables) (formIn (x .first .variables) hands) hands
+  pub held : 0 < inner → InHand (arityOf (x .h .edition)) (x .first .variables)
+      (formIn (x .first .variables) hands) hands
   pub hands-room : length hands ≡ twoHands
   pub form-room : length form ≡ mostTokens
 
@@ -159,7 +163,8 @@ partsFrom cs h x a = map (parts (arityOf (h .edition))) (formsFrom cs h (x .numb
 -- with the answer in hand
 abbrev pub alongHand : List ℕ → Sides → List ℕ → List ℕ → ℕ → List ℕ → List Word
 alongHand cs x ps ks inner hands =
-    along ps ks (parts (arityOf (x .h .edition)) (formIn (x .first .variables) hands)) (partsFrom cs (x .h) (x .second) inner)
+    along ps ks (parts (arityOf (x .h .edition)) (formIn (x .first .variables) hands))
+    (partsFrom cs (x .h) (x .second) inner)
 
 -- and with the first's answers behind it
 abbrev pub toCome : List ℕ → Sides → List ℕ → List ℕ → Cursor → List ℕ → List Word
@@ -177,7 +182,8 @@ FormLeft edition form n ws rest = (n ≤ length form) × (ws ≡ take n form ∷
 
 -- the first of the forms is over 256 cells
 abbrev pub FirstTooLong : ℕ → List Word → Type 0
-FirstTooLong edition ws = (w : Word) × (rest : List Word) × (ws ≡ w ∷ rest) × (256 < length (pairForm (arityOf edition) w))
+FirstTooLong edition ws = (w : Word) × (rest : List Word) × (ws ≡ w ∷ rest)
+    × (256 < length (pairForm (arityOf edition) w))
 
 -- what the search for a match with the answer in hand answers and leaves
 abbrev pub Finds : List ℕ → Sides → List ℕ → List ℕ → ℕ → List ℕ → List ℕ → List ℕ → Found → Type 0

@@ -65,5 +65,6 @@ Holds arity w form TooLong = 256 < length (pairForm arity w)
 -- the terms that the copies name were put together, whatever forms are in hand
 pub record Copies (e : ℕ) (copies outer inner form form′ : List ℕ) (r : Together) : Type 0 where
   pub holds : (m n : ℕ) (u v : Word) → InHand (arityOf e) m u outer → InHand (arityOf e) n v inner
-      → copiesNamed m n copies ≡ true → Holds (arityOf e) (copied copies (parts (arityOf e) u) (parts (arityOf e) v)) form′ r
+      → copiesNamed m n copies ≡ true
+      → Holds (arityOf e) (copied copies (parts (arityOf e) u) (parts (arityOf e) v)) form′ r
   pub size : length form′ ≡ length form

@@ -29,15 +29,19 @@ pub record CodingLaws (c : Coding) : Type 0 where
   pub answered-refused : (m : ℕ) (ks : List ℕ) (r : ℕ) → c .answered m ks ≡ refused r → (3 ≤ r) × (r ≤ 5)
   -- a called term is stored as one legal term with its variables, at most 32
   pub called-legal : (ks : List ℕ) (w : Word) (m : ℕ) → c .called ks ≡ accepted w m → c .legal 1 w ≡ true
-  pub called-variables : (ks : List ℕ) (w : Word) (m : ℕ) → c .called ks ≡ accepted w m → (length (met [] w) ≡ m) × (m ≤ 32)
+  pub called-variables : (ks : List ℕ) (w : Word) (m : ℕ) → c .called ks ≡ accepted w m
+      → (length (met [] w) ≡ m) × (m ≤ 32)
   -- the terms of an answer are stored as m legal terms
   pub answered-legal : (m : ℕ) (ks : List ℕ) (w : Word) (n : ℕ) → c .answered m ks ≡ accepted w n → c .legal m w ≡ true
   -- expanding gives the numbered terms back
   pub called-expands : (ks : List ℕ) (w : Word) (m : ℕ) → c .called ks ≡ accepted w m → c .expand w ≡ numbered ks
-  pub answered-expands : (m : ℕ) (ks : List ℕ) (w : Word) (n : ℕ) → c .answered m ks ≡ accepted w n → c .expand w ≡ numbered ks
+  pub answered-expands : (m : ℕ) (ks : List ℕ) (w : Word) (n : ℕ) → c .answered m ks ≡ accepted w n
+      → c .expand w ≡ numbered ks
   -- variants have one form
-  pub called-variants : (ks ls : List ℕ) (w v : Word) (m n : ℕ) → c .called ks ≡ accepted w m → c .called ls ≡ accepted v n → numbered ks ≡ numbered ls → w ≡ v
-  pub answered-variants : (k : ℕ) (ks ls : List ℕ) (w v : Word) (m n : ℕ) → c .answered k ks ≡ accepted w m → c .answered k ls ≡ accepted v n → numbered ks ≡ numbered ls → w ≡ v
+  pub called-variants : (ks ls : List ℕ) (w v : Word) (m n : ℕ) → c .called ks ≡ accepted w m
+      → c .called ls ≡ accepted v n → numbered ks ≡ numbered ls → w ≡ v
+  pub answered-variants : (k : ℕ) (ks ls : List ℕ) (w v : Word) (m n : ℕ) → c .answered k ks ≡ accepted w m
+      → c .answered k ls ≡ accepted v n → numbered ks ≡ numbered ls → w ≡ v
   -- no form of m terms is a proper prefix of another; it has at most 383 tokens, and no term has none
   pub legal-free : (m : ℕ) (w rest : Word) → c .legal m w ≡ true → c .legal m (w ++ rest) ≡ true → rest ≡ []
   pub legal-short : (m : ℕ) (w : Word) → c .legal m w ≡ true → length w ≤ 383
@@ -45,4 +49,5 @@ pub record CodingLaws (c : Coding) : Type 0 where
   -- ground terms of stored forms that are put together are refused by 4 alone
   pub ground-refused : (m : ℕ) (ks : List ℕ) (r : ℕ) → GroundTerms c m ks → c .answered m ks ≡ refused r → r ≡ 4
   -- the variables of an instance are numbered by first meeting
-  pub instance-numbered : (w v : Word) → c .legal 1 w ≡ true → c .legal (length (met [] w)) v ≡ true → numbered (c .instanceOf w v) ≡ c .instanceOf w v
+  pub instance-numbered : (w v : Word) → c .legal 1 w ≡ true → c .legal (length (met [] w)) v ≡ true
+      → numbered (c .instanceOf w v) ≡ c .instanceOf w v

@@ -10,10 +10,11 @@ use Rattle.forms.specs.Numbering.{numbered}
 use Rattle.plain.specs.Words.{Word, distinct, most, brings, newcomers}
 use Rattle.plain.specs.Coding.{Coding}
 use Rattle.plain.specs.Requests.{Finished, Request, call, answer, finish, next, load, instance, join}
-use Rattle.plain.specs.Requests.{Reply, new, oldSubgoal, oldAnswer, done, at, noneYet, noMore, cells, used, joined}
-use Rattle.plain.specs.Requests.{refused, short, lacksNext, lent, left}
+use Rattle.plain.specs.Requests.{Reply, new, oldSubgoal, oldAnswer, done, at, noneYet, noMore, cells, used}
+use Rattle.plain.specs.Requests.{joined, refused, short, lacksNext, lent, left}
 use Rattle.plain.specs.Joins.{combined}
-use Rattle.plain.specs.Table.{Table, Answer, fresh, subgoalAt, answerAt, subgoalOfAnswer, answersTo, nodes, writes, entered, step}
+use Rattle.plain.specs.Table.{Table, Answer, fresh, subgoalAt, answerAt, subgoalOfAnswer, answersTo, nodes}
+use Rattle.plain.specs.Table.{writes, entered, step}
 
 -- ---- distinct prefixes
 
@@ -87,9 +88,11 @@ pub record Kept (t : Table) : Type 0 where
   pub subgoal-room : length (t .subgoals) ≤ t .F
   pub answer-room : length (t .answers) ≤ t .A
   -- every answer is to a subgoal
-  pub answered : (a : ℕ) → 0 < a → a ≤ length (t .answers) → (0 < subgoalOfAnswer t a) × (subgoalOfAnswer t a ≤ length (t .subgoals))
+  pub answered : (a : ℕ) → 0 < a → a ≤ length (t .answers)
+      → (0 < subgoalOfAnswer t a) × (subgoalOfAnswer t a ≤ length (t .subgoals))
   -- no two subgoals have one form, and no two answers under one subgoal
-  pub subgoals-differ : (i j : ℕ) → 0 < i → i ≤ length (t .subgoals) → 0 < j → j ≤ length (t .subgoals) → subgoalAt t i .form ≡ subgoalAt t j .form → i ≡ j
+  pub subgoals-differ : (i j : ℕ) → 0 < i → i ≤ length (t .subgoals) → 0 < j → j ≤ length (t .subgoals)
+      → subgoalAt t i .form ≡ subgoalAt t j .form → i ≡ j
   pub answers-differ : (a b : ℕ) → 0 < a → a ≤ length (t .answers) → 0 < b → b ≤ length (t .answers)
       → subgoalOfAnswer t a ≡ subgoalOfAnswer t b → answerAt t a .form ≡ answerAt t b .form → a ≡ b
 
@@ -100,34 +103,40 @@ module _ (c : Coding) where
 
   -- a refused call leaves the table and out as they were
   abbrev pub Refusing : Type 0
-  Refusing = (t : Table) (q : Request) (r : ℕ) → RefusedBy r (step c t q .reply) → (step c t q .state ≡ t) × (step c t q .out ≡ lent q)
+  Refusing = (t : Table) (q : Request) (r : ℕ) → RefusedBy r (step c t q .reply)
+      → (step c t q .state ≡ t) × (step c t q .out ≡ lent q)
 
   -- calls are refused by 3 to 8, 10 to 12 and 14 to 16, never by 1, 2 or 9
   abbrev pub RefusingBy : Type 0
   RefusingBy = (t : Table) (q : Request) (r : ℕ) → RefusedBy r (step c t q .reply) → Known r
 
-  -- next from 0 on gives every answer to a subgoal once, in increasing order, and then "none yet" of an open subgoal, "no more" of a finished one
+  -- next from 0 on gives every answer to a subgoal once, in increasing order, and then "none yet" of an open subgoal,
+  -- "no more" of a finished one
   abbrev pub Visiting : Type 0
   Visiting = (t : Table) (s : ℕ) → 0 < s → s ≤ length (t .subgoals) → Visits c t s 0 (numbersOf s 1 (t .answers))
 
-  -- "no more" is said of finished subgoals alone, and is final: next from the same answer says it again after any list of calls
+  -- "no more" is said of finished subgoals alone, and is final: next from the same answer says it again after any
+  -- list of calls
   abbrev pub Ending : Type 0
   Ending = (t : Table) (s a : ℕ) → step c t (next s a) .reply ≡ noMore
-      → (subgoalAt t s .state ≡ Finished) × ((qs : List Request) → step c (left (step c) t qs) (next s a) .reply ≡ noMore)
+      → (subgoalAt t s .state ≡ Finished)
+      × ((qs : List Request) → step c (left (step c) t qs) (next s a) .reply ≡ noMore)
 
   -- two calls give one number exactly where their terms are variants, whatever was called before and in between
   abbrev pub Calling : Type 0
   Calling = (n f a : ℕ) → 0 < n → (before between : List Request) (cs ds : List ℕ) (i j : ℕ)
       → (let t = reached n f a before in
       let u = left (step c) (step c t (call cs) .state) between in
-      Gives i (step c t (call cs) .reply) → Gives j (step c u (call ds) .reply) → (i ≡ j → numbered cs ≡ numbered ds) × (numbered cs ≡ numbered ds → i ≡ j))
+      Gives i (step c t (call cs) .reply) → Gives j (step c u (call ds) .reply)
+      → (i ≡ j → numbered cs ≡ numbered ds) × (numbered cs ≡ numbered ds → i ≡ j))
 
   -- and so do two answers to one subgoal
   abbrev pub Answering : Type 0
   Answering = (n f a : ℕ) → 0 < n → (before between : List Request) (s : ℕ) (cs ds : List ℕ) (i j : ℕ)
       → (let t = reached n f a before in
       let u = left (step c) (step c t (answer s cs) .state) between in
-      Gives i (step c t (answer s cs) .reply) → Gives j (step c u (answer s ds) .reply) → (i ≡ j → numbered cs ≡ numbered ds) × (numbered cs ≡ numbered ds → i ≡ j))
+      Gives i (step c t (answer s cs) .reply) → Gives j (step c u (answer s ds) .reply)
+      → (i ≡ j → numbered cs ≡ numbered ds) × (numbered cs ≡ numbered ds → i ≡ j))
 
   -- load gives back the numbered terms that came with an answer, whatever was called in between
   abbrev pub Loading : Type 0
@@ -138,32 +147,37 @@ module _ (c : Coding) where
   -- a finished subgoal takes no more answers
   abbrev pub Finishing : Type 0
   Finishing = (t : Table) (s : ℕ) (cs : List ℕ) (qs : List Request)
-      → step c t (finish s) .reply ≡ done → step c (left (step c) (step c t (finish s) .state) qs) (answer s cs) .reply ≡ refused 8
+      → step c t (finish s) .reply ≡ done
+      → step c (left (step c) (step c t (finish s) .state) qs) (answer s cs) .reply ≡ refused 8
 
   -- the cells of the answers that a join gives its target, in order of the first, then of the second
   abbrev pub joinCells : Table → ℕ → ℕ → List ℕ → List ℕ → List (List ℕ)
-  joinCells t f g ps cs = combined ps cs (map (λ w. c .terms w) (answersTo (t .answers) f)) (map (λ w. c .terms w) (answersTo (t .answers) g))
+  joinCells t f g ps cs = combined ps cs (map (λ w. c .terms w) (answersTo (t .answers) f))
+      (map (λ w. c .terms w) (answersTo (t .answers) g))
 
   -- a join that is accepted leaves what its answers leave, given one after another, and says how many of them are new
   abbrev pub Joining : Type 0
   Joining = (t : Table) (f g s n : ℕ) (ps cs : List ℕ)
       → (let u = step c t (join f g ps s cs) in
-      u .reply ≡ joined n → (u .state ≡ left (step c) t (map (λ ks. answer s ks) (joinCells t f g ps cs))) × (length (u .state .answers) ≡ length (t .answers) + n))
+      u .reply ≡ joined n → (u .state ≡ left (step c) t (map (λ ks. answer s ks) (joinCells t f g ps cs)))
+      × (length (u .state .answers) ≡ length (t .answers) + n))
 
-  -- a join on a table that calls made is refused by 4, 7, 8, 10, 11, 14, 15 and 16 alone: what it puts together is never
-  -- malformed, and holds no variable
+  -- a join on a table that calls made is refused by 4, 7, 8, 10, 11, 14, 15 and 16 alone: what it puts together is
+  -- never malformed, and holds no variable
   abbrev pub JoinRefusing : Type 0
   JoinRefusing = (n f a : ℕ) → 0 < n → (qs : List Request) (first second s r : ℕ) (ps cs : List ℕ)
       → RefusedBy r (step c (reached n f a qs) (join first second ps s cs) .reply) → JoinKnown r
 
   -- room is kept, numbers lead to records, and no form is held twice
   abbrev pub Keeping : Type 0
-  Keeping = (n f a : ℕ) → 0 < n → (qs : List Request) → (let t = reached n f a qs in Kept t × (t .N ≡ n) × (t .F ≡ f) × (t .A ≡ a))
+  Keeping = (n f a : ℕ) → 0 < n → (qs : List Request)
+      → (let t = reached n f a qs in Kept t × (t .N ≡ n) × (t .F ≡ f) × (t .A ≡ a))
 
   -- the variables of the cells that instance writes are numbered by first meeting
   abbrev pub Numbering : Type 0
   Numbering = (n f a : ℕ) → 0 < n → (qs : List Request) (b k : ℕ) (out : List ℕ)
-      → (let r = step c (reached n f a qs) (instance b out) in r .reply ≡ cells k → numbered (take k (r .out)) ≡ take k (r .out))
+      → (let r = step c (reached n f a qs) (instance b out) in r .reply ≡ cells k
+      → numbered (take k (r .out)) ≡ take k (r .out))
 
 -- all of it
 pub record Consequences (c : Coding) : Type 0 where

@@ -49,7 +49,8 @@ copiesNamed m n (side ∷ x ∷ cs) =
 -- at most 32 pairs, one copy for each of k variables of the target
 unfoldable pub named : ℕ → ℕ → List ℕ → ℕ → List ℕ → Bool
 named m n ps k cs =
-    pick (leb (length ps) 64) (pick (eqb (length cs) (2 * k)) (pick (pairsNamed m n ps) (copiesNamed m n cs) false) false) false
+    pick (leb (length ps) 64)
+    (pick (eqb (length cs) (2 * k)) (pick (pairsNamed m n ps) (copiesNamed m n cs) false) false) false
 
 -- ---- what a pair of answers gives
 

@@ -12,8 +12,8 @@ use lib.ListN.{length}
 use Rattle.basis.specs.Choice.{pick}
 use Rattle.plain.specs.Coding.{Coding}
 use Rattle.plain.specs.Requests.{State, Request, call, answer, finish, next, load, instance, counts, join}
-use Rattle.plain.specs.Requests.{Counts, Reply, new, oldSubgoal, oldAnswer, done, at, noneYet, noMore, cells, used, joined}
-use Rattle.plain.specs.Requests.{refused, short, lacksNext, Result, Seen, trace, left}
+use Rattle.plain.specs.Requests.{Counts, Reply, new, oldSubgoal, oldAnswer, done, at, noneYet, noMore, cells}
+use Rattle.plain.specs.Requests.{used, joined, refused, short, lacksNext, Result, Seen, trace, left}
 use Rattle.plain.specs.Table.{Table, fresh, answersTo, counted, step}
 use Rattle.plain.specs.Consequences.{Gives, reached}
 

@@ -6,8 +6,8 @@ pub data State : Type 0 where
   Open : State
   Finished : State
 
--- A call with its numbers and the cells lent to it. Load and instance are lent out; the others get none. Two cells are a
--- pair of a join (a variable of the first, one of the second), and two a copy (a side, 0 or 1, and a variable).
+-- A call with its numbers and the cells lent to it. Load and instance are lent out; the others get none. Two cells
+-- are a pair of a join (a variable of the first, one of the second), and two a copy (a side, 0 or 1, and a variable).
 pub data Request : Type 0 where
   call : (term : List ℕ) → Request
   answer : (subgoal : ℕ) (terms : List ℕ) → Request

@@ -9,9 +9,9 @@ use Rattle.forms.specs.Compact.{same}
 use Rattle.plain.specs.Words.{Word, trieNodes}
 use Rattle.plain.specs.Coding.{Coding, Reading, refused, accepted, codingOf}
 use Rattle.plain.specs.Joins.{Forms, declined, formed, Side, joinOf}
-use Rattle.plain.specs.Requests.{State, Open, Finished, Request, call, answer, finish, next, load, instance, counts, join}
-use Rattle.plain.specs.Requests.{Counts, Reply, new, oldSubgoal, oldAnswer, done, at, cells, used, joined, refused}
-use Rattle.plain.specs.Requests.{short, lacksNext, Result, Seen, trace}
+use Rattle.plain.specs.Requests.{State, Open, Finished, Request, call, answer, finish, next, load, instance}
+use Rattle.plain.specs.Requests.{counts, join, Counts, Reply, new, oldSubgoal, oldAnswer, done, at, cells, used}
+use Rattle.plain.specs.Requests.{joined, refused, short, lacksNext, Result, Seen, trace}
 
 -- ---- state
 
@@ -161,7 +161,8 @@ called t (refused r) = becomes t (refused r)
 called t (accepted w m) =
     let n = subgoalOf t w in
     let count = length (t .subgoals) in
-    pick (eqb n 0) (appended t (withSubgoal t w m) (ltb count (t .F)) (suc count)) (becomes t (oldSubgoal n (subgoalAt t n .state)))
+    pick (eqb n 0) (appended t (withSubgoal t w m) (ltb count (t .F)) (suc count))
+    (becomes t (oldSubgoal n (subgoalAt t n .state)))
 
 -- an equal form under the subgoal is old, else it is appended
 unfoldable pub answered : Table → ℕ → Reading → Result Table
@@ -187,7 +188,9 @@ onward t s a = let n = following t s a in pick (eqb n 0) (lacksNext (subgoalAt t
 -- the cells before what was in out, or 12 with the need where out is too short
 unfoldable pub writes : Table → List ℕ → List ℕ → Result Table
 writes t cs out =
-    pick (leb (length cs) (length out)) (record { reply = cells (length cs); out = cs ++ drop (length cs) out; state = t }) (stays t out (short (length cs)))
+    pick (leb (length cs) (length out))
+    (record { reply = cells (length cs); out = cs ++ drop (length cs) out; state = t })
+    (stays t out (short (length cs)))
 
 -- ---- joining
 
@@ -217,7 +220,8 @@ joining t s (formed ws) =
 unfoldable pub step : Coding → Table → Request → Result Table
 step c t (call cs) = called t (c .called cs)
 step c t (answer s cs) =
-    known t [] (length (t .subgoals)) s (whileOpen t (subgoalAt t s .state) (answered t s (c .answered (subgoalAt t s .m) cs)))
+    known t [] (length (t .subgoals)) s
+    (whileOpen t (subgoalAt t s .state) (answered t s (c .answered (subgoalAt t s .m) cs)))
 step c t (finish s) = known t [] (length (t .subgoals)) s (becomes (withFinished t s) done)
 step c t (next s a) = known t [] (length (t .subgoals)) s (becomes t (pick (starting t s a) (onward t s a) (refused 7)))
 step c t (load a out) = known t out (length (t .answers)) a (writes t (c .expand (answerAt t a .form)) out)
@@ -237,8 +241,8 @@ tableTrace c t qs = trace (step c) counted t qs
 
 -- ---- the table of an edition
 
--- The edition is chosen when the table is made, with N, F and A, and no call changes it; so it stands beside them here and is
--- the parameter of every step, not a field that each change would copy.
+-- The edition is chosen when the table is made, with N, F and A, and no call changes it; so it stands beside them
+-- here and is the parameter of every step, not a field that each change would copy.
 abbrev pub editionStep : ℕ → Table → Request → Result Table
 editionStep e = step (codingOf e)
 

@@ -3,7 +3,8 @@ use Prim.Native.Nat.{ℕ, _+_, _*_}
 use mathlib.Core.List.{List, [], _∷_, _++_}
 use lib.ListN.{take}
 use Rattle.plain.specs.Requests.{State, Open, Finished, Counts}
-use Rattle.plain.specs.Requests.{Reply, new, oldSubgoal, oldAnswer, done, at, noneYet, noMore, cells, used, joined, refused, short}
+use Rattle.plain.specs.Requests.{Reply, new, oldSubgoal, oldAnswer, done, at, noneYet, noMore, cells, used, joined}
+use Rattle.plain.specs.Requests.{refused, short}
 use Rattle.text.specs.Letters.{letters}
 use Rattle.text.specs.Fields.{space, cellDigits}
 use Rattle.text.specs.Digits.{cellTexts, numbered, Puts}
@@ -58,7 +59,8 @@ countsText nodes subgoals answers = numbered (numbered (numbered textCounts node
 abbrev pub refusedShort : ℕ
 refusedShort = 12
 
--- the cells printed are those written to out; an out that is too short has its need not printed; no line asks for a join
+-- the cells printed are those written to out; an out that is too short has its need not printed; no line asks for a
+-- join
 unfoldable pub replyText : Reply → List ℕ → List ℕ
 replyText (new n) out = numbered textNew n
 replyText (oldSubgoal n s) out = numbered textOld n ++ (space ∷ stateText s)

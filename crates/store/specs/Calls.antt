@@ -6,7 +6,8 @@ use lib.Dec.{leb}
 use lib.ListN.{length, drop, getD}
 use Rattle.basis.specs.Choice.{pick}
 use Rattle.plain.specs.Coding.{Coding, codingOf}
-use Rattle.plain.specs.Requests.{Request, lent, Counts, Reply, new, done, cells, joined, refused, short, Result, Seen, trace}
+use Rattle.plain.specs.Requests.{Request, lent, Counts, Reply, new, done, cells, joined, refused, short, Result, Seen}
+use Rattle.plain.specs.Requests.{trace}
 use Rattle.space.specs.Layout.{Sizes, sizesOf, nodesCell, subgoalsCell, answersCell}
 use Rattle.space.specs.Heading.{headerOf, spaceHeader}
 use Rattle.space.specs.declared.Head.{Head}

@@ -15,7 +15,8 @@ use Rattle.space.specs.declared.Header.the-variants as header
 use Rattle.space.specs.declared.Subgoal.{Subgoal}
 use Rattle.trie.specs.Append.{newRoot, appendPath}
 use Rattle.store.specs.Views.{viewOf}
-use Rattle.store.specs.Decisions.{Decision, says, gives, entersSubgoal, entersAnswer, entersEmpty, finishes, entersAnswers, answeredAt, walkTo}
+use Rattle.store.specs.Decisions.{Decision, says, gives, entersSubgoal, entersAnswer, entersEmpty, finishes}
+use Rattle.store.specs.Decisions.{entersAnswers, answeredAt, walkTo}
 
 -- a new subgoal is open and has no answer
 abbrev pub newSubgoal : ℕ → ℕ → ℕ → Subgoal
@@ -53,7 +54,8 @@ answerEntered z cs h s g leaf nodes =
 -- an answer with a path of its own, and one whose leaf is the answer root
 abbrev pub pathEntered : Sizes → List ℕ → Head → ℕ → ℕ → ℕ → Word → List ℕ
 pathEntered z cs h s parent last left =
-    answerEntered z (appendPath z cs (h .nodes) parent last left) h s (subgoalIn z cs (h .«subgoal_offset») s) (h .nodes + length left - 1) (h .nodes + length left)
+    answerEntered z (appendPath z cs (h .nodes) parent last left) h s (subgoalIn z cs (h .«subgoal_offset») s)
+    (h .nodes + length left - 1) (h .nodes + length left)
 
 abbrev pub emptyEntered : Sizes → List ℕ → Head → ℕ → List ℕ
 emptyEntered z cs h s =

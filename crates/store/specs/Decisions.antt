@@ -126,7 +126,8 @@ starting v s a = pick (eqb a 0) true (pick (leb a (v .answers)) (eqb (v .answer 
 
 -- answer a is handed out, or by the state whether one may still come
 unfoldable pub handed : View → ℕ → ℕ → Decision
-handed v s a = pick (eqb a 0) (says (lacksNext (stateOf (v .subgoal s .state)))) (sound (soundAnswerOf v s a) (says (at a)))
+handed v s a = pick (eqb a 0) (says (lacksNext (stateOf (v .subgoal s .state))))
+    (sound (soundAnswerOf v s a) (says (at a)))
 
 unfoldable pub onward : View → ℕ → ℕ → Decision
 onward v s a =
@@ -169,15 +170,17 @@ headed test none later = broken
 headed test (tokens w) broken = broken
 headed test (tokens w) (unbroken ws) = pick (test w) (unbroken (w ∷ ws)) broken
 
--- from answer a on, by next until 0: each answer is judged as next does, its path as load does. Answers rise, so no chain
--- has more steps than there are answers.
+-- from answer a on, by next until 0: each answer is judged as next does, its path as load does. Answers rise, so no
+-- chain has more steps than there are answers.
 unfoldable pub chainFrom : Coding → View → ℕ → ℕ → ℕ → Chain
 chainFrom c v s zero a = pick (eqb a 0) (unbroken []) broken
 chainFrom c v s (suc steps) a =
     let g = v .subgoal s in
     let later = chainFrom c v s steps (v .answer a .next) in
     pick (eqb a 0) (unbroken [])
-    (pick (soundAnswerOf v s a) (headed (λ w. c .legal (g .variables) w) (gather longest (answerTrie v) (g .root) (v .answer a .leaf)) later) broken)
+    (pick (soundAnswerOf v s a)
+    (headed (λ w. c .legal (g .variables) w)
+    (gather longest (answerTrie v) (g .root) (v .answer a .leaf)) later) broken)
 
 abbrev pub chainOf : Coding → View → ℕ → Chain
 chainOf c v s = chainFrom c v s (v .answers) (v .subgoal s .first)
@@ -220,16 +223,18 @@ missing (whole leaf) = 0
 missing (stopped parent last left) = length left
 missing damaged = 0
 
--- the nodes that forms take, those before them given: each its tokens that were not found, less those that it shares with a
--- form before it. Nothing is written for it.
+-- the nodes that forms take, those before them given: each its tokens that were not found, less those that it shares
+-- with a form before it. Nothing is written for it.
 unfoldable pub nodesNeeded : View → ℕ → List Word → List Word → ℕ
 nodesNeeded v s before [] = 0
-nodesNeeded v s before (w ∷ ws) = min (missing (walkTo v s w)) (length w - most before w) + nodesNeeded v s (w ∷ before) ws
+nodesNeeded v s before (w ∷ ws) =
+    min (missing (walkTo v s w)) (length w - most before w) + nodesNeeded v s (w ∷ before) ws
 
 -- and the records: one for each form that is not among the answers and not before it
 unfoldable pub answersNeeded : View → ℕ → List Word → List Word → ℕ
 answersNeeded v s before [] = 0
-answersNeeded v s before (w ∷ ws) = pick (lacking v (walkTo v s w)) (pick (has before w) 0 1) 0 + answersNeeded v s (w ∷ before) ws
+answersNeeded v s before (w ∷ ws) =
+    pick (lacking v (walkTo v s w)) (pick (has before w) 0 1) 0 + answersNeeded v s (w ∷ before) ws
 
 -- where a form is new the last answer is read; 10 and 11 are for all new forms together
 unfoldable pub joining : View → ℕ → Forms → Decision
@@ -237,7 +242,8 @@ joining v s (declined r) = refuses r
 joining v s (formed ws) =
     let more = answersNeeded v s [] ws in
     sound (allSound v s ws && pick (eqb more 0) true (soundLast v s))
-    (pick (leb (v .nodes + nodesNeeded v s [] ws) (v .N)) (pick (leb (v .answers + more) (v .A)) (entersAnswers s ws) (refuses 11)) (refuses 10))
+    (pick (leb (v .nodes + nodesNeeded v s [] ws) (v .N))
+    (pick (leb (v .answers + more) (v .A)) (entersAnswers s ws) (refuses 11)) (refuses 10))
 
 -- the target's own records are judged with those of the sources
 abbrev pub soundTarget : View → ℕ → Bool
@@ -262,4 +268,5 @@ decide c v (join f g ps s cs) =
     known (v .subgoals) f (known (v .subgoals) g (known (v .subgoals) s
     (sound (soundSubgoal v f && soundSubgoal v g && soundTarget v s)
     (onChains (chainOf c v f) (chainOf c v g) (λ us vs.
-    joining v s (joinOf c (sideIn v f us) (sideIn v g vs) ps (stateOf (v .subgoal s .state)) (v .subgoal s .variables) cs))))))
+    joining v s (joinOf c (sideIn v f us) (sideIn v g vs) ps (stateOf (v .subgoal s .state))
+    (v .subgoal s .variables) cs))))))

@@ -6,13 +6,16 @@ use lib.ListN.{set}
 use Rattle.forms.specs.Cells.{arityOf, callable, shapeOf, symbolic, tokenOf}
 use Rattle.forms.specs.Terms.{pairs, every, applied, paired, begun, reads, areTerms}
 use Rattle.forms.specs.Numbering.{rank, seen, met, renamed, numbered}
-use Rattle.forms.specs.Compact.{compact, elements, compactForm, filled, lastOf, tailOf, inside, into, collected, entered, items, front, formTerms, pairForm, same}
+use Rattle.forms.specs.Compact.{compact, elements, compactForm, filled, lastOf, tailOf, inside, into, collected}
+use Rattle.forms.specs.Compact.{entered, items, front, formTerms, pairForm, same}
 use Rattle.forms.specs.Converting.{reading}
 use Rattle.forms.specs.Compact.{areForms, legalForm}
 use Rattle.plain.specs.Words.{has, common, most}
 use Rattle.plain.specs.Coding.{judged, handedOn, predicate, compacted, codingOf}
-use Rattle.plain.specs.Requests.{Request, call, next, load, counts, join, Reply, new, at, noneYet, cells, used, joined, refused, lent, trace, left}
-use Rattle.plain.specs.Joins.{pairsNamed, copiesNamed, named, matching, copied, along, combined, before, allRead, ground, joinOf}
+use Rattle.plain.specs.Requests.{Request, call, next, load, counts, join, Reply, new, at, noneYet, cells, used}
+use Rattle.plain.specs.Requests.{joined, refused, lent, trace, left}
+use Rattle.plain.specs.Joins.{pairsNamed, copiesNamed, named, matching, copied, along, combined, before, allRead}
+use Rattle.plain.specs.Joins.{ground, joinOf}
 use Rattle.plain.specs.Examples.{atom, fun, count}
 use Rattle.plain.specs.JoinExamples.{sources, ends, chain}
 use Rattle.space.specs.Layout.{sizes, subgoalWidth, answerWidth}
@@ -23,7 +26,10 @@ use Rattle.trie.specs.Siblings.{searchSiblings, searchChildren}
 use Rattle.trie.specs.Walks.{walkFrom, walk}
 use Rattle.trie.specs.Paths.{gather}
 use Rattle.trie.specs.Append.{leadCell, appendNode, appendPath}
-use Rattle.store.specs.Decisions.{calledOld, calledNew, calledAt, called, answeredNew, answeredOld, answeredAt, answered, starting, handed, onward, onPath, loaded, instanced, headed, chainFrom, onChains, sideIn, metSound, allSound, lacking, missing, nodesNeeded, answersNeeded, joining, decide}
+use Rattle.store.specs.Decisions.{calledOld, calledNew, calledAt, called, answeredNew, answeredOld, answeredAt}
+use Rattle.store.specs.Decisions.{answered, starting, handed, onward, onPath, loaded, instanced, headed}
+use Rattle.store.specs.Decisions.{chainFrom, onChains, sideIn, metSound, allSound, lacking, missing}
+use Rattle.store.specs.Decisions.{nodesNeeded, answersNeeded, joining, decide}
 use Rattle.store.specs.Changes.{subgoalEntered, answerEntered, answerGiven, formGiven, formsGiven, change}
 use Rattle.store.specs.Calls.{reply, outAfter, under, cellStep, cellTrace}
 
@@ -45,15 +51,17 @@ Joined =
     × (replies (filledCells 24 3 6) (chain ∷ counts ∷ []) ≡ refused 11 ∷ used (count 21 3 5) ∷ [])
     × (replies (filledCells 27 3 9) (join 2 2 (1 ∷ 1 ∷ []) 3 (0 ∷ 0 ∷ 1 ∷ 0 ∷ []) ∷ counts ∷ [])
     ≡ joined 4 ∷ used (count 27 3 9) ∷ [])
-    × (replies (filledCells 24 4 6) (call (fun 4 1 ∷ atom 1 ∷ []) ∷ join 1 2 (1 ∷ 0 ∷ []) 4 [] ∷ join 1 2 (0 ∷ 0 ∷ []) 4 [] ∷ join 1 2 [] 4 [] ∷ counts ∷ [])
+    × (replies (filledCells 24 4 6)
+    (call (fun 4 1 ∷ atom 1 ∷ []) ∷ join 1 2 (1 ∷ 0 ∷ []) 4 [] ∷ join 1 2 (0 ∷ 0 ∷ []) 4 [] ∷ join 1 2 [] 4 []
+    ∷ counts ∷ [])
     ≡ new 4 ∷ joined 1 ∷ joined 0 ∷ joined 0 ∷ used (count 24 4 6) ∷ [])
 
 -- cell k of answer a in a space of 24 nodes and 3 subgoals
 abbrev answerCell : ℕ → ℕ → ℕ
 answerCell a k = 128 + 18 + 3 * a - 3 + k
 
--- the second answer of the first source names another subgoal, or no node; the first is followed by one of another subgoal;
--- a source's last answer is not read
+-- the second answer of the first source names another subgoal, or no node; the first is followed by one of another
+-- subgoal; a source's last answer is not read
 abbrev pub Damage : Type 0
 Damage =
     (replies (set (filledCells 24 3 7) (answerCell 3 1) 2) (chain ∷ counts ∷ []) ≡ refused 9 ∷ used (count 21 3 5) ∷ [])
@@ -62,5 +70,13 @@ Damage =
     × (replies (set (filledCells 24 3 7) (answerCell 3 2) 5) (chain ∷ []) ≡ refused 9 ∷ [])
 
 pub join-examples : Joined × Damage
-unfolding trace left lent inRange capacity counted headerOf subgoalWidth answerWidth freshCells follows nodeSound bothOrNeither subgoalSound answerSound searchSiblings searchChildren walkFrom walk gather leadCell appendNode appendPath calledOld calledNew calledAt called answeredNew answeredOld answeredAt answered starting handed onward onPath loaded instanced headed chainFrom onChains sideIn metSound allSound lacking missing nodesNeeded answersNeeded joining decide subgoalEntered answerEntered answerGiven formGiven formsGiven change reply outAfter under cellStep pairsNamed copiesNamed named matching copied along combined before allRead ground joinOf has common most areForms legalForm judged handedOn reading callable predicate compacted compactForm areTerms pairForm formTerms front symbolic tokenOf items entered filled lastOf tailOf into inside collected reads begun applied paired shapeOf arityOf every compact elements pairs numbered renamed met seen rank same whole
+unfolding trace left lent inRange capacity counted headerOf subgoalWidth answerWidth freshCells follows nodeSound
+    bothOrNeither subgoalSound answerSound searchSiblings searchChildren walkFrom walk gather leadCell appendNode
+    appendPath calledOld calledNew calledAt called answeredNew answeredOld answeredAt answered starting handed onward
+    onPath loaded instanced headed chainFrom onChains sideIn metSound allSound lacking missing nodesNeeded
+    answersNeeded joining decide subgoalEntered answerEntered answerGiven formGiven formsGiven change reply outAfter
+    under cellStep pairsNamed copiesNamed named matching copied along combined before allRead ground joinOf has common
+    most areForms legalForm judged handedOn reading callable predicate compacted compactForm areTerms pairForm
+    formTerms front symbolic tokenOf items entered filled lastOf tailOf into inside collected reads begun applied
+    paired shapeOf arityOf every compact elements pairs numbered renamed met seen rank same whole
 join-examples = ((refl, refl, refl, refl, refl), (refl, refl, refl, refl))

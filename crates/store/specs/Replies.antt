@@ -1,7 +1,7 @@
 -- What each answer of the code says: the number and values that the request's paper gives for each case.
 use mathlib.Core.List.{List}
-use Rattle.plain.specs.Requests.{State, Open, Finished, Counts, Reply, new, oldSubgoal, oldAnswer, done, at, noneYet, noMore}
-use Rattle.plain.specs.Requests.{cells, used, joined, refused, short}
+use Rattle.plain.specs.Requests.{State, Open, Finished, Counts, Reply, new, oldSubgoal, oldAnswer, done, at, noneYet}
+use Rattle.plain.specs.Requests.{noMore, cells, used, joined, refused, short}
 use Rattle.forms.specs.declared.Answer.{Answer}
 use Rattle.forms.specs.declared.Answer.the-variants as converted
 use Rattle.store.specs.declared.State as declared-state

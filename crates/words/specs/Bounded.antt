@@ -1,6 +1,7 @@
 -- Answers that a result word holds: their refusal's number and their count of cells are small. Every call gives such.
 use Prim.Native.Nat.{_^_, _≤_, _<_}
-use Rattle.plain.specs.Requests.{Reply, new, oldSubgoal, oldAnswer, done, at, noneYet, noMore, cells, used, joined, refused, short}
+use Rattle.plain.specs.Requests.{Reply, new, oldSubgoal, oldAnswer, done, at, noneYet, noMore, cells, used, joined}
+use Rattle.plain.specs.Requests.{refused, short}
 use Rattle.agreement.specs.Faults.{Fault, nothing, heading, node, subgoal, answer}
 
 abbrev pub Bounded : Reply → Type 0

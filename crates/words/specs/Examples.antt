@@ -2,7 +2,8 @@
 use Prim.Native.Nat.{ℕ, _+_, _*_, _^_}
 use mathlib.Core.List.{List, [], _∷_}
 use mathlib.Core.Path.{_≡_, refl}
-use Rattle.plain.specs.Requests.{Open, Finished, finish, next, new, oldSubgoal, oldAnswer, done, at, noneYet, noMore, cells, refused, short}
+use Rattle.plain.specs.Requests.{Open, Finished, finish, next, new, oldSubgoal, oldAnswer, done, at, noneYet, noMore}
+use Rattle.plain.specs.Requests.{cells, refused, short}
 use Rattle.basis.specs.Editions.{knownEdition}
 use Rattle.space.specs.Layout.{sizes, subgoalWidth, answerWidth}
 use Rattle.space.specs.Heading.{inRange, capacity, whole, counted, headerOf, spaceHeader}

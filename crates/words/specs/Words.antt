@@ -6,7 +6,8 @@ use lib.Dec.{leb}
 use lib.ListN.{length, drop}
 use Rattle.basis.specs.Choice.{pick}
 use Rattle.plain.specs.Requests.{Open, Finished, Request, counts, Counts}
-use Rattle.plain.specs.Requests.{Reply, new, oldSubgoal, oldAnswer, done, at, noneYet, noMore, cells, used, joined, refused, short}
+use Rattle.plain.specs.Requests.{Reply, new, oldSubgoal, oldAnswer, done, at, noneYet, noMore, cells, used, joined}
+use Rattle.plain.specs.Requests.{refused, short}
 use Rattle.space.specs.declared.FreshAnswer.{FreshAnswer}
 use Rattle.space.specs.declared.FreshAnswer.the-variants as fresh
 use Rattle.space.specs.Fresh.{freshAnswerIn, freshSpaceIn}
