@@ -447,12 +447,15 @@ static void chain_answer(uint32_t *space, const struct head *head, size_t subgoa
     record[ANSWER_NEXT] = 0;
 }
 
-/* An answer with tokens left gets new nodes; the empty one has the answer root as its leaf. */
+/* An answer with tokens left gets new nodes; the empty one has the answer root as its leaf, and finishes the subgoal. */
 static uint64_t enter_answer(uint32_t *space, const struct head *head, size_t subgoal,
                              const struct place *place, const struct compaction *form)
 {
-    if (!last_is_sound(space, head, subgoal, subgoal_at(space, head, subgoal)[LAST]))
+    uint32_t *owner = space + head->subgoal_offset + SUBGOAL_CELLS * (subgoal - 1);
+    if (!last_is_sound(space, head, subgoal, owner[LAST]))
         return refuse(DAMAGED);
+    if (owner[STATE] != 0)
+        return refuse(FINISHED);
     if (head->node_capacity - head->nodes < place->left)
         return refuse(NO_NODES);
     if (head->answers == head->answer_capacity)
@@ -464,6 +467,7 @@ static uint64_t enter_answer(uint32_t *space, const struct head *head, size_t su
         space[NODES_USED] = (uint32_t)(leaf + 1);
     } else {
         space[HEADER_CELLS + NODE_CELLS * leaf + LINK] = (uint32_t)answer;
+        owner[STATE] = 1;
     }
     chain_answer(space, head, subgoal, leaf, answer);
     space[ANSWERS_USED] = (uint32_t)answer;
@@ -729,8 +733,6 @@ uint64_t plain_answer(uint32_t *space, size_t space_cells, uint32_t subgoal, con
         return refuse(DAMAGED);
     if (!root_is_sound(space, head.nodes, head.answers, record[ROOT]))
         return refuse(DAMAGED);
-    if (record[STATE] != 0)
-        return refuse(FINISHED);
     enum refusal refusal = compact(&form, &head, terms, terms_cells, record[VARIABLES]);
     if (refusal != ACCEPTED)
         return refuse(refusal);

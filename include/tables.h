@@ -15,7 +15,7 @@ extern "C" {
  * third where neither is so. TABLES_VERSION is one number, for #if: 10203 is
  * 1.2.3.
  */
-#define TABLES_VERSION_MAJOR 2
+#define TABLES_VERSION_MAJOR 3
 #define TABLES_VERSION_MINOR 0
 #define TABLES_VERSION_PATCH 0
 #define TABLES_VERSION \
@@ -149,9 +149,10 @@ static inline uint32_t tables_functor_cell(uint64_t edition, uint64_t name, uint
  * A call that cannot be carried out is refused by one of these numbers and
  * changes nothing: neither a cell of the space nor one of out. Where several
  * apply, the checks are made in this order: header (1) or fresh (2), number
- * (7), the records that the number names (9), state (8), a join's sources (14,
- * 15) and names (16), length (4), term (3), variables (5), predicate (6), the
- * other records (9), nodes (10), records left (11), form (13), out (12).
+ * (7), the records that the number names (9), a join's target (8), its sources
+ * (14, 15) and names (16), length (4), term (3), variables (5), predicate (6), the
+ * other records (9), an answer that a finished subgoal lacks (8), nodes (10),
+ * records left (11), form (13), out (12).
  */
 enum tables_refusal {
     TABLES_REFUSED_HEADER = 1,     /* the space has no sound header, or is cut short; from a
@@ -164,7 +165,8 @@ enum tables_refusal {
     TABLES_REFUSED_VARIABLES = 5,  /* over 32 distinct variables */
     TABLES_REFUSED_PREDICATE = 6,  /* a called term begins with neither atom nor functor */
     TABLES_REFUSED_NUMBER = 7,     /* no such subgoal or answer, or another subgoal's answer */
-    TABLES_REFUSED_STATE = 8,      /* an answer to a finished subgoal, even one that it holds */
+    TABLES_REFUSED_STATE = 8,      /* an answer that a finished subgoal lacks, or a join into a
+                                      finished one */
     TABLES_REFUSED_DAMAGED = 9,    /* a damaged record was met */
     TABLES_REFUSED_NO_NODE = 10,   /* full: too few nodes left */
     TABLES_REFUSED_NO_RECORD = 11, /* full: no record left for a new subgoal or answer */
@@ -419,20 +421,28 @@ TABLES_MUST_CHECK
 uint64_t tables_call(uint32_t *space, size_t space_cells, const uint32_t *term, size_t term_cells);
 
 /*
- * Enters an answer of an open subgoal: a term for each of the subgoal's distinct
+ * Enters an answer of a subgoal: a term for each of the subgoal's distinct
  * variables, in order of first meeting, one behind the other, at most 256 cells
  * and 32 distinct variables in all. A variable of one term is the same in the
- * others. A subgoal without variables is answered by no terms. TABLES_NEW or
- * TABLES_OLD, with the answer's number; numbers go from 1 in order of entry,
- * through all subgoals. Refused by 1, 7, 9, 8, 4, 3, 5, 9, 10, 11.
+ * others. TABLES_NEW or TABLES_OLD, with the answer's number; numbers go from 1 in
+ * order of entry, through all subgoals. Refused by 1, 7, 9, 4, 3, 5, 9, 8, 10, 11.
+ *
+ * A finished subgoal says TABLES_OLD of an answer that it holds, as an open one
+ * does; one that it lacks is refused by 8, in a full table too.
+ *
+ * A subgoal without variables is answered by no terms, and has one answer at most:
+ * the call in which it is new finishes the subgoal. A second time it is old, which
+ * changes nothing: where an earlier version of the store left such a subgoal open
+ * with its answer, it stays open.
  */
 TABLES_MUST_CHECK
 uint64_t tables_answer(uint32_t *space, size_t space_cells, uint32_t subgoal, const uint32_t *terms,
                        size_t terms_cells);
 
 /*
- * Finishes a subgoal: it takes no more answers. TABLES_DONE, also the second
- * time. Refused by 1, 7, 9.
+ * Finishes a subgoal: it takes no new answers, and still knows those that it
+ * holds. TABLES_DONE, also the second time, and for a subgoal that its answer has
+ * finished. Refused by 1, 7, 9.
  */
 TABLES_MUST_CHECK
 uint64_t tables_finish(uint32_t *space, size_t space_cells, uint32_t subgoal);
@@ -485,7 +495,8 @@ uint64_t tables_counts(const uint32_t *space, size_t space_cells, uint32_t *out,
  * that the copies name are an answer of the target, which must be open. Every
  * such answer enters, or none where the table is too full for all of them. An
  * answer that the target holds already, or that came up before, is old and not
- * counted.
+ * counted. A target without variables is finished by the join in which its answer
+ * is new, as by tables_answer; the next join into it is refused by 8.
  *
  * pairs   two cells to a pair, at most 32 pairs: a variable of the first and one
  *         of the second, by rank from 0. None at all: every combination matches.

@@ -309,11 +309,28 @@ static void check_read(uint32_t arity, uint32_t variables, uint32_t end)
     instance_is(1, &instance);
 }
 
+/* Offered to the finished subgoal: what it holds, what it lacks, and what is no answer. */
+static void check_offered(uint32_t variables)
+{
+    struct cells terms = no_cells, short_terms = answer_terms(variables, 77);
+    static uint32_t before[SPACE_CELLS];
+    memcpy(before, space, sizeof before);
+    short_terms.count--;
+    for (uint32_t i = 0; i < variables; i++)
+        append(&terms, ATOM(7));
+    answer_is("an answer that it holds", 1, answer_terms(variables, 79), SAID(TABLES_OLD, 1));
+    answer_is("the other", 1, terms, SAID(TABLES_OLD, 2));
+    terms.cell[variables - 1] = ATOM(8);
+    answer_is("an answer that it lacks", 1, terms, REFUSED(8));
+    answer_is("a term too few", 1, short_terms, REFUSED(3));
+    check(memcmp(space, before, sizeof space) == 0, "what is offered changes the space");
+}
+
 static void check_finished(uint32_t arity, uint32_t variables)
 {
     check_word("finish", tables_finish(space, SPACE_CELLS, 1), TABLES_DONE);
     call_is("a finished call", predicate(arity, arity, 5, 3), SAID(TABLES_OLD_FINISHED, 1));
-    answer_is("an answer after finish", 1, answer_terms(variables, 77), REFUSED(8));
+    check_offered(variables);
     check_read(arity, variables, TABLES_NO_MORE);
 }
 

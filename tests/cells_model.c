@@ -2,12 +2,12 @@
  * The calls on the cells of a space, sound or damaged: the tests' second opinion.
  *
  * Written from the request alone and for reading beside it. "01" is the request, "Q-7" the later
- * one on editions, "Q-2" that on joins and "Q-1" that on the end of next, "OP 9" the ninth open
- * point in 01 and "OP2 9" in the later ones; words in quotation marks are theirs. Only the result
- * words (TABLES_...) come from tables.h.
+ * one on editions, "Q-2" that on joins, "Q-1" that on the end of next and "Q-4" that on finished
+ * subgoals, "OP 9" the ninth open point in 01 and "OP2 9" in the later ones; words in quotation
+ * marks are theirs. Only the result words (TABLES_...) come from tables.h.
  *
- * Every call reads and judges first, in the order of 01's table of refusals, and writes only when
- * nothing is left to refuse: so "a refusal changes nothing". The parts, from top to bottom: the
+ * Every call reads and judges first, in the order of 01's table of refusals as the later requests
+ * change it, and writes only when nothing is left to refuse: so "a refusal changes nothing". The parts, from top to bottom: the
  * numbers of the request; pair form to compact form; compact form to pair form; the header and the
  * records; judging a record; the walk down a trie and the path up; writing; the calls; the join,
  * which alone takes memory of its own for what it has read.
@@ -643,7 +643,8 @@ static void write_subgoal(uint32_t *cells, const struct space *s, const struct f
     cells[SUBGOALS_USED] = number;
 }
 
-/* The new answer is its subgoal's last, and its first if it had none. */
+/* The new answer is its subgoal's last, and its first if it had none. "A ground subgoal also becomes
+ * finished as its one answer enters" (Q-4); ground is m = 0, as recorded (OP2 31). */
 static void write_answer(uint32_t *cells, const struct space *s, uint32_t subgoal,
                          const struct form *form, const struct walk *walk)
 {
@@ -658,6 +659,8 @@ static void write_answer(uint32_t *cells, const struct space *s, uint32_t subgoa
     else
         cells[answer_at(s, before, NEXT_ANSWER)] = number;
     cells[subgoal_at(s, subgoal, LAST_ANSWER)] = number;
+    if (of_subgoal(s, subgoal, M) == 0)
+        cells[subgoal_at(s, subgoal, STATE)] = FINISHED;
     cells[ANSWERS_USED] = number;
 }
 
@@ -744,7 +747,8 @@ uint64_t cells_model_call(uint32_t *space, size_t space_cells, const uint32_t *t
     return result(TABLES_NEW, s.subgoals + 1);
 }
 
-/* "If new, the last answer, whose next must be 0"; before 10 and 11 (OP 14). */
+/* "If new, the last answer, whose next must be 0"; before 10 and 11 (OP 14), and before 8, which is
+ * only for an answer "that it lacks" and stands "after all of 9" (Q-4, OP2 28). */
 static uint64_t new_answer(uint32_t *space, const struct space *s, uint32_t subgoal,
                            const struct form *form, const struct walk *walk)
 {
@@ -752,6 +756,8 @@ static uint64_t new_answer(uint32_t *space, const struct space *s, uint32_t subg
     if (last != NONE && (!is_sound_answer_of(s, last, subgoal) ||
                          of_answer(s, last, NEXT_ANSWER) != NONE))
         return refused(DAMAGED);
+    if (of_subgoal(s, subgoal, STATE) == FINISHED)
+        return refused(FINISHED_ALREADY);
     enum refusal refusal = room_for(s, form->count - walk->matched, s->answers, s->answer_room);
     if (refusal != ACCEPTED)
         return refused(refusal);
@@ -773,8 +779,6 @@ uint64_t cells_model_answer(uint32_t *space, size_t space_cells, uint32_t subgoa
     uint32_t root = of_subgoal(&s, subgoal, ANSWER_ROOT);
     if (!is_sound_subgoal(&s, subgoal) || !is_sound_root(&s, ANSWER_TRIE, root))
         return refused(DAMAGED);
-    if (of_subgoal(&s, subgoal, STATE) == FINISHED)
-        return refused(FINISHED_ALREADY);
     enum refusal refusal =
         compact(s.edition, of_subgoal(&s, subgoal, M), terms, terms_cells, &form);
     if (refusal != ACCEPTED)
@@ -782,7 +786,8 @@ uint64_t cells_model_answer(uint32_t *space, size_t space_cells, uint32_t subgoa
     if (!walk_down(&s, ANSWER_TRIE, root, &form, &walk))
         return refused(DAMAGED);
     if (walk.link != NONE) {
-        /* "A record found by a link names that leaf"; its subgoal is not compared (OP 5). */
+        /* "A record found by a link names that leaf"; its subgoal is not compared (OP 5). In either
+         * state, and the state stays (OP2 30). */
         if (!is_sound_answer(&s, walk.link) || of_answer(&s, walk.link, ANSWER_LEAF) != walk.node)
             return refused(DAMAGED);
         return result(TABLES_OLD, walk.link);

@@ -634,7 +634,10 @@ static uint64_t ask_plain(struct plain_table *plain, const struct request *reque
     }
 }
 
-/* The plain table of the lists that were read, entered in the order of their numbers. NULL: they are no table's. */
+/*
+ * The plain table of the lists that were read, entered in the order of their numbers, with the states that were read, whatever
+ * the answers left. NULL: they are no table's.
+ */
 static struct plain_table *rebuild(void)
 {
     struct plain_table *plain = plain_table_open(table.nodes, table.subgoals, table.answers, table.edition);
@@ -645,8 +648,7 @@ static struct plain_table *rebuild(void)
         entered = plain_table_answer(plain, table.answer[i].subgoal, table.answer[i].form.cell, table.answer[i].form.cells) ==
                   SAID(TABLES_NEW, i + 1);
     for (uint32_t i = 0; entered && i < table.used_subgoals; i++)
-        if (table.subgoal[i].finished)
-            entered = plain_table_finish(plain, i + 1) == SAID(TABLES_DONE, 0);
+        plain_table_set_state(plain, i + 1, table.subgoal[i].finished);
     if (entered)
         return plain;
     plain_table_close(plain);
@@ -736,14 +738,24 @@ static void list_answers(struct plain_table *plain)
     }
 }
 
+/* Answers given again, by the state of their subgoal; open without variables is what no call leaves. */
+static uint64_t given_open, given_finished, given_open_ground;
+
+static void count_given(const struct read_subgoal *subgoal)
+{
+    given_finished += subgoal->finished;
+    given_open += !subgoal->finished;
+    given_open_ground += !subgoal->finished && subgoal->variables == 0;
+}
+
 static void give_form(struct request *request, const struct read_form *form)
 {
     request->argument.count = form->cells;
     memcpy(request->argument.cell, form->cell, form->cells * sizeof *form->cell);
 }
 
-/* Every subgoal called again, and every answer of an open one given again. */
-static void enter_again(struct plain_table *plain)
+/* Every subgoal called again: old, in the state that was read. */
+static void call_again(struct plain_table *plain)
 {
     static struct request request;
     request.kind = CALL;
@@ -751,13 +763,21 @@ static void enter_again(struct plain_table *plain)
         give_form(&request, &table.subgoal[i].form);
         expect(plain, &request, SAID(table.subgoal[i].finished ? TABLES_OLD_FINISHED : TABLES_OLD_OPEN, i + 1));
     }
+}
+
+/* Every answer given again: old, be the subgoal open or finished, and every state stays. */
+static void enter_again(struct plain_table *plain)
+{
+    static struct request request;
+    call_again(plain);
     request.kind = ANSWER;
     for (uint32_t i = 0; i < table.used_answers; i++) {
         request.number = table.answer[i].subgoal;
         give_form(&request, &table.answer[i].form);
-        bool finished = table.subgoal[request.number - 1].finished;
-        expect(plain, &request, finished ? REFUSED(TABLES_REFUSED_STATE) : SAID(TABLES_OLD, i + 1));
+        expect(plain, &request, SAID(TABLES_OLD, i + 1));
+        count_given(&table.subgoal[request.number - 1]);
     }
+    call_again(plain);
 }
 
 /* Is the space, as the calls left it, still that of a table, with the nodes of the sum? */
@@ -1038,6 +1058,14 @@ static unsigned report_oddities(void)
     return missing;
 }
 
+static unsigned report_given(void)
+{
+    printf("  answers given again, old: to open subgoals %" PRIu64 ", of these without variables %" PRIu64 ", to finished ones %" PRIu64
+           "\n", given_open, given_open_ground, given_finished);
+    return too_seldom("given again", "open", given_open) + too_seldom("given again", "open without variables", given_open_ground) +
+           too_seldom("given again", "finished", given_finished);
+}
+
 static unsigned report_counts(void)
 {
     printf("  lists of calls: %" PRIu64 ", checks of them %" PRIu64 ", of a full table %" PRIu64 ", of one without subgoals %" PRIu64
@@ -1125,7 +1153,7 @@ int main(int argc, char **argv)
         check_damaged();
     }
     if (failures == 0)
-        failures += check_tally(possible, 1) + report_outcomes() + report_faults() + report_oddities() + report_counts();
+        failures += check_tally(possible, 1) + report_outcomes() + report_faults() + report_oddities() + report_given() + report_counts();
     printf("check_test: seed %" PRIu64 ", %u lists, %u spaces, %" PRIu64 " calls compared, %u failures\n", seed, lists, rounds,
            compared, failures);
     return failures == 0 ? 0 : 1;

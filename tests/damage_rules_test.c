@@ -31,9 +31,9 @@ static uint32_t edition;
 #define EPAIR TABLES_CELL(TABLES_EPAIR, 0)
 
 /*
- * The sound space. Subgoals: 1 f(X,a), 2 f(X,Y), 3 q(a). Answers: 1 b, 2 c and
- * 4 g(b) of subgoal 1, the empty answer 3 of subgoal 3, 5 b and Z, and 6 [b|c]
- * and d of subgoal 2.
+ * The sound space. Subgoals: 1 f(X,a), 2 f(X,Y), 3 q(a), which its answer has
+ * finished. Answers: 1 b, 2 c and 4 g(b) of subgoal 1, the empty answer 3 of
+ * subgoal 3, 5 b and Z, and 6 [b|c] and d of subgoal 2.
  *
  *      0 root of the subgoals       4 answer root of subgoal 1
  *        1 f/2                        10 b    answer 1
@@ -64,7 +64,7 @@ static const uint32_t sound_nodes[NODES][5] = {
     {D, 0, 0, 19, 6},
 };
 static const uint32_t sound_subgoals[SUBGOALS][6] = {
-    {3, 4, 1, 0, 1, 4}, {5, 6, 2, 0, 5, 6}, {8, 9, 0, 0, 3, 3}};
+    {3, 4, 1, 0, 1, 4}, {5, 6, 2, 0, 5, 6}, {8, 9, 0, 1, 3, 3}};
 static const uint32_t sound_answers[ANSWERS][3] = {{10, 1, 2}, {11, 1, 4}, {9, 3, 0},
                                                    {13, 1, 0}, {15, 2, 6}, {20, 2, 0}};
 
@@ -207,7 +207,7 @@ static uint64_t make(const struct request *request, struct space *space, uint32_
     }
 }
 
-/* Makes the call and checks its result; a refused or reading call must leave every cell. */
+/* Makes the call and checks its result; a refused or reading call, and an old answer, must leave every cell. */
 static void check_call(const char *rule, struct space *space, const struct request *request,
                        uint64_t result)
 {
@@ -220,7 +220,7 @@ static void check_call(const char *rule, struct space *space, const struct reque
         printf("%s: %#" PRIx64 " instead of %#" PRIx64 "\n", rule, word, result);
     check(word == result, rule, "result");
     bool refused = tables_refused_by(word) != 0;
-    if (refused || request->call >= NEXT)
+    if (refused || request->call >= NEXT || tables_what(word) == TABLES_OLD)
         check(memcmp(space, &before, sizeof before) == 0, rule, "the space was changed");
     if (refused || request->call < LOAD)
         check(memcmp(out, out_before, sizeof out) == 0, rule, "out was changed");
@@ -394,6 +394,7 @@ static const struct {
     {FINISH_OF(1), SAID(TABLES_DONE, 0), SAID(TABLES_DONE, 0)},
     {NEXT_OF(1, 2), SAID(TABLES_AT, 4), SAID(TABLES_AT, 4)},
     {NEXT_OF(1, 4), SAID(TABLES_NONE_YET, 0), SAID(TABLES_NONE_YET, 0)},
+    {NEXT_OF(3, 3), SAID(TABLES_NO_MORE, 0), SAID(TABLES_NO_MORE, 0)},
     {LOAD_OF(1), SAID(TABLES_CELLS, 1), SAID(TABLES_CELLS, 1)},
     {LOAD_OF(3), SAID(TABLES_CELLS, 0), SAID(TABLES_CELLS, 0)},
     {LOAD_OF(4), DAMAGED, SAID(TABLES_CELLS, 2)},
@@ -415,6 +416,121 @@ static void check_other_readings(void)
                    edition == TABLES_EDITION_1 ? other_readings[i].as_edition_2
                                                : other_readings[i].as_edition_1);
         check(space.cell[0] == other_edition(edition), "read by the other edition", "the edition");
+    }
+}
+
+/* Finished subgoals */
+
+struct step {
+    struct request request;
+    uint64_t result;
+};
+
+/* The calls one after another, each in the space that the one before left. */
+static void check_steps(const char *rule, struct space *space, const struct step *steps, size_t count)
+{
+    note_place("%s", rule);
+    for (size_t i = 0; i < count; i++)
+        check_call(rule, space, &steps[i].request, steps[i].result);
+}
+
+/* A ground subgoal is finished by its answer, and nothing else is written than for any answer. */
+static void check_ground(void)
+{
+    static const char rule[] = "a ground subgoal and its answer";
+    static const struct step steps[] = {
+        {CALL_NEW, SAID(TABLES_NEW, 4)},          {NEXT_OF(4, 0), SAID(TABLES_NONE_YET, 0)},
+        {ANSWER_OF(4, B), REFUSED(3)},            {CALL_NEW, SAID(TABLES_OLD_OPEN, 4)},
+        {EMPTY_ANSWER_OF(4), SAID(TABLES_NEW, 7)}, {NEXT_OF(4, 0), SAID(TABLES_AT, 7)},
+        {NEXT_OF(4, 7), SAID(TABLES_NO_MORE, 0)}, {CALL_NEW, SAID(TABLES_OLD_FINISHED, 4)},
+        {EMPTY_ANSWER_OF(4), SAID(TABLES_OLD, 7)}, {ANSWER_OF(4, B), REFUSED(3)},
+        {FINISH_OF(4), SAID(TABLES_DONE, 0)},     {EMPTY_ANSWER_OF(4), SAID(TABLES_OLD, 7)},
+        {LOAD_OF(7), SAID(TABLES_CELLS, 0)},      {NEXT_OF(4, 7), SAID(TABLES_NO_MORE, 0)},
+    };
+    static const uint32_t subgoal[6] = {21, 22, 0, 1, 7, 7}, answer[3] = {22, 4, 0};
+    static const uint32_t root[5] = {0, 0, 0, 22, 7};
+    struct space space;
+    write_sound(&space, ROOMY);
+    check_steps(rule, &space, steps, sizeof steps / sizeof *steps);
+    check(space.cell[1] == 23 && space.cell[2] == 4 && space.cell[3] == 7, rule, "counts");
+    check(memcmp(&space.cell[place(&space, SUBGOAL_CELL, 4, 0)], subgoal, sizeof subgoal) == 0, rule,
+          "the subgoal's record");
+    check(memcmp(&space.cell[place(&space, ANSWER_CELL, 7, 0)], answer, sizeof answer) == 0, rule,
+          "the answer's record");
+    check(memcmp(&space.cell[place(&space, NODE_CELL, 22, 0)], root, sizeof root) == 0, rule,
+          "the answer root");
+}
+
+/* An open ground subgoal that holds its answer, as no call leaves it: old changes no state, finish does. */
+static void check_open_ground(void)
+{
+    static const char rule[] = "an open ground subgoal that holds its answer";
+    static const struct step steps[] = {
+        {EMPTY_ANSWER_OF(3), SAID(TABLES_OLD, 3)}, {CALL_QA, SAID(TABLES_OLD_OPEN, 3)},
+        {NEXT_OF(3, 0), SAID(TABLES_AT, 3)},       {NEXT_OF(3, 3), SAID(TABLES_NONE_YET, 0)},
+        {EMPTY_ANSWER_OF(3), SAID(TABLES_OLD, 3)}, {NEXT_OF(3, 3), SAID(TABLES_NONE_YET, 0)},
+        {FINISH_OF(3), SAID(TABLES_DONE, 0)},      {NEXT_OF(3, 3), SAID(TABLES_NO_MORE, 0)},
+        {EMPTY_ANSWER_OF(3), SAID(TABLES_OLD, 3)}, {CALL_QA, SAID(TABLES_OLD_FINISHED, 3)},
+    };
+    struct space space, sound;
+    write_sound(&sound, ROOMY);
+    space = sound;
+    space.cell[place(&space, SUBGOAL_CELL, 3, STATE)] = 0;
+    check_steps(rule, &space, steps, sizeof steps / sizeof *steps);
+    check(memcmp(&space, &sound, sizeof sound) == 0, rule, "the space is the sound one in the end");
+}
+
+/* Ground is what the record says: m 0 and a root without a link, though the subgoal has a variable. */
+static void check_bent_ground(void)
+{
+    static const char rule[] = "a recorded m of 0";
+    static const struct step steps[] = {
+        {EMPTY_ANSWER_OF(1), SAID(TABLES_NEW, 7)}, {CALL_FXA, SAID(TABLES_OLD_FINISHED, 1)},
+        {EMPTY_ANSWER_OF(1), SAID(TABLES_OLD, 7)}, {NEXT_OF(1, 4), SAID(TABLES_AT, 7)},
+        {NEXT_OF(1, 7), SAID(TABLES_NO_MORE, 0)},
+    };
+    struct space space;
+    write_sound(&space, ROOMY);
+    space.cell[place(&space, SUBGOAL_CELL, 1, VARIABLES)] = 0;
+    check_steps(rule, &space, steps, sizeof steps / sizeof *steps);
+}
+
+/* So many cells: a list of atoms or of different variables, or, if they are even, one cell short of it. */
+static void write_list(uint32_t *cells, size_t count, bool variables)
+{
+    for (size_t i = 0; i + 1 < count; i += 2) {
+        cells[i] = PAIR;
+        cells[i + 1] = variables ? VAR(i / 2) : D;
+    }
+    cells[count - 1] = NIL;
+}
+
+/* 4, 3 and 5 before 8, which comes of terms within the limits, also in a full table. */
+static void check_finished_lengths(enum room room)
+{
+    static const struct {
+        const char *rule;
+        size_t cells;
+        bool variables;
+        uint64_t result;
+    } offers[] = {
+        {"finished: 257 cells", 257, false, REFUSED(4)},
+        {"finished: 257 cells and too many variables", 257, true, REFUSED(4)},
+        {"finished: 256 cells, not a term", 256, false, REFUSED(3)},
+        {"finished: 255 cells", 255, false, REFUSED(8)},
+        {"finished: 33 variables", 67, true, REFUSED(5)},
+        {"finished: 32 variables", 65, true, REFUSED(8)},
+    };
+    for (size_t i = 0; i < sizeof offers / sizeof *offers; i++) {
+        uint32_t cells[257];
+        struct space space, before;
+        write_list(cells, offers[i].cells, offers[i].variables);
+        write_sound(&space, room);
+        space.cell[place(&space, SUBGOAL_CELL, 1, STATE)] = 1;
+        before = space;
+        uint64_t word = tables_answer(space.cell, space.count, 1, cells, offers[i].cells);
+        check(word == offers[i].result, offers[i].rule, "result");
+        check(memcmp(&space, &before, sizeof before) == 0, offers[i].rule, "the space was changed");
     }
 }
 
@@ -650,6 +766,11 @@ static void check_edition(uint32_t checked)
     check_nothing_lent();
     check_headers();
     check_other_readings();
+    check_ground();
+    check_open_ground();
+    check_bent_ground();
+    check_finished_lengths(ROOMY);
+    check_finished_lengths(TIGHT);
     check_beyond();
     check_paths();
     check_largest("the most nodes", 0);

@@ -66,6 +66,21 @@ static struct known known;
 static struct plan plan;
 static const struct request *planned;
 
+/* Answers that are in the space before it is damaged, so that they are offered again. */
+enum { MOST_GIVEN = 64 };
+
+static struct {
+    size_t count;
+    struct request request[MOST_GIVEN];
+} given;
+
+/* For a new space. */
+static void forget(void)
+{
+    memset(&known, 0, sizeof known);
+    given.count = 0;
+}
+
 /* Makes a request of cells that are lent as they are, and learns from what comes of it. */
 static void enter(const struct request *request, uint32_t *space, size_t space_cells)
 {
@@ -73,6 +88,8 @@ static void enter(const struct request *request, uint32_t *space, size_t space_c
     uint64_t word = make_request(request, space, space_cells, request->argument.cell,
                                  request->copies.cell, out, TABLES_INSTANCE_CELLS);
     learn_result(&known, request, word);
+    if (request->kind == ANSWER && tables_what(word) == TABLES_NEW && given.count < MOST_GIVEN)
+        given.request[given.count++] = *request;
 }
 
 static void make_fresh(uint32_t *space, size_t space_cells, uint32_t nodes, uint32_t subgoals,
@@ -115,7 +132,7 @@ static bool draw_for_join(struct image *image)
     image->edition = draw_edition();
     draw_plan(image->edition, &plan);
     size_t join = draw_planned(), made = join + chance(35);
-    memset(&known, 0, sizeof known);
+    forget();
     make_fresh(roomy, roomy_cells, ROOMY_NODES, ROOMY_SUBGOALS, ROOMY_ANSWERS, image->edition);
     for (size_t i = 0; i <= join; i++)
         enter(&plan.request[i], roomy, roomy_cells);
@@ -124,7 +141,7 @@ static bool draw_for_join(struct image *image)
     image->count = TABLES_SPACE_CELLS(nodes, subgoals, answers) + below(3);
     if (image->count > SPACE_CELLS || known.subgoals == 0)
         return false;
-    memset(&known, 0, sizeof known);
+    forget();
     open_drawer(&drawer, image->edition, 2, 5, 4);
     make_fresh(image->cell, image->count, nodes, subgoals, answers, image->edition);
     for (size_t i = 0; i < made; i++)
@@ -142,7 +159,7 @@ static void draw_sound(struct image *image)
     image->edition = draw_edition();
     image->count = TABLES_SPACE_CELLS(nodes, subgoals, answers) + below(3);
     planned = NULL;
-    memset(&known, 0, sizeof known);
+    forget();
     open_drawer(&drawer, image->edition, nodes > 100 ? 20 : 2, 5, chance(50) ? 4 : 8);
     make_fresh(image->cell, image->count, nodes, subgoals, answers, image->edition);
     for (size_t calls = between(3, 40); calls > 0; calls--) {
@@ -577,6 +594,77 @@ static void check_model(unsigned round, const struct request *request, const str
         fail(round, name, "another out than the model's", word);
 }
 
+/* Answers to finished subgoals, and the empty answer to an open one, by what came of them */
+
+enum finished_case {
+    HELD,
+    LACKED,
+    LACKED_FULL,
+    LAST_DAMAGED, /* 9, and 8 if the last answer were not read */
+    OTHER_DAMAGED,
+    NO_TERMS,
+    GROUND_FINISHED,
+    OPEN_GROUND_OLD,
+    FINISHED_CASES
+};
+
+static const char *const finished_names[FINISHED_CASES] = {
+    [HELD] = "old", [LACKED] = "8", [LACKED_FULL] = "8 in a full table",
+    [LAST_DAMAGED] = "9 for the last answer before 8", [OTHER_DAMAGED] = "another 9",
+    [NO_TERMS] = "3, 4 or 5", [GROUND_FINISHED] = "finished by the empty answer",
+    [OPEN_GROUND_OLD] = "the empty answer old and the subgoal open",
+};
+
+static uint64_t finished_met[FINISHED_CASES];
+
+/* Would the answer be refused by 8 if its subgoal had no last answer to read? */
+static bool is_lacked(const struct request *request, const struct image *image)
+{
+    static uint32_t cells[SPACE_CELLS];
+    memcpy(cells, image->cell, image->count * sizeof *cells);
+    uint32_t *record = &cells[cells[5] + 6 * (size_t)(request->number - 1)];
+    record[4] = record[5] = 0;
+    return tables_refused_by(cells_model_answer(cells, image->count, request->number,
+                                                request->argument.cell,
+                                                request->argument.count)) == TABLES_REFUSED_STATE;
+}
+
+static void count_finished(const struct request *request, const struct image *image, uint64_t word)
+{
+    const uint32_t *cells = image->cell;
+    uint32_t refusal = tables_refused_by(word);
+    bool full = cells[1] == (cells[5] - 8) / 5 || cells[3] == (cells[7] - cells[6]) / 3;
+    finished_met[HELD] += tables_what(word) == TABLES_OLD;
+    finished_met[LACKED] += refusal == TABLES_REFUSED_STATE;
+    finished_met[LACKED_FULL] += refusal == TABLES_REFUSED_STATE && full;
+    finished_met[NO_TERMS] += refusal >= TABLES_REFUSED_TERM && refusal <= TABLES_REFUSED_VARIABLES;
+    if (refusal == TABLES_REFUSED_DAMAGED)
+        finished_met[is_lacked(request, image) ? LAST_DAMAGED : OTHER_DAMAGED]++;
+}
+
+/* Of an answer to a subgoal that there is, by the state and the m that its record holds. */
+static void check_state(unsigned round, const struct request *request, const struct loan *loan,
+                        uint64_t word)
+{
+    enum { M = 2, STATE = 3 };
+    const uint32_t *before = loan->image->cell;
+    uint32_t refusal = tables_refused_by(word);
+    if (request->kind != ANSWER || refusal == TABLES_REFUSED_HEADER || refusal == TABLES_REFUSED_NUMBER)
+        return;
+    size_t place = before[5] + 6 * (size_t)(request->number - 1);
+    bool open = before[place + STATE] == 0, is_new = tables_what(word) == TABLES_NEW;
+    bool finishes = is_new && before[place + M] == 0;
+    if (before[place + STATE] == 1)
+        count_finished(request, loan->image, word);
+    finished_met[GROUND_FINISHED] += finishes;
+    finished_met[OPEN_GROUND_OLD] +=
+        open && tables_what(word) == TABLES_OLD && before[place + M] == 0;
+    if (is_new && !open)
+        fail(round, "answer", "new, and its subgoal was finished", word);
+    if (loan->space[place + STATE] != (finishes ? 1 : before[place + STATE]))
+        fail(round, "answer", "another state of its subgoal", word);
+}
+
 /* Each of the four lies against its upper or its lower guard page, by a bit of `sides`. */
 static void check_request(unsigned round, const struct image *image, const struct request *request,
                           unsigned sides)
@@ -599,6 +687,7 @@ static void check_request(unsigned round, const struct image *image, const struc
     check_edition(round, request, image, word);
     check_cells(round, request, &loan, word);
     check_written(round, request, &loan, word);
+    check_state(round, request, &loan, word);
     check_model(round, request, &loan, word);
 }
 
@@ -642,9 +731,20 @@ static void draw_join_of(struct request *request)
     }
 }
 
+/* An answer: one that the space held before it was damaged, or another. */
+static void draw_answer_of(struct request *request)
+{
+    if (given.count > 0 && chance(40))
+        *request = given.request[below(given.count)];
+    else
+        draw_request(&drawer, ANSWER, &known, request);
+}
+
 static unsigned times_of(unsigned kind)
 {
-    return kind == COUNTS || kind == FINISH ? 1 : kind == JOIN && planned != NULL ? 4 : 2;
+    if (kind == COUNTS || kind == FINISH)
+        return 1;
+    return kind == JOIN && planned != NULL ? 4 : kind == ANSWER ? 3 : 2;
 }
 
 static void check_round(unsigned round)
@@ -657,6 +757,8 @@ static void check_round(unsigned round)
         for (unsigned times = times_of(kind); times > 0; times--) {
             if (kind == JOIN)
                 draw_join_of(&request);
+            else if (kind == ANSWER)
+                draw_answer_of(&request);
             else
                 draw_request(&drawer, (enum request_kind)kind, &known, &request);
             joins_by_damage[kind_of_damage] += kind == JOIN;
@@ -681,6 +783,21 @@ static void check_joins(void)
     printf("failed: too few joins of damaged spaces\n");
 }
 
+/* Each one round in 400 at least. */
+static void check_finished(void)
+{
+    printf("  answers to finished subgoals:");
+    for (unsigned i = 0; i < FINISHED_CASES; i++)
+        printf("%s %s %" PRIu64, i == 0 ? "" : ",", finished_names[i], finished_met[i]);
+    printf("\n");
+    for (unsigned i = 0; i < FINISHED_CASES; i++) {
+        if (finished_met[i] >= rounds / 400)
+            continue;
+        failures++;
+        printf("failed: too seldom: %s\n", finished_names[i]);
+    }
+}
+
 /* Arguments: the seed, and the number of rounds. */
 int main(int argc, char **argv)
 {
@@ -703,6 +820,7 @@ int main(int argc, char **argv)
     if (failures == 0) { /* each in each edition, one round in 4,000 at least */
         failures += check_tally(possible, rounds / 4000);
         check_joins();
+        check_finished();
     }
     printf("damaged_spaces_test: seed %" PRIu64 ", %u spaces, %lu calls compared, %u failures\n", seed,
            rounds, compared, failures);

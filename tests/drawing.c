@@ -367,6 +367,13 @@ static uint32_t variables_of(const struct known *known, uint32_t subgoal)
     return is_known(known, subgoal) ? known->variables[subgoal - 1] : 1;
 }
 
+/* A subgoal without variables is finished as its answer enters. */
+static void learn_entry(struct known *known, size_t place)
+{
+    if (known->variables[place] == 0)
+        known->finished[place] = true;
+}
+
 void learn_result(struct known *known, const struct request *request, uint64_t word)
 {
     uint32_t what = tables_what(word), value = tables_value(word);
@@ -380,12 +387,15 @@ void learn_result(struct known *known, const struct request *request, uint64_t w
         known->answered[place]++;
         if (distinct_variables(&request->argument) > 0)
             known->holds_variables[place] = true;
+        learn_entry(known, place);
     }
     if (request->kind == FINISH && what == TABLES_DONE && place < KNOWN_SUBGOALS)
         known->finished[place] = true;
     if (request->kind == JOIN && what == TABLES_JOINED && place < KNOWN_SUBGOALS) {
         known->answers += value;
         known->answered[place] += value;
+        if (value > 0)
+            learn_entry(known, place);
     }
 }
 

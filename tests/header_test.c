@@ -162,7 +162,7 @@ static void test_space(void)
     const uint32_t goal[] = {tables_functor_cell(TABLES_EDITION_2, 1, 1),
                              tables_cell(TABLES_VARIABLE, 0)};
     const uint32_t spilled = tables_cell(TABLES_ATOM, UINT64_C(1) << 28);
-    const uint32_t atom = tables_cell(TABLES_ATOM, 3);
+    const uint32_t atom = tables_cell(TABLES_ATOM, 3), lacked = tables_cell(TABLES_ATOM, 4);
     check(tables_fresh(space, SPACE_CELLS, 10, 2, 2, TABLES_EDITION_2) == 0, "fresh");
     check(tables_edition(space, SPACE_CELLS) == TABLES_EDITION_2, "the edition");
     check(tables_edition(NULL, 0) == 0, "no edition");
@@ -178,6 +178,13 @@ static void test_space(void)
     check(tables_next(space, SPACE_CELLS, 1, 1) == word(TABLES_NONE_YET, 0), "none yet");
     check(tables_finish(space, SPACE_CELLS, 1) == word(TABLES_DONE, 0), "finish");
     check(tables_next(space, SPACE_CELLS, 1, 1) == word(TABLES_NO_MORE, 0), "no more");
+    check(tables_answer(space, SPACE_CELLS, 1, &atom, 1) == word(TABLES_OLD, 1), "an answer held");
+    check(tables_refused_by(tables_answer(space, SPACE_CELLS, 1, &lacked, 1)) ==
+              TABLES_REFUSED_STATE,
+          "an answer lacked");
+    check(tables_call(space, SPACE_CELLS, &atom, 1) == word(TABLES_NEW, 2), "a ground subgoal");
+    check(tables_answer(space, SPACE_CELLS, 2, NULL, 0) == word(TABLES_NEW, 2), "its answer");
+    check(tables_call(space, SPACE_CELLS, &atom, 1) == word(TABLES_OLD_FINISHED, 2), "finished");
 }
 
 int main(void)

@@ -79,6 +79,11 @@ struct step {
     {.call = ANSWER, .number = (subgoal), .cells = CELLS(__VA_ARGS__), .word = SAID(TABLES_NEW, answer)}
 #define ANSWERED_NESTED(subgoal, answer, count) \
     {.call = ANSWER, .number = (subgoal), .nested = (count), .word = SAID(TABLES_NEW, answer)}
+#define EMPTY_ANSWERED(subgoal, result) {.call = ANSWER, .number = (subgoal), .word = (result)}
+#define LACKED(subgoal, ...) \
+    {.call = ANSWER, .number = (subgoal), .cells = CELLS(__VA_ARGS__), .word = REFUSED(8)}
+#define CALLED_AGAIN(state, subgoal, ...) \
+    {.call = CALL, .cells = CELLS(__VA_ARGS__), .word = SAID(state, subgoal)}
 #define OLD(subgoal, answer, ...) \
     {.call = ANSWER, .number = (subgoal), .cells = CELLS(__VA_ARGS__), .word = SAID(TABLES_OLD, answer)}
 #define FINISHED(subgoal) {.call = FINISH, .number = (subgoal), .word = SAID(TABLES_DONE, 0)}
@@ -178,13 +183,22 @@ static const struct row rows[] = {
         JOINED(5, 5, PAIRS(0, 0), 3, COPIES(1, 0, 0, 0), NEW_ONES(0)), NONE_YET_AFTER(3, 0)),
     ROW("a subgoal may be joined with itself", JOINED(2, 2, PAIRS(1, 0), 3, HEAD, NEW_ONES(1)),
         LOADED(6, B, D), NONE_YET_AFTER(3, 6)),
-    ROW("a target without variables takes the empty answer, once",
-        JOINED(1, 2, RULE, 4, NO_CELLS, NEW_ONES(1)), AT(4, 0, 6), LOADED_NONE(6), NONE_YET_AFTER(4, 6),
-        COUNTED(26, 5, 6), JOINED(1, 2, RULE, 4, NO_CELLS, NEW_ONES(0)), COUNTED(26, 5, 6)),
-    ROW("and none where nothing matches", JOINED(1, 2, PAIRS(0, 0), 4, NO_CELLS, NEW_ONES(0)),
-        JOINED(1, 5, NO_CELLS, 4, NO_CELLS, NEW_ONES(0)), NONE_YET_AFTER(4, 0)),
-    ROW("the empty answer of a source is an answer", {.call = ANSWER, .number = 4, .word = SAID(TABLES_NEW, 6)},
-        FINISHED(4), JOINED(4, 1, NO_CELLS, 3, COPIES(1, 1, 1, 0), NEW_ONES(2)), LOADED(7, B, A),
+    ROW("a target without variables takes the empty answer, once, and is finished by it",
+        JOINED(1, 2, RULE, 4, NO_CELLS, NEW_ONES(1)), AT(4, 0, 6), LOADED_NONE(6), NO_MORE_AFTER(4, 6),
+        CALLED_AGAIN(TABLES_OLD_FINISHED, 4, S), COUNTED(26, 5, 6), JOINED(1, 2, RULE, 4, NO_CELLS, REFUSED(8)),
+        JOINED(3, 2, PAIRS(9), 4, COPIES(2, 0), REFUSED(8)), EMPTY_ANSWERED(4, SAID(TABLES_OLD, 6)), FINISHED(4),
+        JOINED(1, 2, RULE, 4, NO_CELLS, REFUSED(8)), COUNTED(26, 5, 6)),
+    ROW("finished by its single answer, it takes no join either", EMPTY_ANSWERED(4, SAID(TABLES_NEW, 6)),
+        NO_MORE_AFTER(4, 6), JOINED(1, 2, RULE, 4, NO_CELLS, REFUSED(8)),
+        JOINED(1, 2, PAIRS(0, 0), 4, NO_CELLS, REFUSED(8)), COUNTED(26, 5, 6)),
+    ROW("and none where nothing matches, and stays open", JOINED(1, 2, PAIRS(0, 0), 4, NO_CELLS, NEW_ONES(0)),
+        JOINED(1, 5, NO_CELLS, 4, NO_CELLS, NEW_ONES(0)), NONE_YET_AFTER(4, 0),
+        CALLED_AGAIN(TABLES_OLD_OPEN, 4, S), JOINED(1, 2, RULE, 4, NO_CELLS, NEW_ONES(1)), NO_MORE_AFTER(4, 6)),
+    ROW("open with its answer, as no call leaves it, it stays open by a join that gives it again",
+        JOINED(1, 2, RULE, 4, NO_CELLS, NEW_ONES(1)), SET_CELL(SUBGOAL, 4, STATE, 0),
+        JOINED(1, 2, RULE, 4, NO_CELLS, NEW_ONES(0)), HOLDS(SUBGOAL, 4, 13, 14, 0, 0, 6, 6), NONE_YET_AFTER(4, 6)),
+    ROW("the empty answer of a source is an answer, and finishes the source", EMPTY_ANSWERED(4, SAID(TABLES_NEW, 6)),
+        JOINED(4, 1, NO_CELLS, 3, COPIES(1, 1, 1, 0), NEW_ONES(2)), LOADED(7, B, A),
         LOADED(8, C, A), JOINED(4, 4, PAIRS(0, 0), 3, HEAD, NAMES)),
     ROW("a variable stands for a whole term, wherever it begins", CALLED(6, V2, X, Y),
         ANSWERED(6, 6, G1, G1, A, B), ANSWERED(6, 7, B, G1, B), FINISHED(6),
@@ -200,7 +214,7 @@ static const struct row rows[] = {
         COUNTED(65, 7, 12)),
     ROW("single answers go on behind a join, and the target may be a source later",
         RULE_JOINED(NEW_ONES(3)), OLD(3, 7, A, A), ANSWERED(3, 9, D, D), AT(3, 8, 9), FINISHED(3),
-        RULE_JOINED(REFUSED(8)), CALLED(6, V1, X),
+        RULE_JOINED(REFUSED(8)), OLD(3, 7, A, A), OLD(3, 9, D, D), LACKED(3, D, A), CALLED(6, V1, X),
         JOINED(3, 1, PAIRS(1, 0), 6, COPIES(1, 1), NEW_ONES(2)), LOADED(10, B), LOADED(11, C),
         NONE_YET_AFTER(6, 11)),
     ROW("a join leaves its target open, and what is finished has no more", NO_MORE_AFTER(1, 3), NO_MORE_AFTER(5, 0),
@@ -264,7 +278,11 @@ static const struct row rows[] = {
     ROW_WITH("nothing new is no refusal in a full table", 30, 8, RULE_JOINED(NEW_ONES(3)),
              RULE_JOINED(NEW_ONES(0)), JOINED(1, 2, PAIRS(0, 0), 3, HEAD, NEW_ONES(0)),
              JOINED(1, 2, RULE, 3, COPIES(0, 0, 0, 0), NEW_ONES(0)),
-             JOINED(1, 2, RULE, 4, NO_CELLS, REFUSED(11))),
+             JOINED(1, 2, RULE, 4, NO_CELLS, REFUSED(11)), NONE_YET_AFTER(4, 0),
+             CALLED_AGAIN(TABLES_OLD_OPEN, 4, S), HOLDS(SUBGOAL, 4, 13, 14, 0, 0, 0, 0)),
+    ROW_WITH("8 before 10 and 11, and old all the same", 30, 8, RULE_JOINED(NEW_ONES(3)), FINISHED(3),
+             RULE_JOINED(REFUSED(8)), OLD(3, 8, A, D), LACKED(3, D, D), FINISHED(4),
+             JOINED(1, 2, RULE, 4, NO_CELLS, REFUSED(8)), EMPTY_ANSWERED(4, REFUSED(8)), NO_MORE_AFTER(4, 0)),
     ROW_WITH("10 for one node less, and none enters", 29, 20, RULE_JOINED(REFUSED(10)), NONE_YET_AFTER(3, 0),
              COUNTED(26, 5, 5), ANSWERED(3, 6, A, C), RULE_JOINED(REFUSED(10)), NONE_YET_AFTER(3, 6),
              JOINED(1, 2, RULE, 3, COPIES(0, 0, 0, 0), NEW_ONES(1)), COUNTED(29, 5, 7)),
@@ -287,7 +305,7 @@ static const struct row rows[] = {
         HOLDS(ANSWER_RECORD, 6, 27, 3, 7), HOLDS(ANSWER_RECORD, 7, 28, 3, 8),
         HOLDS(ANSWER_RECORD, 8, 29, 3, 0)),
     ROW("a target without variables: the root is the leaf", JOINED(1, 2, RULE, 4, NO_CELLS, NEW_ONES(1)),
-        HOLDS(NODE, 14, 0, 0, 0, 14, 6), HOLDS(SUBGOAL, 4, 13, 14, 0, 0, 6, 6),
+        HOLDS(NODE, 14, 0, 0, 0, 14, 6), HOLDS(SUBGOAL, 4, 13, 14, 0, 1, 6, 6),
         HOLDS(ANSWER_RECORD, 6, 14, 4, 0)),
     ROW("1 before all else", SET_CELL(HEADER, 0, 0, 0), RULE_JOINED(REFUSED(1)),
         JOINED(0, FAR, PAIRS(9), 3, NO_CELLS, REFUSED(1))),

@@ -1,10 +1,11 @@
 /*
  * Arrival order across subgoals: lists of calls in which two answers to different
- * subgoals, one straight after the other and both accepted, change places. Each
- * list is run from fresh in both orders, and what came of it is compared: every
- * reply but for answer numbers, the counts, and what next, load and instance give
- * of each subgoal, to the word at its end. Exchanges that are not allowed must show
- * a difference, by the same comparison.
+ * open subgoals, one straight after the other and both accepted, change places. An
+ * old answer to a finished subgoal is accepted too and takes no part. Each list is
+ * run from fresh in both orders, and what came of it is compared: every reply but
+ * for answer numbers, the counts, and what next, load and instance give of each
+ * subgoal, to the word at its end. Exchanges that are not allowed must show a
+ * difference, by the same comparison.
  */
 #define _DEFAULT_SOURCE
 
@@ -37,11 +38,14 @@ enum met_case {
     SEVERAL, /* exchanges in one list */
     JOIN_BEHIND,
     REFUSED_BEHIND,
+    GROUND,   /* one of the two is new and finishes its subgoal */
+    LEFT_OUT, /* an old answer to a finished subgoal beside an accepted one to another subgoal */
     NONE_YET_AT_END, /* of a subgoal compared */
     NO_MORE_AT_END,
     SAME_SUBGOAL, /* from here on exchanges that are not allowed */
     FINISH_BETWEEN,
-    NO_ROOM,
+    NO_RECORD,
+    NO_NODE,
     MET_CASES
 };
 
@@ -53,11 +57,14 @@ static const char *const case_names[MET_CASES] = {
     [SEVERAL] = "lists of several exchanges",
     [JOIN_BEHIND] = "a join with new answers behind them",
     [REFUSED_BEHIND] = "a refused call behind them",
+    [GROUND] = "one finishes its subgoal",
+    [LEFT_OUT] = "left out, as one subgoal is finished",
     [NONE_YET_AT_END] = "subgoals compared to none yet",
     [NO_MORE_AT_END] = "to no more",
     [SAME_SUBGOAL] = "one subgoal",
     [FINISH_BETWEEN] = "a finish between",
-    [NO_ROOM] = "one refused for want of room",
+    [NO_RECORD] = "one refused for want of a record",
+    [NO_NODE] = "for want of nodes",
 };
 
 static uint64_t met[MET_CASES];
@@ -96,6 +103,8 @@ struct list {
 struct run {
     size_t place[LONGEST_LIST];
     uint64_t word[LONGEST_LIST];
+    bool to_open[LONGEST_LIST];   /* of an answer: its subgoal was open when it was given */
+    bool to_ground[LONGEST_LIST]; /* and without variables */
     uint32_t counted[LONGEST_LIST][3];
     size_t space_cells;
     uint32_t space[SPACE_CELLS];
@@ -123,9 +132,22 @@ static uint64_t make_plain(struct run *run, const struct request *request, uint3
     }
 }
 
+/* Notes what the subgoal of an answer is at present, by its record. */
+static void note_subgoal(struct run *run, const struct made *made, size_t call)
+{
+    enum { VARIABLES = 2, STATE = 3 };
+    uint32_t number = made->request.number;
+    bool exists = !made->joins && made->request.kind == ANSWER && number >= 1 &&
+                  number <= run->space[2];
+    const uint32_t *record = &run->space[run->space[5] + (exists ? 6 * (number - 1) : 0)];
+    run->to_open[call] = exists && record[STATE] == 0;
+    run->to_ground[call] = run->to_open[call] && record[VARIABLES] == 0;
+}
+
 static void make_call(struct run *run, const struct list *list, size_t call)
 {
     const struct made *made = &list->made[call];
+    note_subgoal(run, made, call);
     memset(run->counted[call], 0, sizeof run->counted[call]);
     run->word[call] = made->joins ? make_join(run, &made->joining)
                                   : make_plain(run, &made->request, run->counted[call]);
@@ -222,6 +244,13 @@ static void draw_joining(const struct drawing *drawing, struct joining *joining)
     }
 }
 
+/* A new answer, single or joined, finishes a subgoal without variables. */
+static void learn_entry(struct drawing *drawing, uint32_t subgoal)
+{
+    if (variables_of(drawing, subgoal) == 0)
+        drawing->finished[subgoal - 1] = true;
+}
+
 /* Makes the call at the end of the list, and learns what came of it. */
 static void append(struct drawing *drawing, struct list *list, struct run *run)
 {
@@ -230,16 +259,34 @@ static void append(struct drawing *drawing, struct list *list, struct run *run)
     run->place[call] = call;
     make_call(run, list, call);
     uint32_t what = tables_what(run->word[call]), value = tables_value(run->word[call]);
+    if (made->joins && what == TABLES_JOINED && value > 0)
+        learn_entry(drawing, made->joining.target);
     if (made->joins)
         return;
     if (made->request.kind == CALL && what == TABLES_NEW) {
         drawing->known.subgoals = value;
         drawing->known.variables[value - 1] = (uint32_t)distinct_variables(&made->request.argument);
     }
-    if (made->request.kind == ANSWER && what == TABLES_NEW)
+    if (made->request.kind == ANSWER && what == TABLES_NEW) {
         drawing->known.answers = value;
+        learn_entry(drawing, made->request.number);
+    }
     if (made->request.kind == FINISH && what == TABLES_DONE)
         drawing->finished[made->request.number - 1] = true;
+}
+
+/* An answer that was accepted before, of an open subgoal or of one finished since. False: there is none. */
+static bool repeat_answer(const struct list *list, const struct run *run, struct request *request)
+{
+    size_t found = 0;
+    for (size_t call = 0; call < list->count; call++) {
+        const struct made *made = &list->made[call];
+        bool taken = !made->joins && made->request.kind == ANSWER &&
+                     tables_refused_by(run->word[call]) == 0;
+        if (taken && below(++found) == 0)
+            *request = made->request;
+    }
+    return found > 0;
 }
 
 static void append_request(struct drawing *drawing, struct list *list, struct run *run,
@@ -247,10 +294,10 @@ static void append_request(struct drawing *drawing, struct list *list, struct ru
 {
     struct made *made = &list->made[list->count];
     made->joins = false;
-    if (kind == ANSWER)
-        draw_answer(drawing, &made->request);
-    else
+    if (kind != ANSWER)
         draw_request(&drawing->drawer, kind, &drawing->known, &made->request);
+    else if (!chance(30) || !repeat_answer(list, run, &made->request))
+        draw_answer(drawing, &made->request);
     append(drawing, list, run);
 }
 
@@ -431,18 +478,26 @@ static uint32_t subgoal_of(const struct list *list, size_t call)
     return list->made[call].request.number;
 }
 
-/* Are the calls at this place and the next two answers, and is the first accepted? */
+/* Are the calls at this place and the next two answers, and is the first accepted, in whatever state? */
 static bool are_answers(const struct list *list, const struct run *run, size_t place)
 {
     return place + 1 < list->count && is_answer(list, run->place[place]) &&
            is_answer(list, run->place[place + 1]) && accepted(run->word[run->place[place]]);
 }
 
-static bool may_exchange(const struct list *list, const struct run *run, size_t place)
+/* Two accepted answers to different subgoals, one straight after the other. */
+static bool are_accepted(const struct list *list, const struct run *run, size_t place)
 {
     size_t first = run->place[place], second = place + 1 < list->count ? run->place[place + 1] : 0;
     return are_answers(list, run, place) && accepted(run->word[second]) &&
            subgoal_of(list, first) != subgoal_of(list, second);
+}
+
+/* Each of the two subgoals is open when its answer is given. */
+static bool may_exchange(const struct list *list, const struct run *run, size_t place)
+{
+    return are_accepted(list, run, place) && run->to_open[run->place[place]] &&
+           run->to_open[run->place[place + 1]];
 }
 
 /* Not allowed: two new answers to one subgoal. */
@@ -456,19 +511,29 @@ static bool of_one_subgoal(const struct list *list, const struct run *run, size_
            tables_what(run->word[second]) == TABLES_NEW;
 }
 
-/* Not allowed: the second of two answers to different subgoals found no room. */
-static bool without_room(const struct list *list, const struct run *run, size_t place)
+/* Not allowed: the first of two answers to different subgoals is new, and the second found no room. */
+static bool without_room(const struct list *list, const struct run *run, size_t place,
+                         uint32_t refusal)
 {
     if (!are_answers(list, run, place))
         return false;
     size_t first = run->place[place], second = run->place[place + 1];
-    uint32_t refusal = tables_refused_by(run->word[second]);
     return subgoal_of(list, first) != subgoal_of(list, second) &&
            tables_what(run->word[first]) == TABLES_NEW &&
-           (refusal == TABLES_REFUSED_NO_NODE || refusal == TABLES_REFUSED_NO_RECORD);
+           tables_refused_by(run->word[second]) == refusal;
 }
 
-/* Not allowed: between accepted answers to different subgoals the first of these is finished. */
+static bool without_record(const struct list *list, const struct run *run, size_t place)
+{
+    return without_room(list, run, place, TABLES_REFUSED_NO_RECORD);
+}
+
+static bool without_node(const struct list *list, const struct run *run, size_t place)
+{
+    return without_room(list, run, place, TABLES_REFUSED_NO_NODE);
+}
+
+/* Not allowed: between a new answer and an accepted one to another subgoal the first's is finished. */
 static bool with_finish_between(const struct list *list, const struct run *run, size_t place)
 {
     if (place + 2 >= list->count)
@@ -476,7 +541,7 @@ static bool with_finish_between(const struct list *list, const struct run *run, 
     size_t first = run->place[place], finish = run->place[place + 1],
            second = run->place[place + 2];
     return is_answer(list, first) && is_finish(list, finish) && is_answer(list, second) &&
-           accepted(run->word[first]) && accepted(run->word[second]) &&
+           tables_what(run->word[first]) == TABLES_NEW && accepted(run->word[second]) &&
            subgoal_of(list, first) == subgoal_of(list, finish) &&
            subgoal_of(list, first) != subgoal_of(list, second);
 }
@@ -512,8 +577,16 @@ static void count_exchange(const struct list *list, const struct run *run, size_
         refused |= tables_refused_by(word) != 0;
     }
     met[old ? second_old ? OLD_OLD : OLD_NEW : second_old ? NEW_OLD : NEW_NEW]++;
+    met[GROUND] += (!old && run->to_ground[run->place[place]]) ||
+                   (!second_old && run->to_ground[run->place[place + 1]]);
     met[JOIN_BEHIND] += join;
     met[REFUSED_BEHIND] += refused;
+}
+
+static void count_left_out(const struct list *list, const struct run *run)
+{
+    for (size_t place = 0; place < list->count; place++)
+        met[LEFT_OUT] += are_accepted(list, run, place) && !may_exchange(list, run, place);
 }
 
 /* Exchanges one after another, each of the list that the one before made. */
@@ -558,10 +631,12 @@ static void check_list(void)
     for (size_t call = 0; call < list.count; call++)
         if (tables_refused_by(drawn.word[call]) < REFUSALS)
             refusals[tables_refused_by(drawn.word[call])]++;
+    count_left_out(&list, &drawn);
     check_allowed(&list, &drawn);
     try_other(&list, &drawn, SAME_SUBGOAL, of_one_subgoal, 1);
     try_other(&list, &drawn, FINISH_BETWEEN, with_finish_between, 2);
-    try_other(&list, &drawn, NO_ROOM, without_room, 1);
+    try_other(&list, &drawn, NO_RECORD, without_record, 1);
+    try_other(&list, &drawn, NO_NODE, without_node, 1);
 }
 
 /* The report */
@@ -582,14 +657,17 @@ static void print_cases(void)
     printf("\n");
 }
 
-/* What is not allowed makes a difference: always, and in most cases of too little room. */
+/*
+ * What is not allowed makes a difference: always, but where nodes are wanting only if there are
+ * enough without the first answer.
+ */
 static void check_cases(void)
 {
     for (unsigned i = 0; i < MET_CASES; i++)
-        if (met[i] < lists / 40)
+        if (met[i] < lists / (i < NO_RECORD ? 40 : 200))
             fail(case_names[i]);
     for (unsigned i = SAME_SUBGOAL; i < MET_CASES; i++)
-        if (differed[i] < met[i] / (i == NO_ROOM ? 2 : 1))
+        if (differed[i] < met[i] / (i == NO_NODE ? 10 : 1))
             fail("an exchange that is not allowed made no difference");
 }
 

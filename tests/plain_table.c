@@ -1,8 +1,7 @@
-/* The plain table of document 01, with the editions of Q-7, the joins of Q-2 and the two words of
-   Q-1: subgoals and answers as lists of compact forms, no trie. */
+/* The plain table of document 01, with the editions of Q-7, the joins of Q-2, the two words of Q-1
+   and the finished subgoals of Q-4: subgoals and answers as lists of compact forms, no trie. */
 #include "plain_table.h"
 
-#include <stdbool.h>
 #include <stdio.h>
 #include <stdlib.h>
 
@@ -49,7 +48,8 @@ enum outcome {
     OUTCOME_REFUSED = 256
 };
 
-/* The numbers of the refusals, in the order in which they are checked. */
+/* The numbers of the refusals, in the order in which they are checked; an answer's 8 comes behind
+   6, before 10. */
 enum refusal {
     REFUSAL_NONE = 0,
     REFUSAL_NUMBER = 7,
@@ -506,6 +506,14 @@ static void append_answer(struct plain_table *table, uint32_t subgoal, const str
     table->answer_count++;
 }
 
+/* A subgoal without variables becomes finished as its one answer enters, by answer or by join. */
+static void finish_if_ground(struct plain_table *table, uint32_t subgoal)
+{
+    if (plain_table_variables(table, subgoal) == 0) {
+        plain_table_set_state(table, subgoal, true);
+    }
+}
+
 /* Refusals 10 and 11 of a new subgoal, whose answer root is one more node. */
 static enum refusal judge_new_subgoal(const struct plain_table *table, const struct form *form)
 {
@@ -519,10 +527,13 @@ static enum refusal judge_new_subgoal(const struct plain_table *table, const str
     return REFUSAL_NONE;
 }
 
-/* Refusals 10 and 11 of a new answer. */
+/* Refusals 8, 10 and 11 of an answer that the subgoal lacks. */
 static enum refusal judge_new_answer(const struct plain_table *table, uint32_t subgoal,
                                      const struct form *form)
 {
+    if (plain_table_finished(table, subgoal)) {
+        return REFUSAL_STATE;
+    }
     size_t new_nodes = prefixes_new_to_answers(table, subgoal, form, table->answer_count);
     if (nodes_used(table) + new_nodes > table->node_capacity) {
         return REFUSAL_NODES;
@@ -670,10 +681,10 @@ static enum refusal judge_join(const struct plain_table *table, const struct joi
         !is_number_within(join->target, table->subgoal_count)) {
         return REFUSAL_NUMBER;
     }
-    if (subgoal_at(table, join->target)->finished) {
+    if (plain_table_finished(table, join->target)) {
         return REFUSAL_STATE;
     }
-    if (!subgoal_at(table, join->first)->finished || !subgoal_at(table, join->second)->finished) {
+    if (!plain_table_finished(table, join->first) || !plain_table_finished(table, join->second)) {
         return REFUSAL_SOURCE_OPEN;
     }
     if (has_variable_answer(table, join->first) || has_variable_answer(table, join->second)) {
@@ -795,7 +806,7 @@ uint64_t plain_table_call(struct plain_table *table, const uint32_t *term, size_
     }
     uint32_t old = find_subgoal(table, &form);
     if (old != 0) {
-        bool finished = subgoal_at(table, old)->finished;
+        bool finished = plain_table_finished(table, old);
         return result(finished ? OUTCOME_OLD_FINISHED : OUTCOME_OLD_OPEN, old);
     }
     refusal = judge_new_subgoal(table, &form);
@@ -806,15 +817,13 @@ uint64_t plain_table_call(struct plain_table *table, const uint32_t *term, size_
     return result(OUTCOME_NEW, table->subgoal_count);
 }
 
-/* An equal form under that subgoal is old, else it is appended. */
+/* An equal form under that subgoal is old, be it open or finished, else it is appended if the subgoal
+   is open. */
 uint64_t plain_table_answer(struct plain_table *table, uint32_t subgoal, const uint32_t *terms,
                             size_t terms_cells)
 {
     if (!is_number_within(subgoal, table->subgoal_count)) {
         return refused(REFUSAL_NUMBER);
-    }
-    if (subgoal_at(table, subgoal)->finished) {
-        return refused(REFUSAL_STATE);
     }
     struct form form;
     uint32_t term_count = plain_table_variables(table, subgoal);
@@ -831,6 +840,7 @@ uint64_t plain_table_answer(struct plain_table *table, uint32_t subgoal, const u
         return refused(refusal);
     }
     append_answer(table, subgoal, &form);
+    finish_if_ground(table, subgoal);
     return result(OUTCOME_NEW, table->answer_count);
 }
 
@@ -839,7 +849,7 @@ uint64_t plain_table_finish(struct plain_table *table, uint32_t subgoal)
     if (!is_number_within(subgoal, table->subgoal_count)) {
         return refused(REFUSAL_NUMBER);
     }
-    table->subgoals[subgoal - 1].finished = true;
+    plain_table_set_state(table, subgoal, true);
     return result(OUTCOME_DONE, 0);
 }
 
@@ -858,7 +868,7 @@ uint64_t plain_table_next(const struct plain_table *table, uint32_t subgoal, uin
             return result(OUTCOME_AT, number);
         }
     }
-    return result(subgoal_at(table, subgoal)->finished ? OUTCOME_NO_MORE : OUTCOME_NONE_YET, 0);
+    return result(plain_table_finished(table, subgoal) ? OUTCOME_NO_MORE : OUTCOME_NONE_YET, 0);
 }
 
 /* The m terms in pair form, numbered. */
@@ -941,10 +951,23 @@ uint64_t plain_table_join(struct plain_table *table, uint32_t first, uint32_t se
         table->answer_count = before;
         return refused(REFUSAL_RECORDS_LEFT);
     }
+    if (after > before) {
+        finish_if_ground(table, target);
+    }
     return result(OUTCOME_JOINED, after - before);
 }
 
 uint32_t plain_table_variables(const struct plain_table *table, uint32_t subgoal)
 {
     return subgoal_at(table, subgoal)->form.variables;
+}
+
+bool plain_table_finished(const struct plain_table *table, uint32_t subgoal)
+{
+    return subgoal_at(table, subgoal)->finished;
+}
+
+void plain_table_set_state(struct plain_table *table, uint32_t subgoal, bool finished)
+{
+    table->subgoals[subgoal - 1].finished = finished;
 }

@@ -2,6 +2,7 @@
 #ifndef PLAIN_TABLE_H
 #define PLAIN_TABLE_H
 
+#include <stdbool.h>
 #include <stddef.h>
 #include <stdint.h>
 
@@ -31,7 +32,12 @@ uint64_t plain_table_join(struct plain_table *table, uint32_t first, uint32_t se
                           const uint32_t *pairs, size_t pairs_cells, uint32_t target,
                           const uint32_t *copies, size_t copies_cells);
 
-/* The distinct variables of a subgoal, which exists. */
+/* The distinct variables of a subgoal, which exists, and whether it is finished. */
 uint32_t plain_table_variables(const struct plain_table *table, uint32_t subgoal);
+bool plain_table_finished(const struct plain_table *table, uint32_t subgoal);
+
+/* Gives a subgoal, which exists, this state: for a table that was not made by calls alone, such as
+   one with an open subgoal of no variables that holds its answer. */
+void plain_table_set_state(struct plain_table *table, uint32_t subgoal, bool finished);
 
 #endif

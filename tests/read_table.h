@@ -18,7 +18,7 @@ struct read_form {
 
 struct read_subgoal {
     uint32_t leaf, root, variables;
-    bool finished;
+    bool finished; /* as recorded: an open subgoal without variables may hold its answer */
     struct read_form form;
 };
 

@@ -43,6 +43,7 @@ static void draw_requested(struct line_drawer *drawer, const struct known *known
     static struct request request;
     line->kind = draw_kind(drawer);
     draw_request(&drawer->requests, line->kind, known, &request);
+    line->number = line->kind == CALL || line->kind == COUNTS ? 0 : request.number;
     add_request(&line->text, &request);
 }
 

@@ -11,6 +11,7 @@ enum line_sort { AS_REQUESTED, EDITED, OF_WORDS, OF_BYTES, LONG_LINE, LINE_SORTS
 struct line {
     enum line_sort sort;
     enum request_kind kind; /* of a line as requested */
+    uint32_t number;        /* of such a line, 0 where it has none */
     struct text text;       /* without a newline */
 };
 

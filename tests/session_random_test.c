@@ -45,12 +45,19 @@ static const struct {
 
 enum { POSSIBLE = sizeof possible / sizeof *possible, REPLIES = 11 };
 
+/* What comes of an answer to a finished subgoal; each must come often. */
+static const char *const of_finished[] = {"old ", "refused 8\n", "refused 3\n", "refused 4\n",
+                                          "refused 5\n"};
+
+enum { OF_FINISHED = sizeof of_finished / sizeof *of_finished, LEAST_OF_FINISHED = 100 };
+
 static const char *const sort_names[LINE_SORTS] = {
     [AS_REQUESTED] = "as requested", [EDITED] = "edited",  [OF_WORDS] = "of words",
     [OF_BYTES] = "of bytes",         [LONG_LINE] = "long",
 };
 
 static uint64_t came[POSSIBLE][REPLIES];
+static uint64_t came_of_finished[OF_FINISHED];
 static uint64_t sorts[LINE_SORTS][2]; /* bad, and not */
 
 /* Does the reply, which ends in a newline, hold the text? */
@@ -61,6 +68,21 @@ static bool holds(const char *reply, size_t count, const char *text)
         if (memcmp(reply + i, text, length) == 0)
             return true;
     return false;
+}
+
+/* Is the line an answer to a subgoal that is finished, as requested? Asked before it is read. */
+static bool is_to_finished(const struct line *line, const struct session_model *model,
+                           const struct known *known)
+{
+    return line->sort == AS_REQUESTED && line->kind == ANSWER && line->number > 0 &&
+           line->number <= known->subgoals &&
+           plain_table_finished(session_table(model), line->number);
+}
+
+static void count_of_finished(const char *reply, size_t count)
+{
+    for (size_t i = 0; i < OF_FINISHED; i++)
+        came_of_finished[i] += holds(reply, count, of_finished[i]);
 }
 
 static void count_line(const struct line *line, const char *reply, size_t count)
@@ -78,6 +100,18 @@ static void print_count(const char *reply, uint64_t count)
 {
     const char *from = reply + strspn(reply, " ");
     printf(", %.*s %" PRIu64, (int)strcspn(from, "\n"), from, count);
+}
+
+static void check_of_finished(void)
+{
+    printf("  answers to finished subgoals");
+    for (size_t i = 0; i < OF_FINISHED; i++) {
+        print_count(of_finished[i], came_of_finished[i]);
+        failures += came_of_finished[i] < LEAST_OF_FINISHED;
+        if (came_of_finished[i] < LEAST_OF_FINISHED)
+            printf(" (failed: too seldom)");
+    }
+    printf("\n");
 }
 
 static void check_counts(void)
@@ -124,6 +158,7 @@ static void add_line(struct session *session, const struct line *line, bool newl
 {
     struct text *input = &session->input, *expected = &session->expected;
     size_t from = input->count, replied = expected->count;
+    bool to_finished = is_to_finished(line, session->model, &session->known);
     add_bytes(input, line->text.byte, line->text.count);
     if (newline)
         add_bytes(input, "\n", 1);
@@ -134,6 +169,8 @@ static void add_line(struct session *session, const struct line *line, bool newl
         return;
     const char *reply = (const char *)expected->byte + replied;
     count_line(line, reply, expected->count - replied);
+    if (to_finished)
+        count_of_finished(reply, expected->count - replied);
     learn(session, line, reply);
 }
 
@@ -246,8 +283,10 @@ int main(int count, char **arguments)
     double start = now();
     for (unsigned number = 1; number <= sessions && failures < MOST_FAILURES; number++)
         run_session(number);
-    if (failures == 0 && sessions >= SESSIONS)
+    if (failures == 0 && sessions >= SESSIONS) {
         check_counts();
+        check_of_finished();
+    }
     printf("session random test: seed %" PRIu64 ", %u sessions in %.1f s: %s\n", seed, sessions,
            now() - start, failures == 0 ? "passed" : "FAILED");
     return failures == 0 ? 0 : 1;

@@ -83,6 +83,7 @@ def try_table(call):
     said(0, "finish", 0, 1)
     said(OLD_FINISHED, "call", 1, *cells([F2, X, Y]))
     said(NO_MORE, "next", 0, 1, 1)
+    said(OLD, "answer", 1, 1, *cells([A, PAIR, B, EMPTY]))
     said(REFUSED + 8, "answer", 0, 1, *cells([A, A]))
     said(NO_MORE, "next", 0, 1, 1)
     said(AT, "next", 1, 1, 0)

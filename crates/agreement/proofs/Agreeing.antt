@@ -27,7 +27,7 @@ use Rattle.store.specs.Views.{View}
 use Rattle.store.specs.Decisions as decisions
 use Rattle.store.specs.Decisions.{Decision, says, gives, finishes, known, sound, onPath, loaded, instanced, handed, decide}
 use Rattle.store.specs.Calls.{reply, outAfter}
-use Rattle.agreement.specs.Records.{withState, changedView, Fits, says-fits, gives-fits, finish-fits}
+use Rattle.agreement.specs.Records.{withState, withFinish, changedView, Fits, says-fits, gives-fits, finish-fits}
 use Rattle.agreement.proofs.SameRecords.{later, stateCell, LastSame, no-last, some-last, SubgoalSame, Same, same-counts, subgoal-judged, subgoal-state, answer-judged, answer-own-judged, variables-met, own-low, own-high, gather-subgoal, gather-answer}
 
 -- what the plain table gives and the decision on a view agree, out being lent
@@ -108,8 +108,8 @@ module _ (c : Coding) (t : Table) (v : View) (S : Same c t v) (s : ℕ) (low : 0
         last = last-finished i _ _ (o .last);
       }
 
-  pub same-finished : Same c ended (changedView v (finishes s))
-  unfolding changedView answerAt
+  pub same-finished : Same c ended (withFinish v s)
+  unfolding answerAt
   same-finished = record {
     es = S .es;
     forest = forest-finish t (S .es) s (S .forest) low;
@@ -210,7 +210,7 @@ module _ (c : Coding) (laws : CodingLaws c) (t : Table) (v : View) (S : Same c t
         fits = finish-fits s low (omega (arith, S .subgoals));
         replies = λ after. unfold reply in refl;
         leaves = unfold outAfter in refl;
-        same = same-finished c t v S s low high;
+        same = unfold changedView in same-finished c t v S s low high;
       }))
 
   pub next-agrees : (s a : ℕ) → Agrees c v [] (step c t (next s a)) (decide c v (next s a))

@@ -1,8 +1,8 @@
 -- An answer: an old one is found, a new one is entered behind the last of its subgoal, as in the plain table.
-use mathlib.Core.Path.{_≡_, refl, sym, ap, _∙_}
+use mathlib.Core.Path.{_≡_, refl, sym, ap, _∙_, subst}
 use mathlib.Core.Bool.{true, false}
 use mathlib.Core.List.{List, [], _∷_, _++_, append-nil}
-use Prim.Native.Nat.{ℕ, suc, _+_, _-_, _≤_, _<_}
+use Prim.Native.Nat.{ℕ, zero, suc, _+_, _-_, _≤_, _<_}
 use native.Mathlib.Omega.{arith}
 use lib.Dec.{eqb, leb, ltb}
 use lib.ListN.{length, drop, List·getD-append}
@@ -14,13 +14,13 @@ use Rattle.plain.specs.Coding.{Coding, Reading, refused, accepted}
 use Rattle.plain.specs.CodingLaws.{CodingLaws}
 use Rattle.plain.specs.Requests.{State, Open, Finished, answer, new, oldAnswer, refused, Result}
 use Rattle.plain.specs.Table as table
-use Rattle.plain.specs.Table.{Table, subgoalAt, answerAt, subgoalOfAnswer, answersTo, nodes, answerOf, after, withAnswer, becomes, appended, step}
+use Rattle.plain.specs.Table.{Table, subgoalAt, answerAt, subgoalOfAnswer, answersTo, nodes, answerOf, after, withAnswer, withEntry, becomes, appended, step}
 use Rattle.plain.proofs.PrefixLaws.{begins, longer, shared, begins-witness}
 use Rattle.plain.proofs.Entries.{prefixes-under, trie-root, trie-has, trie-lacks}
 use Rattle.plain.proofs.Keys.{key, place-has}
 use Rattle.plain.proofs.AfterLaws.{after-old, after-new, after-other, after-low, after-cong, after-least}
 use Rattle.plain.proofs.NumberLaws.{answerOf-none, answerOf-some}
-use Rattle.plain.proofs.RecordLaws.{answerAt-before, answerAt-new, answers-count}
+use Rattle.plain.proofs.RecordLaws.{answerAt-before, answerAt-new, answers-count, settled-ground, settled-other, entry-nodes}
 use Rattle.plain.proofs.LinkLaws.{linkOf, linkOf-answer}
 use Rattle.plain.proofs.Counted.{forest-answer, nodes-answer}
 use Rattle.plain.proofs.Changes.{AnswerEnters}
@@ -41,7 +41,7 @@ use Rattle.agreement.proofs.TrieWalks.{Walked, ends, stops}
 use Rattle.agreement.proofs.Numberings.{Numbering, numbering-kept, shared-members}
 use Rattle.agreement.proofs.TrieLinks.{linking, linking-linked, Links, links-linking, numbering-leaf, leaf-key, tries-leaf, links-leaf}
 use Rattle.agreement.proofs.SameRecords.{later, LastSame, no-last, some-last, later-some, last-most, SubgoalSame, AnswerSame, Same, different, link-none, link-answered, walked-answer, answer-root-judged, subgoal-judged, subgoal-state, answer-judged, last-judged}
-use Rattle.agreement.proofs.Agreeing.{Agrees, agrees-says, agrees-known, agrees-pick}
+use Rattle.agreement.proofs.Agreeing.{Agrees, agrees-says, agrees-known, agrees-pick, same-finished}
 
 -- ---- a new answer, at a leaf of the nodes with its path
 
@@ -226,7 +226,7 @@ module _ (c : Coding) (t : Table) (v : View) (S : Same c t v) (s : ℕ) (low : 0
 
 -- ---- the answer
 
-module _ (c : Coding) (laws : CodingLaws c) (t : Table) (v : View) (S : Same c t v) (s : ℕ) (low : 0 < s) (high : s ≤ length (t .subgoals)) (is-open : subgoalAt t s .state ≡ Open) where
+module _ (c : Coding) (laws : CodingLaws c) (t : Table) (v : View) (S : Same c t v) (s : ℕ) (low : 0 < s) (high : s ≤ length (t .subgoals)) where
   there : begins (S .es) (s ∷ []) ≡ true
   there = trie-root (S .es) (answersTo (t .answers) s) s (S .forest .replies s low high)
 
@@ -257,18 +257,24 @@ module _ (c : Coding) (laws : CodingLaws c) (t : Table) (v : View) (S : Same c t
       let eq : a ∷ w ≡ b .0 = answered-starts c laws (subgoalAt t s .m) ks (held .0) (a ∷ w) (b .0) m (held .1) e (held .2) (b .2) in
       rw eq (b .1)
 
+  open-agrees : (x : State) (r : Result Table) (d : Decision) → (x ≡ Open → Agrees c v [] r d) → Agrees c v [] (table.whileOpen t x r) (decisions.whileOpen x d)
+  open-agrees Open r d f = f refl
+  open-agrees Finished r d f = agrees-says c t v S [] (refused 8)
+
   -- a form that is not there, with so many nodes more
   appended-agrees : (w : Word) (m : ℕ) (ks : List ℕ) → c .answered (subgoalAt t s .m) ks ≡ accepted w m → has (answersTo (t .answers) s) w ≡ false → (k : ℕ) (d : Decision) → nodes (withAnswer t s w) ≡ v .nodes + k
-      → (AnswerEnters c t s w → Agrees c v [] (becomes (withAnswer t s w) (new (suc (length (t .answers))))) d)
+      → (AnswerEnters c t s w → Agrees c v [] (becomes (withEntry t s w) (new (suc (length (t .answers))))) d)
       → Agrees c v [] (table.answered t s (accepted w m)) (answeredNew v s k d)
   unfolding table.answered appended table.fits answeredNew
   appended-agrees w m ks e absent k d count f =
-      rw (answerOf-none t s w absent, last-judged c laws t v S s low high)
-      (agrees-pick c v [] (leb (nodes (withAnswer t s w)) (t .N)) (leb (v .nodes + k) (v .N)) _ _ _ _ (rw (count, S .N-same))
+      rw (answerOf-none t s w absent, last-judged c laws t v S s low high, subgoal-state c laws t v S s low high)
+      (open-agrees (subgoalAt t s .state) _ _ (λ is-open.
+      agrees-pick c v [] (leb (nodes (withEntry t s w)) (t .N)) (leb (v .nodes + k) (v .N)) _ _ _ _ (rw (entry-nodes t s w low, count, S .N-same))
       (λ z. agrees-pick c v [] (ltb (length (t .answers)) (t .A)) (ltb (v .answers) (v .A)) _ _ _ _ (rw (S .answers, S .A-same))
-      (λ y. f (record { low = low; high = high; is-open = is-open; cs = ks; n = m; reading = e; absent = absent; room = leb-true _ _ z; free = ltb-true _ _ y }))
+      (λ y. let r : nodes (withEntry t s w) ≤ t .N = leb-true _ _ z in
+      f (record { low = low; high = high; cs = ks; n = m; reading = e; absent = absent; room = omega (arith, entry-nodes t s w low); free = ltb-true _ _ y }))
       (λ y. agrees-says c t v S [] (refused 11)))
-      (λ z. agrees-says c t v S [] (refused 10)))
+      (λ z. agrees-says c t v S [] (refused 10))))
 
   -- ---- the empty answer, at the root
 
@@ -293,14 +299,22 @@ module _ (c : Coding) (laws : CodingLaws c) (t : Table) (v : View) (S : Same c t
         (rw none (λ i b. links-linking (S .K) (v .node) (v .nodes) (linkOf t) root (v .answers + 1) (S .tries .keys) (S .numbering .different) (o .root-in) (S .links) i b
         ∙ rw (o .root-key, next-number c t v S s low high []) (sym (linkOf-answer t s [] (key (S .K) i) low (e .absent)))))
 
-    empty-entered : Agrees c v [] (becomes (withAnswer t s []) (new (suc (length (t .answers))))) (entersEmpty s)
+    -- a subgoal that has an empty answer has no variables
+    no-variables : subgoalAt t s .m ≡ 0
+    no-variables = none-of (subgoalAt t s .m) (laws .answered-legal (subgoalAt t s .m) (e .cs) [] (e .n) (e .reading))
+      where
+        none-of : (m : ℕ) → c .legal m [] ≡ true → m ≡ 0
+        none-of zero h = refl
+        none-of (suc m) h = absurd (omega (arith, laws .legal-some m [] h))
+
+    empty-entered : Agrees c v [] (becomes (withEntry t s []) (new (suc (length (t .answers))))) (entersEmpty s)
     unfolding reply outAfter changedView
-    empty-entered = record {
+    empty-entered = rw (settled-ground (withAnswer t s []) s (unfold subgoalAt in no-variables)) (record {
       fits = empty-fits s low (omega (arith, S .subgoals)) last-in (S .subgoal s low high .root-in) (omega (arith, e .free, S .answers, S .A-same));
       replies = λ after. ap new (next-number c t v S s low high []);
       leaves = refl;
-      same = same-empty;
-    }
+      same = same-finished c (withAnswer t s []) (withNewAnswer v (v .node) (v .nodes) s root) same-empty s low high;
+    })
 
   answered-empty : (m : ℕ) (ks : List ℕ) → c .answered (subgoalAt t s .m) ks ≡ accepted [] m → (j : ℕ) → j < v .nodes → key (S .K) j ≡ s ∷ [] → has (answersTo (t .answers) s) [] ≡ false
       → Agrees c v [] (table.answered t s (accepted [] m)) (answeredAt v s [] (whole j))
@@ -338,9 +352,14 @@ module _ (c : Coding) (laws : CodingLaws c) (t : Table) (v : View) (S : Same c t
     pub nodes-more : nodes (withAnswer t s w) ≡ v .nodes + length (a ∷ u)
     nodes-more = sym (nodes-answer t (S .es) s w (S .forest) low high) ∙ sym (numbering-new .count) ∙ tries-more .keys
 
-    path-entered : AnswerEnters c t s w → Agrees c v [] (becomes (withAnswer t s w) (new (suc (length (t .answers))))) (entersAnswer s q l (a ∷ u))
+    some-variables : 0 < length w → AnswerEnters c t s w → subgoalAt t s .m ≡ 0 → ⊥
+    some-variables some e z =
+        let n : w ≡ [] = laws .legal-empty w (subst (λ (m : ℕ). c .legal m w ≡ true) z (laws .answered-legal (subgoalAt t s .m) (e .cs) w (e .n) (e .reading))) in
+        omega (arith, ap length n)
+
+    path-entered : 0 < length w → AnswerEnters c t s w → Agrees c v [] (becomes (withEntry t s w) (new (suc (length (t .answers))))) (entersAnswer s q l (a ∷ u))
     unfolding reply outAfter changedView
-    path-entered e = record {
+    path-entered some e = rw (settled-other (withAnswer t s w) s (unfold subgoalAt in some-variables some e)) (record {
       fits = answer-fits s q l (a ∷ u) low (omega (arith, S .subgoals)) last-in inside (stop-inside (v .node) (v .nodes) q l inside st) (omega arith)
           (omega (arith, nodes-more, e .room, S .N-same)) (omega (arith, e .free, S .answers, S .A-same));
       replies = λ after. ap new (next-number c t v S s low high w);
@@ -349,14 +368,14 @@ module _ (c : Coding) (laws : CodingLaws c) (t : Table) (v : View) (S : Same c t
           (leaf-key (S .es) (S .K) (S .numbering) (v .node) (v .nodes) s (v .subgoal s .root) q l a u w (S .tries) there root-key inside st path rest) e tries-more
           (links-leaf (S .es) (S .K) (S .numbering) (v .node) (v .nodes) s (v .subgoal s .root) q l a u w (S .tries) there root-key inside st path rest (linkOf t) (linkOf (withAnswer t s w)) (v .answers + 1)
           (S .links) (link-none c laws t v S) (λ y. linkOf-answer t s w y low (e .absent) ∙ rw (next-number c t v S s low high w)));
-    }
+    })
 
     answered-new : (m : ℕ) (ks : List ℕ) → c .answered (subgoalAt t s .m) ks ≡ accepted w m → shared (S .K) (s ∷ []) w < length w
         → Agrees c v [] (table.answered t s (accepted w m)) (answeredAt v s w (stopped q l (a ∷ u)))
     unfolding answeredAt
     answered-new m ks e less =
         let absent : has (answersTo (t .answers) s) w ≡ false = trie-lacks (S .es) (answersTo (t .answers) s) s (S .forest .replies s low high) w (rw (← (shared-members (S .K) (prefixes (S .es)) (S .numbering .members) (s ∷ []) w)) less) in
-        appended-agrees w m ks e absent (length (a ∷ u)) (entersAnswer s q l (a ∷ u)) nodes-more path-entered
+        appended-agrees w m ks e absent (length (a ∷ u)) (entersAnswer s q l (a ∷ u)) nodes-more (path-entered (omega arith))
 
   answered-walked : (w : Word) (m : ℕ) (ks : List ℕ) → c .answered (subgoalAt t s .m) ks ≡ accepted w m → {x : Walk} → Walked (S .K) (v .node) (v .nodes) (v .subgoal s .root) w x
       → Agrees c v [] (table.answered t s (accepted w m)) (answeredAt v s w x)
@@ -369,12 +388,8 @@ module _ (c : Coding) (laws : CodingLaws c) (t : Table) (v : View) (S : Same c t
   answered-read ks (accepted w m) e = unfold decisions.answered in answered-walked w m ks e (walked-answer c laws t v S s low high w)
 
 module _ (c : Coding) (laws : CodingLaws c) (t : Table) (v : View) (S : Same c t v) where
-  open-agrees : (x : State) (r : Result Table) (d : Decision) → (x ≡ Open → Agrees c v [] r d) → Agrees c v [] (table.whileOpen t x r) (decisions.whileOpen x d)
-  open-agrees Open r d f = f refl
-  open-agrees Finished r d f = agrees-says c t v S [] (refused 8)
-
   pub answer-agrees : (s : ℕ) (ks : List ℕ) → Agrees c v [] (step c t (answer s ks)) (decide c v (answer s ks))
   unfolding step decide
   answer-agrees s ks = agrees-known c t v S [] (length (t .subgoals)) (v .subgoals) s _ _ (S .subgoals) (λ low high.
-      rw (subgoal-judged c laws t v S s low high, answer-root-judged c laws t v S s low high, subgoal-state c laws t v S s low high, S .subgoal s low high .variables)
-      (open-agrees (subgoalAt t s .state) _ _ (λ is-open. answered-read c laws t v S s low high is-open ks (c .answered (subgoalAt t s .m) ks) refl)))
+      rw (subgoal-judged c laws t v S s low high, answer-root-judged c laws t v S s low high, S .subgoal s low high .variables)
+      (answered-read c laws t v S s low high ks (c .answered (subgoalAt t s .m) ks) refl))

@@ -14,7 +14,7 @@ use Rattle.basis.proofs.Cases.{by-cases}
 use Rattle.basis.proofs.WritesLaws.{length-writes}
 use Rattle.plain.specs.Words.{Word}
 use Rattle.plain.specs.Requests.{Reply, refused}
-use Rattle.space.specs.Layout.{Sizes, sizesOf, subgoalOffset, nodeAt, nodeTo}
+use Rattle.space.specs.Layout.{Sizes, sizesOf, subgoalOffset, nodeAt, nodeTo, subgoalIn, stateCell}
 use Rattle.space.specs.Heading.{headerOf, spaceHeader}
 use Rattle.space.specs.declared.Head.{Head}
 use Rattle.space.specs.declared.Header.{Header}
@@ -34,7 +34,7 @@ use Rattle.agreement.specs.Records.{Alike, Fits, says-fits, answer-fits,
 use Rattle.agreement.proofs.HeaderTests.{header-read}
 use Rattle.agreement.proofs.CellChanges.{sizes-wide, cells-change}
 use Rattle.agreement.proofs.Theorem.{header-any}
-use Rattle.agreement.proofs.SameBut.{SameBut, node-same, path-kept, same-but-same, same-but-then, same-but-alike, new-kept}
+use Rattle.agreement.proofs.SameBut.{SameBut, node-same, path-kept, same-but-same, same-but-then, same-but-alike, new-kept, finish-kept}
 
 -- ---- a walk that stopped has a token left
 
@@ -61,11 +61,13 @@ module _ (v : View) (s : ℕ) (P : Decision → Type 0) (spoken : (r : Reply) �
   new-comes : (more : ℕ) (d : Decision) → (soundLast v s ≡ true → v .nodes + more ≤ v .N → v .answers < v .A → P d) → P (answeredNew v s more d)
   unfolding answeredNew
   new-comes more d f = by-cases (soundLast v s)
-      (λ p. by-cases (leb (v .nodes + more) (v .N))
+      (λ p. by-cases (eqb (v .subgoal s .state) 0)
+      (λ o. by-cases (leb (v .nodes + more) (v .N))
       (λ q. by-cases (ltb (v .answers) (v .A))
-      (λ r. rw (p, q, r) (f p (leb-true _ _ q) (ltb-true _ _ r)))
-      (λ r. rw (p, q, r) (spoken (refused 11))))
-      (λ q. rw (p, q) (spoken (refused 10))))
+      (λ r. rw (p, o, q, r) (f p (leb-true _ _ q) (ltb-true _ _ r)))
+      (λ r. rw (p, o, q, r) (spoken (refused 11))))
+      (λ q. rw (p, o, q) (spoken (refused 10))))
+      (λ o. rw (p, o) (spoken (refused 8))))
       (λ p. rw p (spoken (refused 9)))
 
   answered-comes : (w : Word) (x : Walk)
@@ -104,7 +106,7 @@ module _ (v : View) (s : ℕ) (low : 1 ≤ s) (high : s ≤ v .subgoals) (root :
       w (walkTo v s w)
       (λ judged free. (
         empty-fits s low high last root free,
-        unfold changedView in new-kept v s root last judged (v .node) (v .nodes) (v .subgoal s .root) (omega arith) (λ n h. node-same (v .nodes) (v .answers) n (v .node n)),
+        unfold changedView in finish-kept (new-kept v s root last judged (v .node) (v .nodes) (v .subgoal s .root) (omega arith) (λ n h. node-same (v .nodes) (v .answers) n (v .node n))),
       ))
       (path-leaves w)
 
@@ -130,7 +132,9 @@ module _ (z : Sizes) where
   given-size cs h (gives ks) = refl
   given-size cs h (entersSubgoal parent last left m) = refl
   given-size cs h (entersAnswer s parent last left) = entered-size (appendPath z cs (h .nodes) parent last left) h s _ _ _ ∙ path-size left cs (h .nodes) parent last
-  given-size cs h (entersEmpty s) = entered-size cs h s _ _ _
+  given-size cs h (entersEmpty s) =
+      let g : Subgoal = subgoalIn z cs (h .«subgoal_offset») s in
+      length-writes (put (stateCell z (h .«subgoal_offset») s) 1 ∷ []) (answerEntered z cs h s g (g .root) (h .nodes)) ∙ entered-size cs h s g (g .root) (h .nodes)
   given-size cs h (finishes s) = refl
   given-size cs h (entersAnswers s ws) = refl
 

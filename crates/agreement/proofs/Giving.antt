@@ -13,15 +13,14 @@ use Rattle.basis.proofs.Cases.{by-cases}
 use Rattle.plain.specs.Words.{Word, has, prefixes, most, brings, newcomers}
 use Rattle.plain.specs.Coding.{Coding, accepted}
 use Rattle.plain.specs.CodingLaws.{CodingLaws}
-use Rattle.plain.specs.Requests.{Open}
 use Rattle.plain.specs.Table as table
 use Rattle.plain.specs.Table.{Table, subgoalAt, answersTo, nodes, answerOf, given, entered}
 use Rattle.plain.proofs.Entries.{trie-lacks}
 use Rattle.plain.proofs.Keys.{key}
 use Rattle.plain.proofs.NumberLaws.{answerOf-none, answerOf-some}
-use Rattle.plain.proofs.EnteringLaws.{most-whole, nodes-brought, given-subgoals, given-stays, entering}
+use Rattle.plain.proofs.EnteringLaws.{most-whole, nodes-brought, given-subgoals, given-stays, Taking, taking-open, given-taking, entering}
 use Rattle.plain.proofs.Changes.{Readable}
-use Rattle.plain.proofs.JoinLaws.{taken}
+use Rattle.plain.proofs.JoinLaws.{taken, ground-empty}
 use Rattle.space.specs.Layout.{Sizes}
 use Rattle.space.specs.Heading.{headerOf}
 use Rattle.space.specs.declared.Head.{Head}
@@ -40,7 +39,7 @@ use Rattle.agreement.proofs.Holding.{Cells, Holds, agrees-answers}
 
 -- ---- what the search of a form tells
 
-module _ (c : Coding) (laws : CodingLaws c) (t : Table) (v : View) (S : Same c t v) (s : ℕ) (low : 0 < s) (high : s ≤ length (t .subgoals)) (is-open : subgoalAt t s .state ≡ Open) where
+module _ (c : Coding) (laws : CodingLaws c) (t : Table) (v : View) (S : Same c t v) (s : ℕ) (low : 0 < s) (high : s ≤ length (t .subgoals)) where
   abbrev held : List Word
   held = answersTo (t .answers) s
 
@@ -75,7 +74,7 @@ module _ (c : Coding) (laws : CodingLaws c) (t : Table) (v : View) (S : Same c t
 
   told-whole : (w : Word) (n : ℕ) (ks : List ℕ) → c .answered (subgoalAt t s .m) ks ≡ accepted w n → (j : ℕ) → j < v .nodes → key (S .K) j ≡ s ∷ w → Told w (whole j)
   told-whole [] n ks e j h k = by-cases (has held []) (λ z. told-old [] j h k z) (λ z. told-empty j h k z)
-  told-whole (a ∷ w) n ks e j h k = told-old (a ∷ w) j h k (answered-held c laws t v S s low high is-open a w n ks e j h k)
+  told-whole (a ∷ w) n ks e j h k = told-old (a ∷ w) j h k (answered-held c laws t v S s low high a w n ks e j h k)
 
   told-walked : (w : Word) (n : ℕ) (ks : List ℕ) → c .answered (subgoalAt t s .m) ks ≡ accepted w n → {x : Walk} → Walked (S .K) (v .node) (v .nodes) (v .subgoal s .root) w x → Told w x
   unfolding metSound lacking missing
@@ -83,7 +82,7 @@ module _ (c : Coding) (laws : CodingLaws c) (t : Table) (v : View) (S : Same c t
   told-walked w n ks e (stops q l a u h st path less rest) =
       let root-key = S .subgoal s low high .root-key in
       let absent : has held w ≡ false = trie-lacks (S .es) held s (S .forest .replies s low high) w (rw (← (shared-members (S .K) (prefixes (S .es)) (S .numbering .members) (s ∷ []) w)) (rw root-key at less)) in
-      let more = nodes-more c laws t v S s low high is-open w q l a u h st (path ∙ rw root-key) rest in
+      let more = nodes-more c laws t v S s low high w q l a u h st (path ∙ rw root-key) rest in
       record {
         judged = refl;
         lacks = rw absent;
@@ -121,29 +120,29 @@ module _ (c : Coding) (laws : CodingLaws c) (t : Table) (v : View) (S : Same c t
 -- ---- one form, entered as a single answer is
 
 module _ (z : Sizes) (c : Coding) (cells : Cells z) (laws : CodingLaws c) (s : ℕ) (low : 0 < s) where
-  form-holds : (t : Table) (cs : List ℕ) → Holds z c t cs → s ≤ length (t .subgoals) → subgoalAt t s .state ≡ Open → (w : Word) (n : ℕ) (ks : List ℕ) → c .answered (subgoalAt t s .m) ks ≡ accepted w n
+  form-holds : (t : Table) (cs : List ℕ) → Holds z c t cs → s ≤ length (t .subgoals) → Taking t s → (w : Word) (n : ℕ) (ks : List ℕ) → c .answered (subgoalAt t s .m) ks ≡ accepted w n
       → nodes (given t s w) ≤ t .N → length (given t s w .answers) ≤ t .A → Holds z c (given t s w) (formGiven z cs s w (headerOf z cs))
   unfolding formGiven
-  form-holds t cs k high is-open w n ks e room free =
+  form-holds t cs k high ready w n ks e room free =
       let h : Head = k .head in
       let x : Walk = walkTo (viewOf z cs h) s w in
       let d : Decision = answeredAt (viewOf z cs h) s w x in
-      let a : Agrees c (viewOf z cs h) [] (table.answered t s (accepted w n)) d = unfold decisions.answered in answered-read c laws t (viewOf z cs h) (k .same) s low high is-open ks (accepted w n) e in
-      let g = taken t s low high w n room free in
+      let a : Agrees c (viewOf z cs h) [] (table.answered t s (accepted w n)) d = unfold decisions.answered in answered-read c laws t (viewOf z cs h) (k .same) s low high ks (accepted w n) e in
+      let g = taken t s low high w n (taking-open t s w ready (ground-empty c laws (subgoalAt t s .m) ks w n e)) room free in
       let b = agrees-answers z c cells cs h (k .sound) a in
       rw (k .sound) (subst (λ (u : Table). Holds z c u (answerGiven z cs h d)) g (subst (Holds z c (table.answered t s (accepted w n) .state)) (given-written z cs h s w x) (b .holds)))
 
   -- all of them, where there is room at the end
-  pub forms-hold : (ws : List Word) (t : Table) (cs : List ℕ) → Holds z c t cs → s ≤ length (t .subgoals) → subgoalAt t s .state ≡ Open → Readable c (subgoalAt t s .m) ws
+  pub forms-hold : (ws : List Word) (t : Table) (cs : List ℕ) → Holds z c t cs → s ≤ length (t .subgoals) → Taking t s → Readable c (subgoalAt t s .m) ws
       → nodes (entered t s ws) ≤ t .N → length (entered t s ws .answers) ≤ t .A → Holds z c (entered t s ws) (formsGiven z cs s ws)
   unfolding entered formsGiven
-  forms-hold [] t cs k high is-open e room free = k
-  forms-hold (w ∷ ws) t cs k high is-open e room free =
+  forms-hold [] t cs k high ready e room free = k
+  forms-hold (w ∷ ws) t cs k high ready e room free =
       let u : Table = given t s w in
       let kept = given-stays t s low high w in
       let high′ : s ≤ length (u .subgoals) = rw (given-subgoals t s low high w) high in
       let more = entering u s ws low high′ in
       let here : Holds z c u (formGiven z cs s w (headerOf z cs)) =
-      form-holds t cs k high is-open w (e .0 .1) (e .0 .0) (e .0 .2) (omega (arith, more .0)) (omega (arith, more .1)) in
-      forms-hold ws u (formGiven z cs s w (headerOf z cs)) here high′ (ap (λ (g : table.Subgoal). g .state) (kept .2) ∙ is-open) (rw (kept .2) (e .1))
+      form-holds t cs k high ready w (e .0 .1) (e .0 .0) (e .0 .2) (omega (arith, more .0)) (omega (arith, more .1)) in
+      forms-hold ws u (formGiven z cs s w (headerOf z cs)) here high′ (given-taking t s low high w ready (ground-empty c laws (subgoalAt t s .m) (e .0 .0) w (e .0 .1) (e .0 .2))) (rw (kept .2) (e .1))
       (subst (λ (m : ℕ). nodes (entered u s ws) ≤ m) (sym (kept .0)) room) (subst (λ (m : ℕ). length (entered u s ws .answers) ≤ m) (sym (kept .1)) free)

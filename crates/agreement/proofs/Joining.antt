@@ -2,6 +2,7 @@
 use mathlib.Core.Path.{_≡_, refl, sym, ap, _∙_}
 use mathlib.Core.Bool.{Bool, true, false, true≢false, false≢true}
 use mathlib.Core.List.{List, []}
+use mathlib.Core.Logic.{_⊎_, inl, inr}
 use Prim.Native.Nat.{ℕ, _+_, _-_, _≤_, _<_}
 use native.Mathlib.Omega.{arith}
 use lib.Dec.{eqb, leb, ltb}
@@ -72,7 +73,7 @@ module _ (z : Sizes) (c : Coding) (cells : Cells z) (laws : CodingLaws c) (t : T
     joining-accepted is-open ws k room free =
         let u : Table = entered t s ws in
         let cs′ : List ℕ = formsGiven z cs s ws in
-        let left : Holds z c u cs′ = forms-hold z c cells laws s low ws t cs (record { head = h; sound = e; same = S }) high is-open k room free in
+        let left : Holds z c u cs′ = forms-hold z c cells laws s low ws t cs (record { head = h; sound = e; same = S }) high (inl is-open) k room free in
         let count : countedCells cs′ ≡ counted u = cells .cells-counts cs′ (left .head) (left .sound) ∙ sym (same-counts c laws u (viewOf z cs′ (left .head)) (left .same)) in
         let used : usedAnswers cs′ ≡ length (u .answers) = ap (λ (n : Counts). n .answers) count in
         record { replies = rw (used, S .answers); leaves = refl; holds = left }
@@ -83,10 +84,10 @@ module _ (z : Sizes) (c : Coding) (cells : Cells z) (laws : CodingLaws c) (t : T
     joining-formed is-open ws k =
         let n = entering t s ws low high in
         let a : v .nodes + nodesNeeded v s [] ws ≡ nodes (entered t s ws) =
-        omega (arith, nodes-count c laws t v S, needed-nodes c laws t v S s low high is-open ws [] k, n .0) in
+        omega (arith, nodes-count c laws t v S, needed-nodes c laws t v S s low high ws [] k, n .0) in
         let b : v .answers + answersNeeded v s [] ws ≡ length (entered t s ws .answers) =
-        omega (arith, S .answers, needed-answers c laws t v S s low high is-open ws [] k, n .1) in
-        rw (all-judged c laws t v S s low high is-open ws k, last-judged c laws t v S s low high, either (eqb (answersNeeded v s [] ws) 0))
+        omega (arith, S .answers, needed-answers c laws t v S s low high ws [] k, n .1) in
+        rw (all-judged c laws t v S s low high ws k, last-judged c laws t v S s low high, either (eqb (answersNeeded v s [] ws) 0))
         (answers-pick (leb (nodes (entered t s ws)) (t .N)) (leb (v .nodes + nodesNeeded v s [] ws) (v .N)) _ _ _ _ (rw (a, S .N-same))
         (λ p. answers-pick (leb (length (entered t s ws .answers)) (t .A)) (leb (v .answers + answersNeeded v s [] ws) (v .A)) _ _ _ _ (rw (b, S .A-same))
         (λ q. joining-accepted is-open ws k (leb-true _ _ p) (leb-true _ _ q))

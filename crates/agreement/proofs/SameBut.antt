@@ -24,7 +24,7 @@ use Rattle.trie.proofs.PathLaws.{gather-unsound, gather-root, gather-other, gat
 use Rattle.trie.proofs.WalkLaws.{both-true}
 use Rattle.store.specs.Views.{View, answerTrie}
 use Rattle.store.specs.Decisions.{soundSubgoal, soundAnswer, soundAnswerOf, soundLast, unbroken, chainFrom, chainOf}
-use Rattle.agreement.specs.Records.{Alike, withLink, withNewAnswer}
+use Rattle.agreement.specs.Records.{Alike, withLink, withNewAnswer, withFinish}
 use Rattle.agreement.proofs.ChainSteps.{chain-begins, chain-made, chain-none, chain-longer}
 
 -- ---- a node
@@ -132,7 +132,6 @@ pub record SameBut (s : ℕ) (v w : View) : Type 0 where
   pub leaf-kept : w .subgoal s .leaf ≡ v .subgoal s .leaf
   pub root-kept : w .subgoal s .root ≡ v .subgoal s .root
   pub variables-kept : w .subgoal s .variables ≡ v .subgoal s .variables
-  pub state-kept : w .subgoal s .state ≡ v .subgoal s .state
   pub root-within : w .subgoal s .root < w .nodes
   pub last-within : w .subgoal s .last ≤ w .answers
 
@@ -150,7 +149,6 @@ same-but-same s v root last = record {
   leaf-kept = refl;
   root-kept = refl;
   variables-kept = refl;
-  state-kept = refl;
   root-within = root;
   last-within = last;
 }
@@ -174,7 +172,6 @@ same-but-then {s} {u} {v} {w} p q =
       leaf-kept = q .leaf-kept ∙ p .leaf-kept;
       root-kept = q .root-kept ∙ p .root-kept;
       variables-kept = q .variables-kept ∙ p .variables-kept;
-      state-kept = q .state-kept ∙ p .state-kept;
       root-within = q .root-within;
       last-within = q .last-within;
     }
@@ -198,7 +195,6 @@ same-but-alike {s} {v} {w} {x} low high p e =
       leaf-kept = rw own (p .leaf-kept);
       root-kept = rw own (p .root-kept);
       variables-kept = rw own (p .variables-kept);
-      state-kept = rw own (p .state-kept);
       root-within = rw (own, e .nodes-same) (p .root-within);
       last-within = rw (own, e .answers-same) (p .last-within);
     }
@@ -241,10 +237,30 @@ module _ (v : View) (s : ℕ) (root : v .subgoal s .root < v .nodes) (last : v .
         leaf-kept = rw here;
         root-kept = rw here;
         variables-kept = rw here;
-        state-kept = rw here;
         root-within = rw here (omega arith);
         last-within = rw here (omega arith);
       }
+
+-- that s is finished besides leaves the same
+pub finish-kept : {s : ℕ} {v w : View} → SameBut s v w → SameBut s v (withFinish w s)
+finish-kept {s = s} S =
+    let here : eqb s s ≡ true = eq-eqb s s refl in
+    record {
+      N-same = S .N-same;
+      F-same = S .F-same;
+      A-same = S .A-same;
+      subgoals-same = S .subgoals-same;
+      nodes-grow = S .nodes-grow;
+      answers-grow = S .answers-grow;
+      node-kept = S .node-kept;
+      subgoal-kept = λ t l m o. rw (ne-eqb t s o) (S .subgoal-kept t l m o);
+      answer-kept = S .answer-kept;
+      leaf-kept = rw here (S .leaf-kept);
+      root-kept = rw here (S .root-kept);
+      variables-kept = rw here (S .variables-kept);
+      root-within = rw here (S .root-within);
+      last-within = rw here (S .last-within);
+    }
 
 -- ---- counts that grow
 

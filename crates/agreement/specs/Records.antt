@@ -113,17 +113,8 @@ withNewAnswer v path nodes s leaf =
           (record { leaf = leaf; subgoal = s; next = 0 });
     }
 
--- what a decision that fits makes of them; none that enters answers one after another does: it is taken answer by
--- answer
-unfoldable pub changedView : View → Decision → View
-changedView v (says r) = v
-changedView v (gives ks) = v
-changedView v (entersSubgoal parent last left m) = withNewSubgoal v parent last left m
-changedView v (entersAnswer s parent last left) =
-    withNewAnswer v (withPath (v .node) (v .nodes) parent last left) (v .nodes + length left) s
-    (v .nodes + length left - 1)
-changedView v (entersEmpty s) = withNewAnswer v (v .node) (v .nodes) s (v .subgoal s .root)
-changedView v (finishes s) = record {
+abbrev pub withFinish : View → ℕ → View
+withFinish v s = record {
   N = v .N;
   F = v .F;
   A = v .A;
@@ -134,6 +125,18 @@ changedView v (finishes s) = record {
   subgoal = updated (v .subgoal) s (withState (v .subgoal s) 1);
   answer = v .answer;
 }
+
+-- what a decision that fits makes of them; none that enters answers one after another does: it is taken answer by
+-- answer
+unfoldable pub changedView : View → Decision → View
+changedView v (says r) = v
+changedView v (gives ks) = v
+changedView v (entersSubgoal parent last left m) = withNewSubgoal v parent last left m
+changedView v (entersAnswer s parent last left) =
+    withNewAnswer v (withPath (v .node) (v .nodes) parent last left) (v .nodes + length left) s
+    (v .nodes + length left - 1)
+changedView v (entersEmpty s) = withFinish (withNewAnswer v (v .node) (v .nodes) s (v .subgoal s .root)) s
+changedView v (finishes s) = withFinish v s
 changedView v (entersAnswers s ws) = v
 
 -- the change stays within the capacities, and changes records that are there

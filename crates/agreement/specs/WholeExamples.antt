@@ -13,7 +13,8 @@ use Rattle.forms.specs.Compact.{compact, elements, compactForm, filled, lastOf,
 use Rattle.forms.specs.Compact.{entered, items, front, formTerms, pairForm, same, areForms, legalForm}
 use Rattle.forms.specs.Converting.{reading}
 use Rattle.plain.specs.Coding.{judged, handedOn, predicate, compacted}
-use Rattle.plain.specs.Requests.{Request, answer, next, Reply, new, at, noneYet, lent, trace}
+use Rattle.plain.specs.Requests.{Request, answer, next, Reply, new, oldAnswer, at, noneYet, noMore, refused, lent}
+use Rattle.plain.specs.Requests.{trace}
 use Rattle.plain.specs.Examples.{var, atom, fun}
 use Rattle.space.specs.Layout.{subgoalWidth, answerWidth}
 use Rattle.space.specs.Heading.{inRange, capacity, whole, counted, headerOf, spaceHeader}
@@ -92,6 +93,24 @@ inEdition e p = set (set sample 0 e) 13 p
 abbrev replies : List ℕ → List Request → List Reply
 replies cs qs = map (λ s. s .reply) (trace spaceStep countedCells cs qs)
 
+-- finished; and with answer 2, the last, followed by an answer that is not there
+abbrev finished : List ℕ
+finished = set sample 46 1
+
+abbrev followed : List ℕ
+followed = set finished 54 3
+
+-- subgoal p(a) with the empty answer: open, as spaces may have it from before, or finished by it
+abbrev groundIn : ℕ → List ℕ
+groundIn state =
+    1 ∷ 4 ∷ 1 ∷ 1 ∷ 8 ∷ 28 ∷ 34 ∷ 37
+    ∷ 0 ∷ 1 ∷ 0 ∷ 0 ∷ 0
+    ∷ fun 1 1 ∷ 2 ∷ 0 ∷ 0 ∷ 0
+    ∷ atom 5 ∷ 0 ∷ 0 ∷ 1 ∷ 1
+    ∷ 0 ∷ 0 ∷ 0 ∷ 3 ∷ 1
+    ∷ 2 ∷ 3 ∷ 0 ∷ state ∷ 1 ∷ 1
+    ∷ 3 ∷ 1 ∷ 0 ∷ []
+
 -- unchained loses answer 2, and unlisted takes an answer that it holds for new: neither refuses, and neither passes
 abbrev pub Checked : Type 0
 Checked =
@@ -145,3 +164,25 @@ unfolding faultOf faultUnder faultIn firstFailing chained among wholeSpace whole
     formTerms front symbolic tokenOf items entered filled lastOf tailOf into inside collected reads begun applied
     paired shapeOf arityOf every compact elements pairs numbered renamed met seen rank same whole
 first-broken = (refl, refl, refl, refl, refl, refl, refl, refl, refl, refl)
+
+-- a finished subgoal knows its own answers: 8 is for those that it lacks, and the last answer is judged (9) before it
+abbrev pub Held : Type 0
+Held =
+    (replies finished (answer 1 (atom 6 ∷ []) ∷ answer 1 (atom 7 ∷ []) ∷ next 1 2 ∷ [])
+    ≡ oldAnswer 2 ∷ refused 8 ∷ noMore ∷ [])
+    × (replies followed (answer 1 (atom 5 ∷ []) ∷ answer 1 (atom 7 ∷ []) ∷ []) ≡ oldAnswer 1 ∷ refused 9 ∷ [])
+    × (replies (groundIn 0) (answer 1 [] ∷ next 1 1 ∷ []) ≡ oldAnswer 1 ∷ noneYet ∷ [])
+    × (replies (groundIn 1) (answer 1 [] ∷ next 1 1 ∷ []) ≡ oldAnswer 1 ∷ noMore ∷ [])
+    × (wholeSpace (groundIn 0) ≡ true)
+    × (wholeSpace (groundIn 1) ≡ true)
+
+pub held : Held
+unfolding upTo wholeSpace wholeAny wholeUnder wholeView chains chain answerWhole subgoalWhole endsWhole nodeWhole
+    linkWhole childWhole rootWhole everyBelow trace lent inRange capacity counted knownEdition headerOf spaceHeader
+    subgoalWidth answerWidth follows nodeSound bothOrNeither subgoalSound answerSound searchSiblings searchChildren
+    walkFrom walk gather leadCell appendNode appendPath answeredNew answeredOld answeredAt answered starting handed
+    onward decide answerEntered change reply outAfter under underAny spaceStep areForms legalForm judged handedOn
+    reading callable predicate compacted compactForm areTerms pairForm formTerms front symbolic tokenOf items entered
+    filled lastOf tailOf into inside collected reads begun applied paired shapeOf arityOf every compact elements pairs
+    numbered renamed met seen rank same whole
+held = (refl, refl, refl, refl, refl, refl)

@@ -1,5 +1,5 @@
 -- What a call may leave, case by case; what it changes, and that a refused one changes nothing.
-use mathlib.Core.Path.{_≡_, refl, subst}
+use mathlib.Core.Path.{_≡_, refl, sym, subst}
 use mathlib.Core.Bool.{Bool, true, false}
 use mathlib.Core.List.{List, [], _∷_, _++_, map}
 use mathlib.Core.Logic.{_⊎_, inl, inr}
@@ -14,11 +14,11 @@ use Rattle.plain.specs.Words.{Word, has}
 use Rattle.plain.specs.Coding.{Coding, Reading, refused, accepted}
 use Rattle.plain.specs.CodingLaws.{CodingLaws}
 use Rattle.plain.specs.Requests.{State, Open, Finished, Request, call, answer, finish, next, load, instance, counts, join, new, oldSubgoal, oldAnswer, cells, joined, refused, short, lacksNext, Result, lent}
-use Rattle.plain.specs.Table.{Table, subgoalAt, answerAt, subgoalOfAnswer, calledForms, answersTo, nodes, subgoalOf, answerOf, following, withSubgoal, withAnswer, withFinished, stays, becomes, known, fits, appended, called, answered, whileOpen, starting, onward, writes, entered, sideOf, joining, step}
+use Rattle.plain.specs.Table.{Table, subgoalAt, answerAt, subgoalOfAnswer, calledForms, answersTo, nodes, subgoalOf, answerOf, following, withSubgoal, withAnswer, withFinished, withEntry, stays, becomes, known, fits, appended, called, answered, whileOpen, starting, onward, writes, entered, sideOf, joining, step}
 use Rattle.plain.specs.Joins.{Forms, declined, formed, Side, combined, before, allRead, isOpen, ground, named, joinOf}
 use Rattle.plain.specs.Consequences.{RefusedBy, Known, Refusing, RefusingBy}
 use Rattle.plain.proofs.NumberLaws.{Called, subgoalOf-none, subgoalOf-some, Given, answerOf-none, answerOf-some}
-use Rattle.plain.proofs.RecordLaws.{answers-count}
+use Rattle.plain.proofs.RecordLaws.{settled-rooms, entry-count, entry-subgoals, entry-nodes, entry-lasts}
 use Rattle.plain.proofs.EnteringLaws.{entered-old, entered-new, entering}
 
 -- ---- room
@@ -55,17 +55,18 @@ module _ (P : Result Table → Type 0) (t : Table) where
       (λ e. let r = subgoalOf-some t w e in rw (ne-eqb (subgoalOf t w) 0 (λ z. omega (arith, r .low))) (old (subgoalOf t w) r))
       (λ e. rw (subgoalOf-none t w e) (fresh e))
 
-  pub answered-cases : (s : ℕ) (w : Word) (m : ℕ) → ((a : ℕ) → Given t s w a → P (becomes t (oldAnswer a)))
-      → (has (answersTo (t .answers) s) w ≡ false → P (appended t (withAnswer t s w) (ltb (length (t .answers)) (t .A)) (suc (length (t .answers)))))
-      → P (answered t s (accepted w m))
-  unfolding answered
-  answered-cases s w m old fresh = by-cases (has (answersTo (t .answers) s) w)
-      (λ e. let r = answerOf-some t s w e in rw (ne-eqb (answerOf t s w) 0 (λ z. omega (arith, r .low))) (old (answerOf t s w) r))
-      (λ e. rw (answerOf-none t s w e) (fresh e))
-
   pub open-cases : (s : State) (r : Result Table) → (s ≡ Finished → P (becomes t (refused 8))) → (s ≡ Open → P r) → P (whileOpen t s r)
   open-cases Open r refuses accepts = accepts refl
   open-cases Finished r refuses accepts = refuses refl
+
+  pub answered-cases : (s : ℕ) (w : Word) (m : ℕ) → ((a : ℕ) → Given t s w a → P (becomes t (oldAnswer a)))
+      → (has (answersTo (t .answers) s) w ≡ false → subgoalAt t s .state ≡ Finished → P (becomes t (refused 8)))
+      → (has (answersTo (t .answers) s) w ≡ false → subgoalAt t s .state ≡ Open → P (appended t (withEntry t s w) (ltb (length (t .answers)) (t .A)) (suc (length (t .answers)))))
+      → P (answered t s (accepted w m))
+  unfolding answered
+  answered-cases s w m old eight fresh = by-cases (has (answersTo (t .answers) s) w)
+      (λ e. let r = answerOf-some t s w e in rw (ne-eqb (answerOf t s w) 0 (λ z. omega (arith, r .low))) (old (answerOf t s w) r))
+      (λ e. rw (answerOf-none t s w e) (open-cases (subgoalAt t s .state) _ (eight e) (fresh e)))
 
   pub writes-cases : (cs out : List ℕ) → P (stays t out (short (length cs)))
       → (length cs ≤ length out → P (record { reply = cells (length cs); out = cs ++ drop (length cs) out; state = t })) → P (writes t cs out)
@@ -136,11 +137,10 @@ module _ (c : Coding) (t : Table) where
     pub room : nodes (withSubgoal t w m) ≤ t .N
     pub free : length (t .subgoals) < t .F
 
-  -- a form that an open subgoal lacks enters as its answer
+  -- a form that a subgoal lacks enters as its answer
   pub record AnswerEnters (s : ℕ) (w : Word) : Type 0 where
     pub low : 0 < s
     pub high : s ≤ length (t .subgoals)
-    pub is-open : subgoalAt t s .state ≡ Open
     pub cs : List ℕ
     pub n : ℕ
     pub reading : c .answered (subgoalAt t s .m) cs ≡ accepted w n
@@ -151,31 +151,33 @@ module _ (c : Coding) (t : Table) where
 -- answers that enter one after another
 pub data AnswersEnter (c : Coding) (s : ℕ) : Table → Table → Type 0 where
   no-more : {t : Table} → AnswersEnter c s t t
-  one-more : {t u : Table} (w : Word) → AnswerEnters c t s w → AnswersEnter c s (withAnswer t s w) u → AnswersEnter c s t u
+  one-more : {t u : Table} (w : Word) → AnswerEnters c t s w → AnswersEnter c s (withEntry t s w) u → AnswersEnter c s t u
 
 -- the table at the end has room for each of them
-pub entered-enter : (c : Coding) (t : Table) (s : ℕ) (ws : List Word) → 0 < s → s ≤ length (t .subgoals) → subgoalAt t s .state ≡ Open → Readable c (subgoalAt t s .m) ws
+pub entered-enter : (c : Coding) (t : Table) (s : ℕ) (ws : List Word) → 0 < s → s ≤ length (t .subgoals) → Readable c (subgoalAt t s .m) ws
     → nodes (entered t s ws) ≤ t .N → length (entered t s ws .answers) ≤ t .A → AnswersEnter c s t (entered t s ws)
-entered-enter c t s [] low high is-open e room free = unfold entered in no-more
-entered-enter c t s (w ∷ ws) low high is-open e room free = by-cases (has (answersTo (t .answers) s) w)
+entered-enter c t s [] low high e room free = unfold entered in no-more
+entered-enter c t s (w ∷ ws) low high e room free = by-cases (has (answersTo (t .answers) s) w)
     (λ h. let z : entered t s (w ∷ ws) ≡ entered t s ws = entered-old t s w ws low high h in
-    rw z (entered-enter c t s ws low high is-open (e .1) (rw z at room) (rw z at free)))
-    (λ h. let u : Table = withAnswer t s w in
+    rw z (entered-enter c t s ws low high (e .1) (rw z at room) (rw z at free)))
+    (λ h. let u : Table = withEntry t s w in
+    let rooms = settled-rooms (withAnswer t s w) s in
+    let high′ : s ≤ length (u .subgoals) = omega (arith, entry-subgoals t s w) in
     let z : entered t s (w ∷ ws) ≡ entered u s ws = entered-new t s w ws low high h in
-    let n = entering u s ws low high in
+    let n = entering u s ws low high′ in
     let r : nodes (entered u s ws) ≤ t .N = rw z at room in
     let f : length (entered u s ws .answers) ≤ t .A = rw z at free in
     rw z (one-more w
-    (record { low = low; high = high; is-open = is-open; cs = e .0 .0; n = e .0 .1; reading = e .0 .2; absent = h; room = omega (arith, n .0); free = omega (arith, n .1, answers-count t s w) })
-    (entered-enter c u s ws low high (unfold subgoalAt in is-open) (unfold subgoalAt in e .1) r f)))
+    (record { low = low; high = high; cs = e .0 .0; n = e .0 .1; reading = e .0 .2; absent = h; room = omega (arith, n .0, entry-nodes t s w low); free = omega (arith, n .1, entry-count t s w) })
+    (entered-enter c u s ws low high′ (subst (λ (m : ℕ). Readable c m ws) (sym (entry-lasts t s w low high s .m)) (e .1)) (omega (arith, rooms .0)) (omega (arith, rooms .2)))))
 
 module _ (c : Coding) (t : Table) where
   pub data Changed : Table → Type 0 where
     stayed : Changed t
     subgoal-enters : (w : Word) (m : ℕ) → SubgoalEnters c t w m → Changed (withSubgoal t w m)
-    answer-enters : (s : ℕ) (w : Word) → AnswerEnters c t s w → Changed (withAnswer t s w)
+    answer-enters : (s : ℕ) (w : Word) → subgoalAt t s .state ≡ Open → AnswerEnters c t s w → Changed (withEntry t s w)
     finishes : (s : ℕ) → 0 < s → s ≤ length (t .subgoals) → Changed (withFinished t s)
-    answers-enter : (s : ℕ) (u : Table) → AnswersEnter c s t u → Changed u
+    answers-enter : (s : ℕ) (u : Table) → subgoalAt t s .state ≡ Open → AnswersEnter c s t u → Changed u
 
   abbrev Leaves : Result Table → Type 0
   Leaves r = Changed (r .state)
@@ -187,25 +189,25 @@ module _ (c : Coding) (t : Table) where
       (λ absent. appended-cases Leaves t (withSubgoal t w m) (ltb (length (t .subgoals)) (t .F)) (suc (length (t .subgoals))) (λ full. stayed) (λ room full. stayed)
       (λ room free. subgoal-enters w m (record { cs = cs; reading = e; absent = absent; room = room; free = ltb-true _ _ free })))
 
-  answered-changed : (s : ℕ) → 0 < s → s ≤ length (t .subgoals) → subgoalAt t s .state ≡ Open
+  answered-changed : (s : ℕ) → 0 < s → s ≤ length (t .subgoals)
       → (cs : List ℕ) (r : Reading) → c .answered (subgoalAt t s .m) cs ≡ r → Leaves (answered t s r)
-  answered-changed s low high is-open cs (refused n) e = unfold answered in stayed
-  answered-changed s low high is-open cs (accepted w n) e =
-      answered-cases Leaves t s w n (λ s k. stayed)
-      (λ absent. appended-cases Leaves t (withAnswer t s w) (ltb (length (t .answers)) (t .A)) (suc (length (t .answers))) (λ full. stayed) (λ room full. stayed)
-      (λ room free. answer-enters s w (record { low = low; high = high; is-open = is-open; cs = cs; n = n; reading = e; absent = absent; room = room; free = ltb-true _ _ free })))
+  answered-changed s low high cs (refused n) e = unfold answered in stayed
+  answered-changed s low high cs (accepted w n) e =
+      answered-cases Leaves t s w n (λ s k. stayed) (λ absent fin. stayed)
+      (λ absent is-open. appended-cases Leaves t (withEntry t s w) (ltb (length (t .answers)) (t .A)) (suc (length (t .answers))) (λ full. stayed) (λ room full. stayed)
+      (λ room free. answer-enters s w is-open (record { low = low; high = high; cs = cs; n = n; reading = e; absent = absent; room = omega (arith, entry-nodes t s w low); free = ltb-true _ _ free })))
 
   joining-changed : (s : ℕ) → 0 < s → s ≤ length (t .subgoals) → subgoalAt t s .state ≡ Open → (x : Forms) → Read c (subgoalAt t s .m) x → Leaves (joining t s x)
   joining-changed s low high is-open (declined r) e = unfold joining in stayed
   joining-changed s low high is-open (formed ws) e = joining-cases Leaves t s ws (λ full. stayed) (λ room full. stayed)
-      (λ room free. answers-enter s (entered t s ws) (entered-enter c t s ws low high is-open e room free))
+      (λ room free. answers-enter s (entered t s ws) is-open (entered-enter c t s ws low high e room free))
 
   pub step-changed : (q : Request) → Changed (step c t q .state)
   unfolding step
   step-changed (call cs) = called-changed cs (c .called cs) refl
   step-changed (answer s cs) =
       known-cases Leaves t [] (length (t .subgoals)) s _ stayed
-      (λ low high. open-cases Leaves t (subgoalAt t s .state) _ (λ e. stayed) (λ is-open. answered-changed s low high is-open cs (c .answered (subgoalAt t s .m) cs) refl))
+      (λ low high. answered-changed s low high cs (c .answered (subgoalAt t s .m) cs) refl)
   step-changed (finish s) = known-cases Leaves t [] (length (t .subgoals)) s _ stayed (λ low high. finishes s low high)
   step-changed (next s a) = known-cases Leaves t [] (length (t .subgoals)) s _ stayed (λ low high. stayed)
   step-changed (load a out) =
@@ -249,7 +251,7 @@ module _ (c : Coding) (t : Table) (Q : ℕ → Type 0)
   answered-keeps : (s : ℕ) (x : Reading) → ((r : ℕ) → x ≡ refused r → Q r) → Keeps [] (answered t s x)
   answered-keeps s (refused n) f = unfold answered in keeps [] n (f n refl)
   answered-keeps s (accepted w m) f =
-      answered-cases (Keeps []) t s w m (λ s k r h. absurd h) (λ absent. appended-keeps (withAnswer t s w) (ltb (length (t .answers)) (t .A)) (suc (length (t .answers))))
+      answered-cases (Keeps []) t s w m (λ s k r h. absurd h) (λ absent fin. keeps [] 8 eight) (λ absent is-open. appended-keeps (withEntry t s w) (ltb (length (t .answers)) (t .A)) (suc (length (t .answers))))
 
   lacks-keeps : (x : State) → Keeps [] (becomes t (lacksNext x))
   lacks-keeps Open r h = absurd h
@@ -270,8 +272,7 @@ module _ (c : Coding) (t : Table) (Q : ℕ → Type 0)
   step-keeps (call cs) = called-keeps (c .called cs) (called-by cs)
   step-keeps (answer s cs) =
       known-cases (Keeps []) t [] (length (t .subgoals)) s _ (keeps [] 7 seven)
-      (λ low high. open-cases (Keeps []) t (subgoalAt t s .state) _ (λ e. keeps [] 8 eight)
-      (λ is-open. answered-keeps s (c .answered (subgoalAt t s .m) cs) (answered-by (subgoalAt t s .m) cs)))
+      (λ low high. answered-keeps s (c .answered (subgoalAt t s .m) cs) (answered-by (subgoalAt t s .m) cs))
   step-keeps (finish s) = known-cases (Keeps []) t [] (length (t .subgoals)) s _ (keeps [] 7 seven) (λ low high r h. absurd h)
   step-keeps (next s a) = known-cases (Keeps []) t [] (length (t .subgoals)) s _ (keeps [] 7 seven) (λ low high. onward-keeps s a)
   step-keeps (load a out) = known-cases (Keeps out) t out (length (t .answers)) a _ (keeps out 7 seven) (λ low high. writes-keeps (c .expand (answerAt t a .form)) out)

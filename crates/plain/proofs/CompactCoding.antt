@@ -9,9 +9,9 @@ use lib.ListN.{length}
 use borrow.Author.Tests.{ltb-false, le-leb}
 use Rattle.basis.specs.Choice.{pick}
 use Rattle.basis.proofs.Cases.{by-cases}
-use Rattle.forms.specs.Terms.{areTerms}
+use Rattle.forms.specs.Terms.{areTerms, every}
 use Rattle.forms.specs.Numbering.{met, numbered}
-use Rattle.forms.specs.Compact.{compactForm, items, front, formTerms, pairForm, legalForm}
+use Rattle.forms.specs.Compact.{compactForm, items, front, formTerms, pairForm, areForms, legalForm}
 use Rattle.forms.specs.declared.Answer.{Answer}
 use Rattle.forms.specs.declared.Answer.the-variants.{Cells, Refused, Short}
 use Rattle.forms.specs.Converting.{reading}
@@ -88,6 +88,13 @@ module _ (arity : ℕ → ℕ) where
   form-some m [] h = let z : 0 ≡ suc m = unfold formTerms front items in forms-compact arity (suc m) [] (legal-parts arity (suc m) [] h .forms) .0 in absurd (omega arith)
   form-some m (t ∷ w) h = omega arith
 
+  empty-forms : areForms arity 0 [] ≡ true
+  unfolding areForms formTerms front items every
+  empty-forms = refl
+
+  form-empty : (w : Word) → legalForm arity 0 w ≡ true → w ≡ []
+  form-empty w h = prefix-free-forms arity 0 [] w empty-forms (legal-parts arity 0 w h .forms)
+
   instance-legal : (w v : Word) → legalForm arity 1 w ≡ true → legalForm arity (length (met [] w)) v ≡ true
       → numbered (compactCoding arity .instanceOf w v) ≡ compactCoding arity .instanceOf w v
   unfolding pairForm
@@ -132,6 +139,7 @@ module _ (arity : ℕ → ℕ) where
     legal-free = λ m w rest h k. prefix-free-forms arity m w rest (legal-parts arity m w h .forms) (legal-parts arity m (w ++ rest) k .forms);
     legal-short = λ m w h. let l = loaded arity m w h in omega (arith, bounded arity m (pairForm arity w) (l .0) .1, ap length (l .2));
     legal-some = λ m w h. form-some m w h;
+    legal-empty = λ w h. form-empty w h;
     ground-refused = λ m ks r g e. let t = ground-read arity g in ground-four m ks r (t .0) (t .1) e;
     instance-numbered = λ w v h k. instance-legal w v h k;
   }

@@ -12,12 +12,12 @@ use Rattle.basis.proofs.Cases.{by-cases}
 use Rattle.plain.specs.Words.{Word}
 use Rattle.plain.specs.Coding.{Coding}
 use Rattle.plain.specs.Requests.{State, Open, Finished, Request, next, Reply, at, noneYet, noMore, lacksNext, refused, Result, left}
-use Rattle.plain.specs.Table.{Table, Answer, subgoalAt, answerAt, subgoalOfAnswer, after, following, starting, onward, becomes, withAnswer, step}
+use Rattle.plain.specs.Table.{Table, Answer, subgoalAt, answerAt, subgoalOfAnswer, after, following, starting, onward, becomes, withAnswer, withEntry, step}
 use Rattle.plain.specs.Consequences.{Ending}
 use Rattle.plain.proofs.AfterLaws.{after-found, after-least}
-use Rattle.plain.proofs.RecordLaws.{answerAt-new, answers-count, subgoals-count}
-use Rattle.plain.proofs.Changes.{known-cases, AnswerEnters, AnswersEnter, no-more, one-more, Changed, stayed, subgoal-enters, answer-enters, finishes, answers-enter, step-changed}
-use Rattle.plain.proofs.Growth.{Grows, grows-refl, grows-trans, answer-grows, entering-grows, step-grows, left-grows}
+use Rattle.plain.proofs.RecordLaws.{answerAt-new, subgoals-count, settled-answerAt, entry-count}
+use Rattle.plain.proofs.Changes.{known-cases, AnswersEnter, no-more, one-more, Changed, stayed, subgoal-enters, answer-enters, finishes, answers-enter, step-changed}
+use Rattle.plain.proofs.Growth.{Grows, grows-refl, grows-trans, entering-grows, step-grows, left-grows}
 use Rattle.plain.proofs.NextLaws.{next-reply, starting-answer}
 
 -- no answer past those of t is to s
@@ -36,28 +36,29 @@ open-apart : (x : State) → x ≡ Finished → x ≡ Open → ⊥
 open-apart x e f = let z : _≡_ {A = ℕ} 0 1 = cc in omega arith
 
 module _ (c : Coding) (s : ℕ) where
-  entry-silent : (t : Table) (x : ℕ) (w : Word) → subgoalAt t s .state ≡ Finished → AnswerEnters c t x w → Silent s t (withAnswer t x w)
-  entry-silent t x w fin e b low high own =
-      let n : b ≡ suc (length (t .answers)) = newest b low high in
-      let same : x ≡ s = sym (ap (λ (i : ℕ). subgoalOfAnswer (withAnswer t x w) i) n ∙ ap (λ (y : Answer). y .subgoal) (answerAt-new t x w)) ∙ own in
-      open-apart (subgoalAt t s .state) fin (ap (λ (i : ℕ). subgoalAt t i .state) (sym same) ∙ e .is-open)
-    where
-      newest : (b : ℕ) → length (t .answers) < b → b ≤ length (withAnswer t x w .answers) → b ≡ suc (length (t .answers))
-      newest b low high = omega (arith, answers-count t x w)
+  -- an open subgoal is another than a finished one
+  other-than : (t : Table) (x : ℕ) → subgoalAt t s .state ≡ Finished → subgoalAt t x .state ≡ Open → x ≡ s → ⊥
+  other-than t x fin o e = open-apart (subgoalAt t s .state) fin (ap (λ (i : ℕ). subgoalAt t i .state) (sym e) ∙ o)
 
-  entering-silent : {x : ℕ} {t u : Table} → s ≤ length (t .subgoals) → subgoalAt t s .state ≡ Finished → AnswersEnter c x t u → Silent s t u
-  entering-silent {t = t} among fin no-more = silent-refl s t
-  entering-silent {x = x} {t = t} {u = u} among fin (one-more w e rest) =
-      let g : Grows t (withAnswer t x w) = answer-grows t x w in
-      silent-trans s t (withAnswer t x w) u (entering-grows rest) (entry-silent t x w fin e)
-      (entering-silent (omega (arith, g .more-subgoals)) (g .subgoals s among .finished fin) rest)
+  entry-silent : (t : Table) (x : ℕ) (w : Word) → (x ≡ s → ⊥) → Silent s t (withEntry t x w)
+  entry-silent t x w apart b low high own =
+      let n : b ≡ suc (length (t .answers)) = newest b low high in
+      apart (sym (ap (λ (y : Answer). y .subgoal) (settled-answerAt (withAnswer t x w) x b) ∙ ap (λ (i : ℕ). subgoalOfAnswer (withAnswer t x w) i) n ∙ ap (λ (y : Answer). y .subgoal) (answerAt-new t x w)) ∙ own)
+    where
+      newest : (b : ℕ) → length (t .answers) < b → b ≤ length (withEntry t x w .answers) → b ≡ suc (length (t .answers))
+      newest b low high = omega (arith, entry-count t x w)
+
+  entering-silent : {x : ℕ} {t u : Table} → (x ≡ s → ⊥) → AnswersEnter c x t u → Silent s t u
+  entering-silent {t = t} apart no-more = silent-refl s t
+  entering-silent {x = x} {t = t} {u = u} apart (one-more w e rest) =
+      silent-trans s t (withEntry t x w) u (entering-grows rest) (entry-silent t x w apart) (entering-silent apart rest)
 
   changed-silent : (t u : Table) → s ≤ length (t .subgoals) → subgoalAt t s .state ≡ Finished → Changed c t u → Silent s t u
   changed-silent t u among fin stayed = silent-refl s t
   changed-silent t u among fin (subgoal-enters w m e) = λ b h k q. omega arith
-  changed-silent t u among fin (answer-enters x w e) = entry-silent t x w fin e
+  changed-silent t u among fin (answer-enters x w o e) = entry-silent t x w (other-than t x fin o)
   changed-silent t u among fin (finishes x low high) = λ b h k q. omega arith
-  changed-silent t u among fin (answers-enter x v e) = entering-silent among fin e
+  changed-silent t u among fin (answers-enter x v o e) = entering-silent (other-than t x fin o) e
 
   pub left-silent : (t : Table) (qs : List Request) → s ≤ length (t .subgoals) → subgoalAt t s .state ≡ Finished → Silent s t (left (step c) t qs)
   unfolding left

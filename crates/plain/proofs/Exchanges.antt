@@ -6,6 +6,7 @@ use Prim.Native.Nat.{ℕ, zero, suc, _+_, _≤_, _<_}
 use native.Mathlib.Omega.{arith}
 use lib.Dec.{eqb, leb, ltb}
 use lib.ListN.{length, getD, drop}
+use lib.Seq.{ext-getD}
 use borrow.Author.Tests.{eqb-true, eqb-false, ne-eqb, lt-ltb, le-leb, ltb-true}
 use Rattle.basis.specs.Choice.{pick}
 use Rattle.basis.proofs.Cases.{by-cases}
@@ -13,9 +14,9 @@ use Rattle.plain.specs.Words.{Word, has, distinct}
 use Rattle.plain.specs.Coding.{Coding, Reading, refused, accepted}
 use Rattle.plain.specs.Requests.{State, Open, Request, answer, load, instance, Reply, new, oldAnswer, refused, cells}
 use Rattle.plain.specs.Requests.{short, Counts, Result, Seen, trace, left}
-use Rattle.plain.specs.Table.{Table, Subgoal, Answer, fresh, noAnswer, subgoalAt, answerAt, subgoalOfAnswer, answersTo}
-use Rattle.plain.specs.Table.{answerNodes, nodes, counted, answerOf, withAnswer, fits, appended, answered, writes}
-use Rattle.plain.specs.Table.{step, tableTrace}
+use Rattle.plain.specs.Table.{Table, Subgoal, Answer, fresh, noSubgoal, noAnswer, subgoalAt, answerAt, subgoalOfAnswer, answersTo}
+use Rattle.plain.specs.Table.{answerNodes, nodes, counted, answerOf, withAnswer, settled, withEntry, fits, appended}
+use Rattle.plain.specs.Table.{answered, writes, step, tableTrace}
 use Rattle.plain.specs.Consequences.{numbersOf, Visits, reached}
 use Rattle.plain.specs.Order.{Accepted, Exchangeable, Exchanged, unchanged, exchange, behind, again, unnumbered}
 use Rattle.plain.specs.Order.{compared, concerns, Heard, heard}
@@ -24,7 +25,7 @@ use Rattle.plain.specs.Order.{ArrivalOrder, Renumbered, PlainArrivalOrde
 use Rattle.plain.proofs.NumberLaws.{answerOf-none, answerOf-some}
 use Rattle.plain.proofs.PrefixLaws.{distinct-snoc}
 use Rattle.plain.proofs.Changes.{known-cases, open-cases, appended-cases}
-use Rattle.plain.proofs.RecordLaws.{answers-count}
+use Rattle.plain.proofs.RecordLaws.{answers-count, finished-forms, finished-count, closing, settled-cases, settled-rooms, entry-answers, entry-count, entry-subgoals, entry-nodes, entry-apart, entry-own}
 use Rattle.plain.proofs.Counted.{answersTo-same, answersTo-other}
 use Rattle.plain.proofs.NextLaws.{visiting}
 use Rattle.plain.proofs.Renumbering.{renumbered-refl, renumbered-trans, nodes-alike, Parallel, load-leaves}
@@ -149,38 +150,37 @@ module _ (c : Coding) (t u : Table) (r : Renumbered t u) where
 
 -- the table after an accepted answer of this form
 abbrev enteredIn : Table → ℕ → Word → Table
-enteredIn t x w = pick (has (answersTo (t .answers) x) w) t (withAnswer t x w)
+enteredIn t x w = pick (has (answersTo (t .answers) x) w) t (withEntry t x w)
 
--- the answer is accepted: it is read to a form that the open subgoal holds, or for which there is room
+-- the answer is accepted: it is read to a form that the subgoal holds; or the subgoal is open, and there is room for it
 record Takes (c : Coding) (t : Table) (x : ℕ) (cs : List ℕ) : Type 0 where
   w : Word
   n : ℕ
   low : 0 < x
   high : x ≤ length (t .subgoals)
-  is-open : subgoalAt t x .state ≡ Open
   reading : c .answered (subgoalAt t x .m) cs ≡ accepted w n
+  open-if : has (answersTo (t .answers) x) w ≡ false → subgoalAt t x .state ≡ Open
   room : has (answersTo (t .answers) x) w ≡ false → (nodes (withAnswer t x w) ≤ t .N) × (length (t .answers) < t .A)
 
 module _ (c : Coding) (cs : List ℕ) where
   abbrev Takes-if : Table → ℕ → Result Table → Type 0
   Takes-if t x r = Accepted (r .reply) → Takes c t x cs
 
-  answered-takes : (t : Table) (x : ℕ) → 0 < x → x ≤ length (t .subgoals) → subgoalAt t x .state ≡ Open
+  answered-takes : (t : Table) (x : ℕ) → 0 < x → x ≤ length (t .subgoals)
       → (r : Reading) → c .answered (subgoalAt t x .m) cs ≡ r → Takes-if t x (answered t x r)
-  answered-takes t x low high is-open (refused k) e = unfold answered in λ h. absurd (h .1)
-  answered-takes t x low high is-open (accepted w n) e = by-cases (has (answersTo (t .answers) x) w)
-      (λ held h. record { w = w; n = n; low = low; high = high; is-open = is-open; reading = e; room = λ z. absurd (true≢false (sym held ∙ z)) })
+  answered-takes t x low high (refused k) e = unfold answered in λ h. absurd (h .1)
+  answered-takes t x low high (accepted w n) e = by-cases (has (answersTo (t .answers) x) w)
+      (λ held h. record { w = w; n = n; low = low; high = high; reading = e; open-if = λ z. absurd (true≢false (sym held ∙ z)); room = λ z. absurd (true≢false (sym held ∙ z)) })
       (λ lacks. unfold answered in rw (answerOf-none t x w lacks)
-      (appended-cases (Takes-if t x) t (withAnswer t x w) (ltb (length (t .answers)) (t .A)) (suc (length (t .answers)))
+      (open-cases (Takes-if t x) t (subgoalAt t x .state) _ (λ fin h. absurd (h .1)) (λ is-open. appended-cases (Takes-if t x) t (withEntry t x w) (ltb (length (t .answers)) (t .A)) (suc (length (t .answers)))
       (λ full h. absurd (h .1)) (λ room full h. absurd (h .1))
-      (λ room free h. record { w = w; n = n; low = low; high = high; is-open = is-open; reading = e; room = λ z. (room, ltb-true _ _ free) })))
+      (λ room free h. record { w = w; n = n; low = low; high = high; reading = e; open-if = λ z. is-open; room = λ z. (omega (arith, entry-nodes t x w low), ltb-true _ _ free) }))))
 
   takes : (t : Table) (x : ℕ) → Takes-if t x (step c t (answer x cs))
   unfolding step
   takes t x =
       known-cases (Takes-if t x) t [] (length (t .subgoals)) x _ (λ h. absurd (h .1))
-      (λ low high. open-cases (Takes-if t x) t (subgoalAt t x .state) _ (λ e h. absurd (h .1))
-      (λ is-open. answered-takes t x low high is-open (c .answered (subgoalAt t x .m) cs) refl))
+      (λ low high. answered-takes t x low high (c .answered (subgoalAt t x .m) cs) refl)
 
   -- what an accepted answer leaves and says
   record Took (t : Table) (x : ℕ) (w : Word) (r : Result Table) : Type 0 where
@@ -193,11 +193,11 @@ module _ (c : Coding) (cs : List ℕ) where
   answered-took t x k = by-cases (has (answersTo (t .answers) x) (k .w))
       (λ e. let a = answerOf-some t x (k .w) e in
       rw (ne-eqb (answerOf t x (k .w)) 0 (λ z. omega (arith, a .low))) (record { state = rw e; word = rw e; accepts = (_, refl) }))
-      (λ e. rw (answerOf-none t x (k .w) e, le-leb _ _ (k .room e .0), lt-ltb _ _ (k .room e .1)) (record { state = rw e; word = rw e; accepts = (_, refl) }))
+      (λ e. rw (answerOf-none t x (k .w) e, k .open-if e, entry-nodes t x (k .w) (k .low), le-leb _ _ (k .room e .0), lt-ltb _ _ (k .room e .1)) (record { state = rw e; word = rw e; accepts = (_, refl) }))
 
   took : (t : Table) (x : ℕ) (k : Takes c t x cs) → Took t x (k .w) (step c t (answer x cs))
   unfolding step
-  took t x k = rw (lt-ltb 0 x (k .low), le-leb x (length (t .subgoals)) (k .high), k .is-open, k .reading) (answered-took t x k)
+  took t x k = rw (lt-ltb 0 x (k .low), le-leb x (length (t .subgoals)) (k .high), k .reading) (answered-took t x k)
 
 -- ---- one exchange
 
@@ -251,35 +251,93 @@ both-nodes : (t : Table) (x y : ℕ) (w v : Word) → (x ≡ y → ⊥)
 both-nodes t x y w v apart =
     nodes-alike (withAnswer (withAnswer t x w) y v) (withAnswer (withAnswer t y v) x w) refl refl (both-orders t x y w v apart .answers-to)
 
+-- ---- with a ground subgoal finished by its answer
+
+-- the nodes are those of the answers
+entry-under : (t : Table) (x y : ℕ) (w v : Word) → 0 < x → nodes (withAnswer (withEntry t x w) y v) ≡ nodes (withAnswer (withAnswer t x w) y v)
+entry-under t x y w v low = settled-cases (withAnswer t x w) x (λ u. nodes (withAnswer u y v) ≡ nodes (withAnswer (withAnswer t x w) y v))
+    (unfold nodes in rw (finished-forms (withAnswer t x w) x low, finished-count (withAnswer t x w) x)) refl
+
+both-answers : (t : Table) (x y : ℕ) (w v : Word) → withEntry (withEntry t x w) y v .answers ≡ withAnswer (withAnswer t x w) y v .answers
+both-answers t x y w v = entry-answers (withEntry t x w) y v ∙ ap (λ (l : List Answer). l ++ (record { subgoal = y; form = v } ∷ [])) (entry-answers t x w)
+
+both-rooms : (t : Table) (x y : ℕ) (w v : Word)
+    → (withEntry (withEntry t x w) y v .N ≡ t .N) × (withEntry (withEntry t x w) y v .F ≡ t .F) × (withEntry (withEntry t x w) y v .A ≡ t .A)
+both-rooms t x y w v =
+    let a = settled-rooms (withAnswer t x w) x in
+    let b = settled-rooms (withAnswer (withEntry t x w) y v) y in
+    (b .0 ∙ a .0, b .1 ∙ a .1, b .2 ∙ a .2)
+
+-- the later subgoal's record is the same as if it had come first
+own-both : (t : Table) (x y : ℕ) (w v : Word) → (y ≡ x → ⊥) → 0 < x → 0 < y → y ≤ length (t .subgoals)
+    → subgoalAt (withEntry (withEntry t x w) y v) y ≡ subgoalAt (withEntry (withEntry t y v) x w) y
+own-both t x y w v apart lx ly hy =
+    entry-own (withEntry t x w) y v ly (omega (arith, entry-subgoals t x w))
+    ∙ ap closing (entry-apart t x w lx y apart)
+    ∙ sym (entry-apart (withEntry t y v) x w lx y apart ∙ entry-own t y v ly hy)
+
+module _ (t : Table) (x y : ℕ) (w v : Word) (apart : x ≡ y → ⊥) (lx : 0 < x) (hx : x ≤ length (t .subgoals)) (ly : 0 < y) (hy : y ≤ length (t .subgoals)) where
+  abbrev one-way : Table
+  one-way = withEntry (withEntry t x w) y v
+
+  abbrev other-way : Table
+  other-way = withEntry (withEntry t y v) x w
+
+  each-subgoal : (i : ℕ) → subgoalAt one-way i ≡ subgoalAt other-way i
+  each-subgoal i = by-cases (eqb i y)
+      (λ e. let q : i ≡ y = eqb-true i y e in rw q (own-both t x y w v (λ z. apart (sym z)) lx ly hy))
+      (λ e. by-cases (eqb i x)
+      (λ g. let q : i ≡ x = eqb-true i x g in rw q (sym (own-both t y x v w apart ly lx hx)))
+      (λ g. entry-apart (withEntry t x w) y v ly i (eqb-false i y e) ∙ entry-apart t x w lx i (eqb-false i x g)
+      ∙ sym (entry-apart (withEntry t y v) x w lx i (eqb-false i x g) ∙ entry-apart t y v ly i (eqb-false i y e))))
+
+  same-subgoals : one-way .subgoals ≡ other-way .subgoals
+  same-subgoals = ext-getD noSubgoal (one-way .subgoals) (other-way .subgoals)
+      (entry-subgoals (withEntry t x w) y v ∙ entry-subgoals t x w ∙ sym (entry-subgoals (withEntry t y v) x w ∙ entry-subgoals t y v))
+      (λ i h. unfold subgoalAt in each-subgoal (suc i))
+
+  entries-exchange : Renumbered (withEntry (withEntry t x w) y v) (withEntry (withEntry t y v) x w)
+  entries-exchange =
+      let a = both-rooms t x y w v in
+      let b = both-rooms t y x v w in
+      let o = both-orders t x y w v apart in
+      record {
+        N = a .0 ∙ sym (b .0);
+        F = a .1 ∙ sym (b .1);
+        A = a .2 ∙ sym (b .2);
+        subgoals = same-subgoals;
+        answers = ap length (both-answers t x y w v) ∙ o .answers ∙ sym (ap length (both-answers t y x v w));
+        answers-to = λ s. ap (λ (l : List Answer). answersTo l s) (both-answers t x y w v) ∙ o .answers-to s ∙ sym (ap (λ (l : List Answer). answersTo l s) (both-answers t y x v w));
+      }
+
 -- an answer to another subgoal leaves a subgoal as it was
 module _ (t : Table) (x : ℕ) (w : Word) where
-  subgoals-entered : enteredIn t x w .subgoals ≡ t .subgoals
-  subgoals-entered = by-cases (has (answersTo (t .answers) x) w) (λ e. rw e) (λ e. rw e)
+  subgoals-entered : length (enteredIn t x w .subgoals) ≡ length (t .subgoals)
+  subgoals-entered = by-cases (has (answersTo (t .answers) x) w) (λ e. rw e) (λ e. rw e (entry-subgoals t x w))
 
-  subgoalAt-entered : (s : ℕ) → subgoalAt (enteredIn t x w) s ≡ subgoalAt t s
-  unfolding subgoalAt
-  subgoalAt-entered s = rw subgoals-entered
+  subgoalAt-entered : 0 < x → (s : ℕ) → (s ≡ x → ⊥) → subgoalAt (enteredIn t x w) s ≡ subgoalAt t s
+  subgoalAt-entered low s apart = by-cases (has (answersTo (t .answers) x) w) (λ e. rw e) (λ e. rw e (entry-apart t x w low s apart))
 
   others-entered : (s : ℕ) → (x ≡ s → ⊥) → answersTo (enteredIn t x w .answers) s ≡ answersTo (t .answers) s
-  others-entered s apart = by-cases (has (answersTo (t .answers) x) w) (λ e. rw e) (λ e. rw e (answersTo-other (t .answers) x s w apart))
+  others-entered s apart = by-cases (has (answersTo (t .answers) x) w) (λ e. rw e) (λ e. rw (e, entry-answers t x w) (answersTo-other (t .answers) x s w apart))
 
-module _ (c : Coding) (t : Table) (x y : ℕ) (w v : Word) (apart : x ≡ y → ⊥) where
+module _ (c : Coding) (t : Table) (x y : ℕ) (w v : Word) (apart : x ≡ y → ⊥) (lx : 0 < x) (hx : x ≤ length (t .subgoals)) (ly : 0 < y) (hy : y ≤ length (t .subgoals)) where
   apart′ : y ≡ x → ⊥
   apart′ z = apart (sym z)
 
   entered-orders : Renumbered (enteredIn (enteredIn t x w) y v) (enteredIn (enteredIn t y v) x w)
   entered-orders =
-      let hx : has (answersTo (enteredIn t y v .answers) x) w ≡ has (answersTo (t .answers) x) w = ap (λ (l : List Word). has l w) (others-entered t y v x apart′) in
-      let hy : has (answersTo (enteredIn t x w .answers) y) v ≡ has (answersTo (t .answers) y) v = ap (λ (l : List Word). has l v) (others-entered t x w y apart) in
-      rw (hx, hy) (by-cases (has (answersTo (t .answers) x) w)
+      let hx′ : has (answersTo (enteredIn t y v .answers) x) w ≡ has (answersTo (t .answers) x) w = ap (λ (l : List Word). has l w) (others-entered t y v x apart′) in
+      let hy′ : has (answersTo (enteredIn t x w .answers) y) v ≡ has (answersTo (t .answers) y) v = ap (λ (l : List Word). has l v) (others-entered t x w y apart) in
+      rw (hx′, hy′) (by-cases (has (answersTo (t .answers) x) w)
       (λ e. by-cases (has (answersTo (t .answers) y) v) (λ g. rw (e, g) (renumbered-refl _)) (λ g. rw (e, g) (renumbered-refl _)))
-      (λ e. by-cases (has (answersTo (t .answers) y) v) (λ g. rw (e, g) (renumbered-refl _)) (λ g. rw (e, g) (both-orders t x y w v apart))))
+      (λ e. by-cases (has (answersTo (t .answers) y) v) (λ g. rw (e, g) (renumbered-refl _)) (λ g. rw (e, g) (entries-exchange t x y w v apart lx hx ly hy))))
 
 -- the room that an answer of this form needs, if it is to enter
 abbrev Room : Table → ℕ → Word → Type 0
 Room t x w = has (answersTo (t .answers) x) w ≡ false → (nodes (withAnswer t x w) ≤ t .N) × (length (t .answers) < t .A)
 
-module _ (t : Table) (x y : ℕ) (w v : Word) (apart : x ≡ y → ⊥) (rx : Room t x w) (ry : Room (enteredIn t x w) y v) where
+module _ (t : Table) (x y : ℕ) (w v : Word) (apart : x ≡ y → ⊥) (lx : 0 < x) (ly : 0 < y) (rx : Room t x w) (ry : Room (enteredIn t x w) y v) where
   lacks-after : has (answersTo (t .answers) y) v ≡ false → has (answersTo (enteredIn t x w .answers) y) v ≡ false
   lacks-after e = ap (λ (l : List Word). has l v) (others-entered t x w y apart) ∙ e
 
@@ -287,8 +345,9 @@ module _ (t : Table) (x y : ℕ) (w v : Word) (apart : x ≡ y → ⊥) (rx : Ro
   room-first e = by-cases (has (answersTo (t .answers) x) w)
       (λ g. rw g at (ry (lacks-after e)))
       (λ g.
-      let k : (nodes (withAnswer (withAnswer t x w) y v) ≤ t .N) × (length (withAnswer t x w .answers) < t .A) = rw g at (ry (lacks-after e)) in
-      (omega (arith, k .0, both-nodes t x y w v apart, nodes-more (withAnswer t y v) x w), omega (arith, k .1, answers-count t x w)))
+      let k : (nodes (withAnswer (withEntry t x w) y v) ≤ withEntry t x w .N) × (length (withEntry t x w .answers) < withEntry t x w .A) = rw g at (ry (lacks-after e)) in
+      let rooms = settled-rooms (withAnswer t x w) x in
+      (omega (arith, k .0, rooms .0, entry-under t x y w v lx, both-nodes t x y w v apart, nodes-more (withAnswer t y v) x w), omega (arith, k .1, rooms .2, entry-count t x w)))
 
   room-second : Room (enteredIn t y v) x w
   room-second e =
@@ -296,8 +355,10 @@ module _ (t : Table) (x y : ℕ) (w v : Word) (apart : x ≡ y → ⊥) (rx : Ro
       by-cases (has (answersTo (t .answers) y) v)
       (λ h. rw h (rx g))
       (λ h.
-      let k : (nodes (withAnswer (withAnswer t x w) y v) ≤ t .N) × (length (withAnswer t x w .answers) < t .A) = rw g at (ry (lacks-after h)) in
-      rw h (omega (arith, k .0, both-nodes t x y w v apart), omega (arith, k .1, answers-count t x w, answers-count t y v)))
+      let k : (nodes (withAnswer (withEntry t x w) y v) ≤ withEntry t x w .N) × (length (withEntry t x w .answers) < withEntry t x w .A) = rw g at (ry (lacks-after h)) in
+      let rooms = settled-rooms (withAnswer t x w) x in
+      let others = settled-rooms (withAnswer t y v) y in
+      rw h (omega (arith, k .0, rooms .0, others .0, entry-under t x y w v lx, entry-under t y x v w ly, both-nodes t x y w v apart), omega (arith, k .1, rooms .2, others .2, entry-count t x w, entry-count t y v)))
 
 module _ (c : Coding) (t : Table) (x y : ℕ) (cs ds : List ℕ) (e : Exchangeable (step c) t x cs y ds) where
   tx : Takes c t x cs
@@ -310,15 +371,18 @@ module _ (c : Coding) (t : Table) (x y : ℕ) (cs ds : List ℕ) (e : Exchangeab
   ty : Takes c (enteredIn t x (tx .w)) y ds
   ty = subst (λ (u : Table). Takes c u y ds) left-first (takes c ds (step c t (answer x cs) .state) y (e .second))
 
+  apart-too : y ≡ x → ⊥
+  apart-too z = e .apart (sym z)
+
   abbrev uy : Takes c t y ds
   uy = record {
     w = ty .w;
     n = ty .n;
     low = ty .low;
     high = rw (← (subgoals-entered t x (tx .w))) (ty .high);
-    is-open = rw (subgoalAt-entered t x (tx .w) y) at (ty .is-open);
-    reading = rw (subgoalAt-entered t x (tx .w) y) at (ty .reading);
-    room = room-first t x y (tx .w) (ty .w) (e .apart) (tx .room) (ty .room);
+    reading = rw (subgoalAt-entered t x (tx .w) (tx .low) y apart-too) at (ty .reading);
+    open-if = λ z. rw (subgoalAt-entered t x (tx .w) (tx .low) y apart-too) at (ty .open-if (lacks-after t x y (tx .w) (ty .w) (e .apart) (tx .low) (ty .low) (tx .room) (ty .room) z));
+    room = room-first t x y (tx .w) (ty .w) (e .apart) (tx .low) (ty .low) (tx .room) (ty .room);
   }
 
   left-other : step c t (answer y ds) .state ≡ enteredIn t y (ty .w)
@@ -330,13 +394,10 @@ module _ (c : Coding) (t : Table) (x y : ℕ) (cs ds : List ℕ) (e : Exchangeab
     n = tx .n;
     low = tx .low;
     high = rw (subgoals-entered t y (ty .w)) (tx .high);
-    is-open = rw (subgoalAt-entered t y (ty .w) x) (tx .is-open);
-    reading = rw (subgoalAt-entered t y (ty .w) x) (tx .reading);
-    room = room-second t x y (tx .w) (ty .w) (e .apart) (tx .room) (ty .room);
+    reading = rw (subgoalAt-entered t y (ty .w) (ty .low) x (e .apart)) (tx .reading);
+    open-if = λ z. rw (subgoalAt-entered t y (ty .w) (ty .low) x (e .apart)) (tx .open-if (ap (λ (l : List Word). has l (tx .w)) (sym (others-entered t y (ty .w) x apart-too)) ∙ z));
+    room = room-second t x y (tx .w) (ty .w) (e .apart) (tx .low) (ty .low) (tx .room) (ty .room);
   }
-
-  apart-too : y ≡ x → ⊥
-  apart-too z = e .apart (sym z)
 
   pub exchanged-back : Exchangeable (step c) t y ds x cs
   exchanged-back = record {
@@ -369,7 +430,7 @@ module _ (c : Coding) (t : Table) (x y : ℕ) (cs ds : List ℕ) (e : Exchangeab
 
   pub exchanged-states : Renumbered (step c (step c t (answer x cs) .state) (answer y ds) .state)
       (step c (step c t (answer y ds) .state) (answer x cs) .state)
-  exchanged-states = rw (left-both, left-back) (entered-orders c t x y (tx .w) (ty .w) (e .apart))
+  exchanged-states = rw (left-both, left-back) (entered-orders c t x y (tx .w) (ty .w) (e .apart) (tx .low) (tx .high) (uy .low) (uy .high))
 
 -- ---- lists
 

@@ -1,14 +1,14 @@
 -- What lasts while calls go on: capacities, records under their numbers, and that a subgoal is finished.
 use mathlib.Core.Path.{_≡_, refl, _∙_}
 use mathlib.Core.List.{List, [], _∷_}
-use Prim.Native.Nat.{ℕ, _≤_}
+use Prim.Native.Nat.{ℕ, _≤_, _<_}
 use Rattle.plain.specs.Words.{Word}
 use native.Mathlib.Omega.{arith}
 use lib.ListN.{length}
 use Rattle.plain.specs.Coding.{Coding}
 use Rattle.plain.specs.Requests.{Request, left}
-use Rattle.plain.specs.Table.{Table, subgoalAt, answerAt, withAnswer, step}
-use Rattle.plain.proofs.RecordLaws.{Lasts, equal-lasts, subgoalAt-before, subgoals-count, answerAt-before, answers-count, subgoalAt-lasts, finished-count}
+use Rattle.plain.specs.Table.{Table, subgoalAt, answerAt, withAnswer, withEntry, step}
+use Rattle.plain.proofs.RecordLaws.{Lasts, equal-lasts, subgoalAt-before, subgoals-count, answerAt-before, subgoalAt-lasts, finished-count, settled-rooms, settled-answerAt, entry-count, entry-subgoals, entry-lasts}
 use Rattle.plain.proofs.Changes.{AnswersEnter, no-more, one-more, Changed, stayed, subgoal-enters, answer-enters, finishes, answers-enter, step-changed}
 
 pub record Grows (t u : Table) : Type 0 where
@@ -37,20 +37,22 @@ grows-trans t u v g h = record {
   answers = λ a k. h .answers a (omega (arith, g .more-answers)) ∙ g .answers a k;
 }
 
-pub answer-grows : (t : Table) (s : ℕ) (w : Word) → Grows t (withAnswer t s w)
-answer-grows t s w = record {
-  N = refl;
-  F = refl;
-  A = refl;
-  more-subgoals = omega arith;
-  subgoals = λ x h. equal-lasts _ _ (unfold subgoalAt in refl);
-  more-answers = omega (arith, answers-count t s w);
-  answers = λ a h. answerAt-before t s w a h;
-}
+pub answer-grows : (t : Table) (s : ℕ) (w : Word) → 0 < s → s ≤ length (t .subgoals) → Grows t (withEntry t s w)
+answer-grows t s w low high =
+    let rooms = settled-rooms (withAnswer t s w) s in
+    record {
+      N = rooms .0;
+      F = rooms .1;
+      A = rooms .2;
+      more-subgoals = omega (arith, entry-subgoals t s w);
+      subgoals = λ x h. entry-lasts t s w low high x;
+      more-answers = omega (arith, entry-count t s w);
+      answers = λ a h. settled-answerAt (withAnswer t s w) s a ∙ answerAt-before t s w a h;
+    }
 
 pub entering-grows : {c : Coding} {s : ℕ} {t u : Table} → AnswersEnter c s t u → Grows t u
 entering-grows {t = t} no-more = grows-refl t
-entering-grows {s = s} {t = t} {u = u} (one-more w e rest) = grows-trans t (withAnswer t s w) u (answer-grows t s w) (entering-grows rest)
+entering-grows {s = s} {t = t} {u = u} (one-more w e rest) = grows-trans t (withEntry t s w) u (answer-grows t s w (e .low) (e .high)) (entering-grows rest)
 
 pub changed-grows : (c : Coding) (t u : Table) → Changed c t u → Grows t u
 unfolding answerAt
@@ -64,7 +66,7 @@ changed-grows c t u (subgoal-enters w m e) = record {
   more-answers = omega arith;
   answers = λ a h. refl;
 }
-changed-grows c t u (answer-enters s w e) = answer-grows t s w
+changed-grows c t u (answer-enters s w o e) = answer-grows t s w (e .low) (e .high)
 changed-grows c t u (finishes s low high) = record {
   N = refl;
   F = refl;
@@ -74,7 +76,7 @@ changed-grows c t u (finishes s low high) = record {
   more-answers = omega arith;
   answers = λ a h. refl;
 }
-changed-grows c t u (answers-enter s x e) = entering-grows e
+changed-grows c t u (answers-enter s x o e) = entering-grows e
 
 pub step-grows : (c : Coding) (t : Table) (q : Request) → Grows t (step c t q .state)
 step-grows c t q = changed-grows c t (step c t q .state) (step-changed c t q)

@@ -24,14 +24,14 @@ use Rattle.plain.specs.Words.{Word}
 use Rattle.plain.specs.Coding.{Coding, Reading, refused, accepted, substituted, compactCoding}
 use Rattle.plain.specs.CodingLaws.{CodingLaws}
 use Rattle.plain.specs.Requests.{Request, call, answer, instance, Result, left}
-use Rattle.plain.specs.Table.{Table, Subgoal, Answer, fresh, subgoalAt, answerAt, subgoalOfAnswer, withSubgoal, withAnswer, called, answered, writes, step}
+use Rattle.plain.specs.Table.{Table, Subgoal, Answer, fresh, subgoalAt, answerAt, subgoalOfAnswer, withSubgoal, withAnswer, withEntry, called, answered, writes, step}
 use Rattle.plain.specs.Consequences.{Gives, reached}
 use Rattle.plain.specs.InstanceMeaning.{replaced, termCells, instantiated, Got, Instancing}
 use Rattle.plain.proofs.Instances.{spread, substituted-every}
 use Rattle.plain.proofs.CompactCoding.{called-form, answered-form, compact-laws}
 use Rattle.plain.proofs.NumberLaws.{Called, Given}
-use Rattle.plain.proofs.RecordLaws.{subgoalAt-new, subgoals-count, answerAt-new, answers-count}
-use Rattle.plain.proofs.Changes.{known-cases, appended-cases, called-cases, answered-cases, open-cases}
+use Rattle.plain.proofs.RecordLaws.{subgoalAt-new, subgoals-count, answerAt-new, settled-answerAt, entry-count, entry-subgoals, entry-lasts}
+use Rattle.plain.proofs.Changes.{known-cases, appended-cases, called-cases, answered-cases}
 use Rattle.plain.proofs.Growth.{Grows, left-grows}
 use Rattle.plain.proofs.Soundness.{Sound, sound-reached}
 
@@ -167,30 +167,31 @@ module _ (c : Coding) (cs : List ℕ) where
   abbrev AnswerGives : ℕ → Result Table → Type 0
   AnswerGives s r = (i : ℕ) → Gives i (r .reply) → Answers s (r .state) i
 
-  answered-gives : (t : Table) (s : ℕ) → s ≤ length (t .subgoals) → (r : Reading) → c .answered (subgoalAt t s .m) cs ≡ r → AnswerGives s (answered t s r)
-  answered-gives t s q (refused k) e = unfold answered in λ i h. absurd h
-  answered-gives t s q (accepted w n) e =
-      answered-cases (AnswerGives s) t s w n (λ a k i h. rw (← h) (w, n, e, k, q))
-      (λ absent. appended-cases (AnswerGives s) t (withAnswer t s w) (ltb (length (t .answers)) (t .A)) (suc (length (t .answers))) (λ full i h. absurd h) (λ room full i h. absurd h)
+  answered-gives : (t : Table) (s : ℕ) → 0 < s → s ≤ length (t .subgoals) → (r : Reading) → c .answered (subgoalAt t s .m) cs ≡ r → AnswerGives s (answered t s r)
+  answered-gives t s low q (refused k) e = unfold answered in λ i h. absurd h
+  answered-gives t s low q (accepted w n) e =
+      let at-entry : answerAt (withEntry t s w) (suc (length (t .answers))) ≡ record { subgoal = s; form = w } =
+      settled-answerAt (withAnswer t s w) s (suc (length (t .answers))) ∙ answerAt-new t s w in
+      answered-cases (AnswerGives s) t s w n (λ a k i h. rw (← h) (w, n, e, k, q)) (λ absent fin i h. absurd h)
+      (λ absent is-open. appended-cases (AnswerGives s) t (withEntry t s w) (ltb (length (t .answers)) (t .A)) (suc (length (t .answers))) (λ full i h. absurd h) (λ room full i h. absurd h)
       (λ room free i h. rw (← h) (
         w,
         n,
-        unfold subgoalAt in e,
+        ap (λ (m : ℕ). c .answered m cs) (entry-lasts t s w low q s .m) ∙ e,
         record {
           low = omega arith;
-          high = omega (arith, answers-count t s w);
-          subgoal = ap (λ (a : Answer). a .subgoal) (answerAt-new t s w);
-          form = ap (λ (a : Answer). a .form) (answerAt-new t s w);
+          high = omega (arith, entry-count t s w);
+          subgoal = ap (λ (a : Answer). a .subgoal) at-entry;
+          form = ap (λ (a : Answer). a .form) at-entry;
         },
-        q,
+        omega (arith, entry-subgoals t s w, q),
       )))
 
   answer-gives : (t : Table) (s : ℕ) → AnswerGives s (step c t (answer s cs))
   unfolding step
   answer-gives t s =
       known-cases (AnswerGives s) t [] (length (t .subgoals)) s _ (λ i h. absurd h)
-      (λ low high. open-cases (AnswerGives s) t (subgoalAt t s .state) _ (λ e i h. absurd h)
-      (λ is-open. answered-gives t s high (c .answered (subgoalAt t s .m) cs) refl))
+      (λ low high. answered-gives t s low high (c .answered (subgoalAt t s .m) cs) refl)
 
   answers-grow : (t u : Table) (s i : ℕ) → Grows t u → Answers s t i → Answers s u i
   answers-grow t u s i g k =

@@ -16,7 +16,7 @@ use Rattle.forms.specs.Converting.{reading}
 use Rattle.plain.specs.Words.{has, add, union, inits, allInits, prefixes, distinct}
 use Rattle.plain.specs.Coding.{judged, handedOn, predicate, compacted, codingOf}
 use Rattle.plain.specs.Requests.{Request, call, answer, Counts, Reply, at, noneYet, noMore, lacksNext, State, Open, Finished, Result, Seen, trace, left}
-use Rattle.plain.specs.Table.{Table, fresh, noSubgoal, noAnswer, subgoalAt, answerAt, answersTo, answerNodes}
+use Rattle.plain.specs.Table.{settled, Table, fresh, noSubgoal, noAnswer, subgoalAt, answerAt, answersTo, answerNodes}
 use Rattle.plain.specs.Table.{nodes, counted, number, subgoalOf, answerOf, after, following, starting, onward}
 use Rattle.plain.specs.Table.{writes, fits, appended, called, answered, step}
 use Rattle.plain.specs.Order.{Exchanged, exchange, behind, loadsOf, HandsOut, SameAnswers, ArrivalOrder}
@@ -48,7 +48,7 @@ firstCell (x ∷ xs) = getD (x .out) 0 0
 
 loads-differ : (x : State) (ns ms : List ℕ) → HandsOut numberStored one 1 x 0 ns → HandsOut numberStored two 1 x 0 ms
     → trace numberStored counted one (loadsOf ns (0 ∷ [])) ≡ trace numberStored counted two (loadsOf ms (0 ∷ [])) → ⊥
-unfolding left trace step counted called answered fits appended starting onward writes nodes answerNodes answersTo
+unfolding left trace step counted settled called answered fits appended starting onward writes nodes answerNodes answersTo
     number subgoalOf answerOf after following subgoalAt answerAt noSubgoal noAnswer distinct prefixes union add has
     allInits inits judged handedOn reading callable predicate compacted compactForm areTerms pairForm formTerms front
     symbolic tokenOf items entered filled lastOf tailOf into inside collected whole reads begun applied paired shapeOf
@@ -68,7 +68,7 @@ loads-differ x (n ∷ ns) (m ∷ ms) a b e =
     omega (arith, k)
 
 exchanged : Exchanged numberStored (fresh 9 2 2) (bothWith toFirst toSecond) (bothWith toSecond toFirst)
-unfolding left trace step counted called answered fits appended nodes answerNodes answersTo number subgoalOf answerOf
+unfolding left trace step counted settled called answered fits appended nodes answerNodes answersTo number subgoalOf answerOf
     subgoalAt answerAt noSubgoal noAnswer distinct prefixes union add has allInits inits judged handedOn reading
     callable predicate compacted compactForm areTerms pairForm formTerms front symbolic tokenOf items entered filled
     lastOf tailOf into inside collected whole reads begun applied paired shapeOf arityOf every compact elements pairs
@@ -80,7 +80,7 @@ exchanged = behind _ _ _ _ (behind _ _ _ _ (exchange _ _ _ _ _ _ (record {
 })))
 
 number-stored : ArrivalOrder numberStored counted (fresh 9 2 2) → ⊥
-unfolding left step counted called answered fits appended nodes answerNodes answersTo number subgoalOf answerOf
+unfolding left step counted settled called answered fits appended nodes answerNodes answersTo number subgoalOf answerOf
     subgoalAt answerAt noSubgoal noAnswer distinct prefixes union add has allInits inits judged handedOn reading
     callable predicate compacted compactForm areTerms pairForm formTerms front symbolic tokenOf items entered filled
     lastOf tailOf into inside collected whole reads begun applied paired shapeOf arityOf every compact elements pairs
@@ -93,7 +93,7 @@ number-stored h =
 -- ---- a count by the last answer
 
 exchanged-own : Exchanged (step (codingOf 1)) (fresh 9 2 2) (bothWith toFirst toSecond) (bothWith toSecond toFirst)
-unfolding left trace step counted called answered fits appended nodes answerNodes answersTo number subgoalOf answerOf
+unfolding left trace step counted settled called answered fits appended nodes answerNodes answersTo number subgoalOf answerOf
     subgoalAt answerAt noSubgoal noAnswer distinct prefixes union add has allInits inits judged handedOn reading
     callable predicate compacted compactForm areTerms pairForm formTerms front symbolic tokenOf items entered filled
     lastOf tailOf into inside collected whole reads begun applied paired shapeOf arityOf every compact elements pairs
@@ -105,7 +105,7 @@ exchanged-own = behind _ _ _ _ (behind _ _ _ _ (exchange _ _ _ _ _ _ (record {
 })))
 
 last-counted : ArrivalOrder (step (codingOf 1)) lastCounted (fresh 9 2 2) → ⊥
-unfolding left step called answered fits appended nodes answerNodes answersTo number subgoalOf answerOf subgoalAt
+unfolding left step settled called answered fits appended nodes answerNodes answersTo number subgoalOf answerOf subgoalAt
     answerAt noSubgoal noAnswer distinct prefixes union add has allInits inits judged handedOn reading callable
     predicate compacted compactForm areTerms pairForm formTerms front symbolic tokenOf items entered filled lastOf
     tailOf into inside collected whole reads begun applied paired shapeOf arityOf every compact elements pairs

@@ -8,13 +8,14 @@ use native.Mathlib.Nat.{le-of-suc-le-suc}
 use lib.Dec.{eqb}
 use lib.ListN.{length, getD, length-append, length-map, length-set, List·getD-append, List·getD-map}
 use lib.Seq.{map-set-same, getD-at, getD-set-same, getD-set-other}
-use borrow.Author.Tests.{eqb-true, eqb-false, eq-eqb}
+use borrow.Author.Tests.{eqb-true, eqb-false, eq-eqb, ne-eqb}
+use Rattle.basis.specs.Choice.{pick}
 use Rattle.basis.proofs.Cases.{by-cases}
 use Rattle.forms.specs.Compact.{same}
 use Rattle.forms.proofs.RoundTrip.{same-self}
 use Rattle.plain.specs.Words.{Word, has}
 use Rattle.plain.specs.Requests.{Open, Finished}
-use Rattle.plain.specs.Table.{Table, Subgoal, Answer, noSubgoal, noAnswer, subgoalAt, answerAt, subgoalOfAnswer, calledForms, answersTo, withSubgoal, withAnswer, withFinished}
+use Rattle.plain.specs.Table.{Table, Subgoal, Answer, noSubgoal, noAnswer, subgoalAt, answerAt, subgoalOfAnswer, calledForms, answersTo, nodes, withSubgoal, withAnswer, withFinished, settled, withEntry}
 use Rattle.plain.proofs.Keys.{place-has}
 
 -- ---- a subgoal more
@@ -82,6 +83,76 @@ module _ (t : Table) where
       (λ e. let q : x ≡ s = eqb-true x s e in let r = subgoalAt-finished s h k in
       rw q (record { form = ap (λ (g : Subgoal). g .form) r; m = ap (λ (g : Subgoal). g .m) r; finished = λ z. ap (λ (g : Subgoal). g .state) r }))
       (λ e. equal-lasts (subgoalAt t x) (subgoalAt (withFinished t s) x) (subgoalAt-others s x h (eqb-false x s e)))
+
+-- ---- a ground subgoal finished, another left as it was
+
+module _ (t : Table) (s : ℕ) where
+  pub settled-cases : (P : Table → Type 0) → P (withFinished t s) → P t → P (settled t s)
+  unfolding settled
+  settled-cases P f g = by-cases (eqb (subgoalAt t s .m) 0) (λ e. rw e f) (λ e. rw e g)
+
+  pub settled-ground : subgoalAt t s .m ≡ 0 → settled t s ≡ withFinished t s
+  unfolding settled
+  settled-ground e = rw e
+
+  pub settled-other : (subgoalAt t s .m ≡ 0 → ⊥) → settled t s ≡ t
+  unfolding settled
+  settled-other h = rw (ne-eqb (subgoalAt t s .m) 0 h)
+
+  pub settled-rooms : (settled t s .N ≡ t .N) × (settled t s .F ≡ t .F) × (settled t s .A ≡ t .A)
+  settled-rooms = settled-cases (λ u. (u .N ≡ t .N) × (u .F ≡ t .F) × (u .A ≡ t .A)) (refl, refl, refl) (refl, refl, refl)
+
+  pub settled-answers : settled t s .answers ≡ t .answers
+  settled-answers = settled-cases (λ u. u .answers ≡ t .answers) refl refl
+
+  pub settled-answerAt : (a : ℕ) → answerAt (settled t s) a ≡ answerAt t a
+  settled-answerAt a = settled-cases (λ u. answerAt u a ≡ answerAt t a) (unfold answerAt in refl) refl
+
+  pub settled-count : length (settled t s .subgoals) ≡ length (t .subgoals)
+  settled-count = settled-cases (λ u. length (u .subgoals) ≡ length (t .subgoals)) (finished-count t s) refl
+
+  pub settled-nodes : 0 < s → nodes (settled t s) ≡ nodes t
+  settled-nodes low = settled-cases (λ u. nodes u ≡ nodes t) (unfold nodes in rw (finished-forms t s low, finished-count t s)) refl
+
+  pub settled-lasts : 0 < s → s ≤ length (t .subgoals) → (x : ℕ) → Lasts (subgoalAt t x) (subgoalAt (settled t s) x)
+  settled-lasts low high x = settled-cases (λ u. Lasts (subgoalAt t x) (subgoalAt u x)) (subgoalAt-lasts t s x low high) (equal-lasts _ _ refl)
+
+  pub settled-apart : 0 < s → (x : ℕ) → (x ≡ s → ⊥) → subgoalAt (settled t s) x ≡ subgoalAt t x
+  settled-apart low x ne = settled-cases (λ u. subgoalAt u x ≡ subgoalAt t x) (subgoalAt-others t s x low ne) refl
+
+-- what becomes of it
+abbrev pub closing : Subgoal → Subgoal
+closing g = pick (eqb (g .m) 0) (record { form = g .form; m = g .m; state = Finished }) g
+
+pub settled-own : (t : Table) (s : ℕ) → 0 < s → s ≤ length (t .subgoals) → subgoalAt (settled t s) s ≡ closing (subgoalAt t s)
+unfolding settled
+settled-own t s low high = by-cases (eqb (subgoalAt t s .m) 0) (λ e. rw e (subgoalAt-finished t s low high)) (λ e. rw e)
+
+-- and of a table in which an answer enters
+module _ (t : Table) (s : ℕ) (w : Word) where
+  pub entry-answers : withEntry t s w .answers ≡ withAnswer t s w .answers
+  entry-answers = settled-answers (withAnswer t s w) s
+
+  pub entry-count : length (withEntry t s w .answers) ≡ suc (length (t .answers))
+  entry-count = ap length entry-answers ∙ answers-count t s w
+
+  pub entry-subgoals : length (withEntry t s w .subgoals) ≡ length (t .subgoals)
+  entry-subgoals = settled-count (withAnswer t s w) s
+
+  pub entry-nodes : 0 < s → nodes (withEntry t s w) ≡ nodes (withAnswer t s w)
+  entry-nodes low = settled-nodes (withAnswer t s w) s low
+
+  pub entry-lasts : 0 < s → s ≤ length (t .subgoals) → (x : ℕ) → Lasts (subgoalAt t x) (subgoalAt (withEntry t s w) x)
+  unfolding subgoalAt
+  entry-lasts low high x = settled-lasts (withAnswer t s w) s low high x
+
+  pub entry-apart : 0 < s → (x : ℕ) → (x ≡ s → ⊥) → subgoalAt (withEntry t s w) x ≡ subgoalAt t x
+  unfolding subgoalAt
+  entry-apart low x ne = settled-apart (withAnswer t s w) s low x ne
+
+  pub entry-own : 0 < s → s ≤ length (t .subgoals) → subgoalAt (withEntry t s w) s ≡ closing (subgoalAt t s)
+  unfolding subgoalAt
+  entry-own low high = settled-own (withAnswer t s w) s low high
 
 -- ---- a record's form is held
 

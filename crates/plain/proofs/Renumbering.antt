@@ -15,7 +15,7 @@ use Rattle.plain.specs.Joins.{Forms, declined, formed, joinOf}
 use Rattle.plain.specs.Requests.{State, Open, Finished, Request, call, answer, finish, next, load, instance}
 use Rattle.plain.specs.Requests.{counts, join, Reply, used, joined, refused, Result}
 use Rattle.plain.specs.Table.{Table, Answer, subgoalAt, answersTo, answerNodes, nodes, calledForms, counted}
-use Rattle.plain.specs.Table.{subgoalOf, answerOf, withSubgoal, withAnswer, withFinished, stays, becomes, known}
+use Rattle.plain.specs.Table.{subgoalOf, answerOf, withSubgoal, withAnswer, withFinished, settled, withEntry, stays, becomes, known}
 use Rattle.plain.specs.Table.{fits, appended, called, answered, whileOpen, given, entered, sideOf, joining, step}
 use Rattle.plain.specs.Order.{Renumbered, unnumbered, compared}
 use Rattle.plain.proofs.NumberLaws.{answerOf-none, answerOf-some}
@@ -121,30 +121,43 @@ module _ (t : Table) (l : List Answer) (many : length (t .answers) ≡ length l)
     answers-to = λ s. answersTo-append (t .answers) k s ∙ ap (λ (r : List Word). r ++ answersTo k s) (each s) ∙ sym (answersTo-append l k s);
   }
 
-  answered-parallel : (s : ℕ) (r : Reading) → Parallel unnumbered (answered t s r) (answered other s r)
-  unfolding answered
-  answered-parallel s (refused n) = stays-parallel unnumbered [] (refused n)
-  answered-parallel s (accepted w m) = by-cases (has (answersTo (t .answers) s) w)
-      (λ e.
-      let g : has (answersTo l s) w ≡ true = rw (← (each s)) e in
-      let a = answerOf-some t s w e in
-      let b = answerOf-some other s w g in
-      rw (ne-eqb (answerOf t s w) 0 (λ z. omega (arith, a .low)), ne-eqb (answerOf other s w) 0 (λ z. omega (arith, b .low)))
-      (record { replies = unfold unnumbered in refl; states = renumbered-other }))
-      (λ e.
-      let g : has (answersTo l s) w ≡ false = rw (← (each s)) e in
-      rw (answerOf-none t s w e, answerOf-none other s w g, ← many)
-      (let more : Renumbered (withAnswer t s w) (withAnswer other s w) = more-parallel (record { subgoal = s; form = w } ∷ []) in
-      appended-parallel unnumbered (withAnswer t s w) (withAnswer other s w) (ltb (length (t .answers)) (t .A)) (suc (length (t .answers)))
-      (nodes-alike (withAnswer t s w) (withAnswer other s w) refl refl (more .answers-to)) more))
-
   finished-parallel : (s : ℕ) → Renumbered (withFinished t s) (withFinished other s)
   unfolding subgoalAt
   finished-parallel s = record { N = refl; F = refl; A = refl; subgoals = refl; answers = many; answers-to = each }
 
-  counted-alike : counted t ≡ counted other
+  settled-with : (s : ℕ) → Renumbered (settled t s) (settled other s)
+  unfolding settled subgoalAt
+  settled-with s = by-cases (eqb (subgoalAt t s .m) 0) (λ e. rw e (finished-parallel s)) (λ e. rw e renumbered-other)
+
+settled-parallel : (t u : Table) → Renumbered t u → (s : ℕ) → Renumbered (settled t s) (settled u s)
+settled-parallel t u r s = subst (λ (v : Table). Renumbered (settled t s) (settled v s)) (renumbered-with t u r) (settled-with t (u .answers) (r .answers) (r .answers-to) s)
+
+module _ (t : Table) (l : List Answer) (many : length (t .answers) ≡ length l) (each : (s : ℕ) → answersTo (t .answers) s ≡ answersTo l s) where
+  -- an answer enters on each side
+  entry-parallel : (s : ℕ) (w : Word) → Renumbered (withEntry t s w) (withEntry (withAnswers t l) s w)
+  entry-parallel s w = settled-parallel (withAnswer t s w) (withAnswer (withAnswers t l) s w) (more-parallel t l many each (record { subgoal = s; form = w } ∷ [])) s
+
+  answered-parallel : (s : ℕ) (r : Reading) → Parallel unnumbered (answered t s r) (answered (withAnswers t l) s r)
+  unfolding answered
+  answered-parallel s (refused n) = stays-parallel t l many each unnumbered [] (refused n)
+  answered-parallel s (accepted w m) = by-cases (has (answersTo (t .answers) s) w)
+      (λ e.
+      let g : has (answersTo l s) w ≡ true = rw (← (each s)) e in
+      let a = answerOf-some t s w e in
+      let b = answerOf-some (withAnswers t l) s w g in
+      rw (ne-eqb (answerOf t s w) 0 (λ z. omega (arith, a .low)), ne-eqb (answerOf (withAnswers t l) s w) 0 (λ z. omega (arith, b .low)))
+      (record { replies = unfold unnumbered in refl; states = renumbered-other t l many each }))
+      (λ e.
+      let g : has (answersTo l s) w ≡ false = rw (← (each s)) e in
+      rw (answerOf-none t s w e, answerOf-none (withAnswers t l) s w g, ← many)
+      (let more : Renumbered (withEntry t s w) (withEntry (withAnswers t l) s w) = entry-parallel s w in
+      unfold subgoalAt in open-parallel t l many each unnumbered (subgoalAt t s .state) _ _
+      (appended-parallel t l many each unnumbered (withEntry t s w) (withEntry (withAnswers t l) s w) (ltb (length (t .answers)) (t .A)) (suc (length (t .answers)))
+      (nodes-alike (withEntry t s w) (withEntry (withAnswers t l) s w) (ap calledForms (more .subgoals)) (ap length (more .subgoals)) (more .answers-to)) more)))
+
+  counted-alike : counted t ≡ counted (withAnswers t l)
   unfolding counted
-  counted-alike = rw (nodes-alike t other refl refl each, many)
+  counted-alike = rw (nodes-alike t (withAnswers t l) refl refl each, many)
 
 -- ---- a join: the forms that enter are read off the answers to its sources and to its target
 
@@ -160,7 +173,7 @@ module _ (t : Table) (l : List Answer) (many : length (t .answers) ≡ length l)
       (renumbered-other t l many each))
       (λ e.
       let g : has (answersTo l s) w ≡ false = rw (← (each s)) e in
-      rw (answerOf-none t s w e, answerOf-none (withAnswers t l) s w g) (more-parallel t l many each (record { subgoal = s; form = w } ∷ [])))
+      rw (answerOf-none t s w e, answerOf-none (withAnswers t l) s w g) (entry-parallel t l many each s w))
 
 given-parallel : (t u : Table) → Renumbered t u → (s : ℕ) (w : Word) → Renumbered (given t s w) (given u s w)
 given-parallel t u r s w = subst (λ (v : Table). Renumbered (given t s w) (given v s w)) (renumbered-with t u r) (given-with t (u .answers) (r .answers) (r .answers-to) s w)
@@ -235,7 +248,7 @@ module _ (c : Coding) (t : Table) (l : List Answer) (many : length (t .answers) 
   step-with (call cs) = called-parallel t l many each (c .called cs)
   step-with (answer s cs) =
       known-parallel t l many each unnumbered [] (length (t .subgoals)) s _ _
-      (unfold subgoalAt in open-parallel t l many each unnumbered (subgoalAt t s .state) _ _ (answered-parallel t l many each s (c .answered (subgoalAt t s .m) cs)))
+      (unfold subgoalAt in answered-parallel t l many each s (c .answered (subgoalAt t s .m) cs))
   step-with (finish s) =
       known-parallel t l many each (λ x. x) [] (length (t .subgoals)) s _ _ (record { replies = refl; states = finished-parallel t l many each s })
   step-with (next s a) =

@@ -11,9 +11,9 @@ use Rattle.basis.proofs.Cases.{by-cases}
 use Rattle.plain.specs.Words.{Word, has, union, allInits, prefixes, distinct}
 use Rattle.plain.specs.Coding.{Coding, accepted}
 use Rattle.plain.specs.Requests.{Request, left}
-use Rattle.plain.specs.Table.{Table, Subgoal, Answer, fresh, subgoalAt, answerAt, subgoalOfAnswer, calledForms, answersTo, answerNodes, nodes, withSubgoal, withAnswer, withFinished, step}
+use Rattle.plain.specs.Table.{Table, Subgoal, Answer, fresh, subgoalAt, answerAt, subgoalOfAnswer, calledForms, answersTo, answerNodes, nodes, withSubgoal, withAnswer, withFinished, withEntry, step}
 use Rattle.plain.specs.Consequences.{Kept, reached, Keeping}
-use Rattle.plain.proofs.RecordLaws.{subgoalAt-before, subgoalAt-new, subgoals-count, answerAt-before, answerAt-new, answers-count, subgoalAt-lasts, called-held, answer-held, finished-forms, finished-count}
+use Rattle.plain.proofs.RecordLaws.{subgoalAt-before, subgoalAt-new, subgoals-count, answerAt-before, answerAt-new, answers-count, subgoalAt-lasts, called-held, answer-held, finished-forms, finished-count, settled-cases}
 use Rattle.plain.proofs.Changes.{SubgoalEnters, AnswerEnters, AnswersEnter, no-more, one-more, Changed, stayed, subgoal-enters, answer-enters, finishes, answers-enter, step-changed}
 use Rattle.plain.proofs.Growth.{left-grows}
 
@@ -199,16 +199,21 @@ module _ (c : Coding) (t : Table) (sound : Sound c t) where
       answered = unfold answerAt in ended-answered;
     }
 
+pub sound-entry : (c : Coding) (t : Table) → Sound c t → (s : ℕ) (w : Word) → AnswerEnters c t s w → Sound c (withEntry t s w)
+sound-entry c t sound s w e =
+    let full : Sound c (withAnswer t s w) = sound-answer c t sound s w e in
+    settled-cases (withAnswer t s w) s (Sound c) (sound-finished c (withAnswer t s w) full s (e .low) (e .high)) full
+
 sound-entered : {c : Coding} {s : ℕ} {t u : Table} → Sound c t → AnswersEnter c s t u → Sound c u
 sound-entered sound no-more = sound
-sound-entered {c} {s} {t} sound (one-more w e rest) = sound-entered (sound-answer c t sound s w e) rest
+sound-entered {c} {s} {t} sound (one-more w e rest) = sound-entered (sound-entry c t sound s w e) rest
 
 pub sound-changed : (c : Coding) (t u : Table) → Sound c t → Changed c t u → Sound c u
 sound-changed c t u sound stayed = sound
 sound-changed c t u sound (subgoal-enters w m e) = sound-subgoal c t sound w m e
-sound-changed c t u sound (answer-enters s w e) = sound-answer c t sound s w e
+sound-changed c t u sound (answer-enters s w o e) = sound-entry c t sound s w e
 sound-changed c t u sound (finishes s low high) = sound-finished c t sound s low high
-sound-changed c t u sound (answers-enter s x e) = sound-entered sound e
+sound-changed c t u sound (answers-enter s x o e) = sound-entered sound e
 
 pub sound-step : (c : Coding) (t : Table) (q : Request) → Sound c t → Sound c (step c t q .state)
 sound-step c t q sound = sound-changed c t (step c t q .state) sound (step-changed c t q)

@@ -1,26 +1,32 @@
 -- What follows for every list of calls (specs/Consequences.antt): variants, loading, finishing, the numbering of instances; then all of it.
 use mathlib.Core.Path.{_≡_, refl, sym, ap, _∙_}
+use mathlib.Core.Bool.{true≢false}
 use mathlib.Core.List.{List, []}
+use mathlib.Core.Logic.{_⊎_, inl, inr}
 use Prim.Native.Nat.{ℕ, suc, _≤_, _<_}
 use native.Mathlib.Omega.{arith}
-use lib.Dec.{ltb}
+use lib.Dec.{eqb, leb, ltb}
 use lib.ListN.{length, take, drop}
 use lib.Seq.{take-append-seam}
-use borrow.Author.Tests.{lt-ltb, le-leb}
+use borrow.Author.Tests.{ne-eqb, lt-ltb, le-leb, leb-true, leb-false}
+use Rattle.basis.specs.Choice.{pick}
+use Rattle.basis.proofs.Cases.{by-cases}
 use Rattle.forms.specs.Numbering.{met, numbered}
-use Rattle.plain.specs.Words.{Word}
+use Rattle.plain.specs.Words.{Word, has}
 use Rattle.plain.specs.Coding.{Coding, Reading, refused, accepted, compactCoding}
 use Rattle.plain.specs.CodingLaws.{CodingLaws}
-use Rattle.plain.specs.Requests.{Finished, call, answer, finish, load, instance, done, cells, refused, Result, left}
-use Rattle.plain.specs.Table.{Table, Subgoal, Answer, subgoalAt, answerAt, subgoalOfAnswer, withSubgoal, withAnswer, called, answered, writes, step}
-use Rattle.plain.specs.Consequences.{Gives, reached, Calling, Answering, Loading, Finishing, Numbering, Consequences}
-use Rattle.plain.proofs.RecordLaws.{subgoalAt-new, subgoals-count, answerAt-new, answers-count, subgoalAt-finished, finished-count}
-use Rattle.plain.proofs.Changes.{known-cases, appended-cases, called-cases, answered-cases, open-cases, writes-cases, refusing, refusing-by}
+use Rattle.plain.specs.Requests.{Finished, call, answer, finish, load, instance, new, oldAnswer, done, cells, refused, Reply, Result, left}
+use Rattle.plain.specs.Table.{Table, Subgoal, Answer, subgoalAt, answerAt, subgoalOfAnswer, answersTo, answerOf, withSubgoal, withAnswer, withEntry, called, answered, writes, step}
+use Rattle.plain.specs.Consequences.{Gives, OldOrRefused, Kept, reached, Calling, Answering, Loading, Finishing, Repeating, FinishedBy, Numbering, Consequences}
+use Rattle.plain.proofs.NumberLaws.{Given, answerOf-none, answerOf-some}
+use Rattle.plain.proofs.EnteringLaws.{given-held}
+use Rattle.plain.proofs.RecordLaws.{subgoalAt-new, subgoals-count, answerAt-new, subgoalAt-finished, finished-count, settled-answerAt, entry-count, entry-subgoals, entry-lasts, entry-own}
+use Rattle.plain.proofs.Changes.{known-cases, appended-cases, called-cases, answered-cases, writes-cases, refusing, refusing-by}
 use Rattle.plain.proofs.CompactCoding.{compact-laws}
 use Rattle.plain.proofs.Growth.{Grows, grows-trans, step-grows, left-grows}
 use Rattle.plain.proofs.Soundness.{Sound, sound-step, sound-left, sound-reached, keeping}
 use Rattle.plain.proofs.NextLaws.{visiting}
-use Rattle.plain.proofs.Endings.{ending}
+use Rattle.plain.proofs.Endings.{Silent, left-silent, ending}
 use Rattle.plain.proofs.JoinLaws.{join-given}
 use Rattle.plain.proofs.JoinRefusals.{join-refusing}
 
@@ -78,25 +84,25 @@ module _ (c : Coding) (cs : List ℕ) where
   answered-holds t s p q (accepted w n) e =
       answered-cases (AnswerHolds s) t s w n
       (λ a g i h. rw (← h) (record { form = w; n = n; known = p; reading = e; low = g .low; high = g .high; subgoal = g .subgoal; stored = g .form; among = q }))
-      (λ absent. appended-cases (AnswerHolds s) t (withAnswer t s w) (ltb (length (t .answers)) (t .A)) (suc (length (t .answers))) (λ full i h. absurd h) (λ room full i h. absurd h)
+      (λ absent fin i h. absurd h)
+      (λ absent is-open. appended-cases (AnswerHolds s) t (withEntry t s w) (ltb (length (t .answers)) (t .A)) (suc (length (t .answers))) (λ full i h. absurd h) (λ room full i h. absurd h)
       (λ room free i h. rw (← h) (record {
         form = w;
         n = n;
         known = p;
-        reading = unfold subgoalAt in e;
+        reading = rw (entry-lasts t s w p q s .m) e;
         low = omega arith;
-        high = omega (arith, answers-count t s w);
-        subgoal = ap (λ (a : Answer). a .subgoal) (answerAt-new t s w);
-        stored = ap (λ (a : Answer). a .form) (answerAt-new t s w);
-        among = q;
+        high = omega (arith, entry-count t s w);
+        subgoal = ap (λ (a : Answer). a .subgoal) (settled-answerAt (withAnswer t s w) s _ ∙ answerAt-new t s w);
+        stored = ap (λ (a : Answer). a .form) (settled-answerAt (withAnswer t s w) s _ ∙ answerAt-new t s w);
+        among = omega (arith, entry-subgoals t s w);
       })))
 
   answer-holds : (t : Table) (s : ℕ) → AnswerHolds s (step c t (answer s cs))
   unfolding step
   answer-holds t s =
       known-cases (AnswerHolds s) t [] (length (t .subgoals)) s _ (λ i h. absurd h)
-      (λ low high. open-cases (AnswerHolds s) t (subgoalAt t s .state) _ (λ e i h. absurd h)
-      (λ is-open. answered-holds t s low high (c .answered (subgoalAt t s .m) cs) refl))
+      (λ low high. answered-holds t s low high (c .answered (subgoalAt t s .m) cs) refl)
 
 -- and this lasts
 stores-grows : (c : Coding) (cs : List ℕ) (t u : Table) (i : ℕ) → Grows t u → Stores c cs t i → Stores c cs u i
@@ -183,16 +189,95 @@ finish-holds c t s =
     (λ e. let z : _≡_ {A = ℕ} 0 1 = cc in absurd (omega arith))
     (λ low high e. (low, omega (arith, finished-count t s), ap (λ (g : Subgoal). g .state) (subgoalAt-finished t s low high)))
 
-answer-refused : (c : Coding) (u : Table) (s : ℕ) (cs : List ℕ) → 0 < s → s ≤ length (u .subgoals) → subgoalAt u s .state ≡ Finished → step c u (answer s cs) .reply ≡ refused 8
-unfolding step
-answer-refused c u s cs low high e = rw (lt-ltb 0 s low, le-leb s (length (u .subgoals)) high, e)
+-- an answer to a finished subgoal
+module _ (c : Coding) (laws : CodingLaws c) (u : Table) (s : ℕ) (fin : subgoalAt u s .state ≡ Finished) where
+  abbrev Settles : Result Table → Type 0
+  Settles r = (r .state ≡ u) × OldOrRefused (r .reply)
 
-pub finishing : (c : Coding) → Finishing c
-finishing c t s cs qs h =
-    let v : Table = step c t (finish s) .state in
-    let k = finish-holds c t s h in
-    let g : Grows v (left (step c) v qs) = left-grows c v qs in
-    answer-refused c (left (step c) v qs) s cs (k .0) (omega (arith, k .1, g .more-subgoals)) (g .subgoals s (k .1) .finished (k .2))
+  answered-settles : (ks : List ℕ) (x : Reading) → c .answered (subgoalAt u s .m) ks ≡ x → Settles (answered u s x)
+  answered-settles ks (refused r) e = unfold answered in (refl, inr (r, refl, inl (laws .answered-refused (subgoalAt u s .m) ks r e)))
+  answered-settles ks (accepted w n) e = answered-cases Settles u s w n
+      (λ a g. (refl, inl (a, refl)))
+      (λ absent f. (refl, inr (8, refl, inr refl)))
+      (λ absent o. let z : _≡_ {A = ℕ} 0 1 = cc in absurd (omega arith))
+
+  answer-settles : (ks : List ℕ) → 0 < s → s ≤ length (u .subgoals) → Settles (step c u (answer s ks))
+  unfolding step
+  answer-settles ks low high = rw (lt-ltb 0 s low, le-leb s (length (u .subgoals)) high) (answered-settles ks (c .answered (subgoalAt u s .m) ks) refl)
+
+pub finishing : (c : Coding) → CodingLaws c → Finishing c
+finishing c laws t s cs qs low high fin =
+    let u : Table = left (step c) t qs in
+    let g : Grows t u = left-grows c t qs in
+    let f : subgoalAt u s .state ≡ Finished = g .subgoals s high .finished fin in
+    let k = answer-settles c laws u s f cs low (omega (arith, high, g .more-subgoals)) in
+    (f, k .0, k .1)
+
+-- the same answers are held, so the same is said
+module _ (t u : Table) (s : ℕ) (low : 0 < s) (high : s ≤ length (t .subgoals)) (g : Grows t u) (quiet : Silent s t u) (fin : subgoalAt t s .state ≡ Finished) (kept : Kept u) where
+  fin-later : subgoalAt u s .state ≡ Finished
+  fin-later = g .subgoals s high .finished fin
+
+  -- an answer that is held later was held before
+  held-before : (w : Word) (a : ℕ) → Given u s w a → Given t s w a
+  held-before w a k = by-cases (leb a (length (t .answers)))
+      (λ q. let h : a ≤ length (t .answers) = leb-true _ _ q in
+      let e = g .answers a h in
+      record { low = k .low; high = h; subgoal = ap (λ (y : Answer). y .subgoal) (sym e) ∙ k .subgoal; form = ap (λ (y : Answer). y .form) (sym e) ∙ k .form })
+      (λ q. absurd (quiet a (leb-false _ _ q) (k .high) (k .subgoal)))
+
+  answered-again : (x : Reading) → answered u s x .reply ≡ answered t s x .reply
+  unfolding answered
+  answered-again (refused r) = refl
+  answered-again (accepted w n) = by-cases (has (answersTo (t .answers) s) w)
+      (λ h.
+      let a = answerOf-some t s w h in
+      let i : ℕ = answerOf t s w in
+      let e = g .answers i (a .high) in
+      let later : Given u s w i = record { low = a .low; high = omega (arith, a .high, g .more-answers); subgoal = ap (λ (y : Answer). y .subgoal) e ∙ a .subgoal; form = ap (λ (y : Answer). y .form) e ∙ a .form } in
+      let b = answerOf-some u s w (given-held u s w i later) in
+      let j : ℕ = answerOf u s w in
+      let same : j ≡ i = kept .answers-differ j i (b .low) (b .high) (later .low) (later .high) (b .subgoal ∙ sym (later .subgoal)) (b .form ∙ sym (later .form)) in
+      rw (same, ne-eqb i 0 (λ z. omega (arith, a .low))))
+      (λ h. by-cases (has (answersTo (u .answers) s) w)
+      (λ k. absurd (true≢false (sym (given-held t s w (answerOf u s w) (held-before w (answerOf u s w) (answerOf-some u s w k))) ∙ h)))
+      (λ k. rw (answerOf-none t s w h, answerOf-none u s w k, fin, fin-later)))
+
+  answer-again : (c : Coding) (ks : List ℕ) → step c u (answer s ks) .reply ≡ step c t (answer s ks) .reply
+  unfolding step
+  answer-again c ks =
+      rw (lt-ltb 0 s low, le-leb s (length (t .subgoals)) high, le-leb s (length (u .subgoals)) (omega (arith, g .more-subgoals)), g .subgoals s high .m) (answered-again (c .answered (subgoalAt t s .m) ks))
+
+pub repeating : (c : Coding) → Repeating c
+repeating c n f a pos before between s cs low high fin =
+    let t : Table = reached c n f a before in
+    let u : Table = left (step c) t between in
+    answer-again t u s low high (left-grows c t between) (left-silent c s t between high fin) fin (sound-left c t (sound-reached c n f a pos before) between .kept) c cs
+
+-- what finishes
+
+module _ (c : Coding) (t : Table) (s : ℕ) (low : 0 < s) (high : s ≤ length (t .subgoals)) (ground : subgoalAt t s .m ≡ 0) where
+  abbrev Finishes : Result Table → Type 0
+  Finishes r = (i : ℕ) → r .reply ≡ new i → subgoalAt (r .state) s .state ≡ Finished
+
+  answered-finishes : (x : Reading) → Finishes (answered t s x)
+  answered-finishes (refused r) = unfold answered in λ i e. let z : _≡_ {A = ℕ} 0 1 = cc in absurd (omega arith)
+  answered-finishes (accepted w n) = answered-cases Finishes t s w n
+      (λ a g i e. let z : _≡_ {A = ℕ} 0 1 = cc in absurd (omega arith))
+      (λ absent f i e. let z : _≡_ {A = ℕ} 0 1 = cc in absurd (omega arith))
+      (λ absent o. appended-cases Finishes t (withEntry t s w) (ltb (length (t .answers)) (t .A)) (suc (length (t .answers)))
+      (λ full i e. let z : _≡_ {A = ℕ} 0 1 = cc in absurd (omega arith))
+      (λ room full i e. let z : _≡_ {A = ℕ} 0 1 = cc in absurd (omega arith))
+      (λ room free i e. ap (λ (y : Subgoal). y .state) (entry-own t s w low high) ∙ rw ground))
+
+answer-finishes : (c : Coding) (t : Table) (s : ℕ) (cs : List ℕ) (i : ℕ) → subgoalAt t s .m ≡ 0 → step c t (answer s cs) .reply ≡ new i → subgoalAt (step c t (answer s cs) .state) s .state ≡ Finished
+unfolding step
+answer-finishes c t s cs i ground = known-cases (λ r. r .reply ≡ new i → subgoalAt (r .state) s .state ≡ Finished) t [] (length (t .subgoals)) s _
+    (λ e. let z : _≡_ {A = ℕ} 0 1 = cc in absurd (omega arith))
+    (λ low high. answered-finishes c t s low high ground (c .answered (subgoalAt t s .m) cs) i)
+
+pub finished-by : (c : Coding) → FinishedBy c
+finished-by c t s = ((λ e. finish-holds c t s e .2), (λ cs i ground e. answer-finishes c t s cs i ground e))
 
 -- ---- instances
 
@@ -237,8 +322,10 @@ consequences c laws = record {
   calling = calling c laws;
   answering = answering c laws;
   loading = loading c laws;
-  finishing = finishing c;
-  joining = join-given c;
+  finishing = finishing c laws;
+  repeating = repeating c;
+  finished-by = finished-by c;
+  joining = join-given c laws;
   join-refusing = join-refusing c laws;
   keeping = keeping c;
   numbering = numbering c laws;

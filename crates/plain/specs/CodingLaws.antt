@@ -46,6 +46,8 @@ pub record CodingLaws (c : Coding) : Type 0 where
   pub legal-free : (m : ℕ) (w rest : Word) → c .legal m w ≡ true → c .legal m (w ++ rest) ≡ true → rest ≡ []
   pub legal-short : (m : ℕ) (w : Word) → c .legal m w ≡ true → length w ≤ 383
   pub legal-some : (m : ℕ) (w : Word) → c .legal (suc m) w ≡ true → 0 < length w
+  -- and no terms have none
+  pub legal-empty : (w : Word) → c .legal 0 w ≡ true → w ≡ []
   -- ground terms of stored forms that are put together are refused by 4 alone
   pub ground-refused : (m : ℕ) (ks : List ℕ) (r : ℕ) → GroundTerms c m ks → c .answered m ks ≡ refused r → r ≡ 4
   -- the variables of an instance are numbered by first meeting

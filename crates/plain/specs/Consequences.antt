@@ -60,6 +60,10 @@ RefusedBy r (joined n) = ⊥
 RefusedBy r (refused n) = n ≡ r
 RefusedBy r (short n) = 12 ≡ r
 
+-- old, or refused by 3, 4, 5 or 8
+abbrev pub OldOrRefused : Reply → Type 0
+OldOrRefused r = ((i : ℕ) × (r ≡ oldAnswer i)) ⊎ ((k : ℕ) × (r ≡ refused k) × (((3 ≤ k) × (k ≤ 5)) ⊎ (k ≡ 8)))
+
 -- the numbers of the refusals that the plain table knows
 abbrev pub Known : ℕ → Type 0
 Known r = ((3 ≤ r) × (r ≤ 8)) ⊎ (((10 ≤ r) × (r ≤ 12)) ⊎ ((14 ≤ r) × (r ≤ 16)))
@@ -144,11 +148,28 @@ module _ (c : Coding) where
       → (let u = left (step c) (step c t (answer s cs) .state) between in
       Gives i (step c t (answer s cs) .reply) → step c u (load i out) ≡ writes u (numbered cs) out)
 
-  -- a finished subgoal takes no more answers
+  -- a finished subgoal stays finished; an answer to it is old, or is refused by 3, 4, 5 or 8, and changes nothing
   abbrev pub Finishing : Type 0
-  Finishing = (t : Table) (s : ℕ) (cs : List ℕ) (qs : List Request)
-      → step c t (finish s) .reply ≡ done
-      → step c (left (step c) (step c t (finish s) .state) qs) (answer s cs) .reply ≡ refused 8
+  Finishing = (t : Table) (s : ℕ) (cs : List ℕ) (qs : List Request) → 0 < s → s ≤ length (t .subgoals)
+      → subgoalAt t s .state ≡ Finished
+      → (let u = left (step c) t qs in
+      (subgoalAt u s .state ≡ Finished) × (step c u (answer s cs) .state ≡ u)
+      × OldOrRefused (step c u (answer s cs) .reply))
+
+  -- and the answer says what it said before: old with the number that it had, or the same refusal
+  abbrev pub Repeating : Type 0
+  Repeating = (n f a : ℕ) → 0 < n → (before between : List Request) (s : ℕ) (cs : List ℕ)
+      → (let t = reached n f a before in
+      let u = left (step c) t between in
+      0 < s → s ≤ length (t .subgoals) → subgoalAt t s .state ≡ Finished
+      → step c u (answer s cs) .reply ≡ step c t (answer s cs) .reply)
+
+  -- what finishes a subgoal: finish, and a new answer to one without variables
+  abbrev pub FinishedBy : Type 0
+  FinishedBy = (t : Table) (s : ℕ)
+      → (step c t (finish s) .reply ≡ done → subgoalAt (step c t (finish s) .state) s .state ≡ Finished)
+      × ((cs : List ℕ) (i : ℕ) → subgoalAt t s .m ≡ 0 → step c t (answer s cs) .reply ≡ new i
+      → subgoalAt (step c t (answer s cs) .state) s .state ≡ Finished)
 
   -- the cells of the answers that a join gives its target, in order of the first, then of the second
   abbrev pub joinCells : Table → ℕ → ℕ → List ℕ → List ℕ → List (List ℕ)
@@ -189,6 +210,8 @@ pub record Consequences (c : Coding) : Type 0 where
   pub answering : Answering c
   pub loading : Loading c
   pub finishing : Finishing c
+  pub repeating : Repeating c
+  pub finished-by : FinishedBy c
   pub joining : Joining c
   pub join-refusing : JoinRefusing c
   pub keeping : Keeping c

@@ -12,9 +12,9 @@ use Rattle.forms.specs.Converting.{reading}
 use Rattle.plain.specs.Words.{has, add, union, inits, allInits, prefixes, distinct}
 use Rattle.plain.specs.Coding.{judged, handedOn, predicate, compacted, substituted, codingOf}
 use Rattle.plain.specs.Requests.{Request, call, answer, instance, Reply, new, cells, refused, short, Seen, trace}
-use Rattle.plain.specs.Table.{fresh, noSubgoal, noAnswer, subgoalAt, answerAt, answersTo, answerNodes, nodes}
-use Rattle.plain.specs.Table.{counted, number, subgoalOf, answerOf, after, following, fits, appended, called}
-use Rattle.plain.specs.Table.{answered, starting, onward, writes, step, tableTrace}
+use Rattle.plain.specs.Table.{settled, fresh, noSubgoal, noAnswer, subgoalAt, answerAt, answersTo, answerNodes}
+use Rattle.plain.specs.Table.{nodes, counted, number, subgoalOf, answerOf, after, following, fits, appended}
+use Rattle.plain.specs.Table.{called, answered, starting, onward, writes, step, tableTrace}
 use Rattle.plain.specs.Examples.{var, atom, int, fun, count, saw}
 use Rattle.plain.specs.InstanceMeaning.{replaced, termCells, instantiated}
 
@@ -59,8 +59,8 @@ Instances =
     × (seenOf (call (int 5 ∷ []) ∷ []) ≡ saw (refused 6) (count 1 0 0) ∷ [])
 
 pub instances : Instances
-unfolding replaced termCells instantiated trace step counted called answered fits appended starting onward writes
-    nodes answerNodes answersTo number subgoalOf answerOf after following subgoalAt answerAt noSubgoal noAnswer
+unfolding replaced termCells instantiated trace step counted settled called answered fits appended starting onward
+    writes nodes answerNodes answersTo number subgoalOf answerOf after following subgoalAt answerAt noSubgoal noAnswer
     distinct prefixes union add has allInits inits judged handedOn reading callable predicate compacted substituted
     compactForm areTerms pairForm formTerms front symbolic tokenOf items entered filled lastOf tailOf into inside
     collected whole reads begun applied paired shapeOf arityOf every compact elements pairs numbered renamed met seen

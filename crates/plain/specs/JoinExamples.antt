@@ -19,7 +19,7 @@ use Rattle.plain.specs.Joins.{allRead, ground, joinOf}
 use Rattle.plain.specs.Table as table
 use Rattle.plain.specs.Table.{Table, fresh, noSubgoal, noAnswer, subgoalAt, answerAt, answersTo, answerNodes}
 use Rattle.plain.specs.Table.{nodes, counted, number, subgoalOf, answerOf, fits, appended, called, answered}
-use Rattle.plain.specs.Table.{writes, sideOf, joining, step, tableTrace}
+use Rattle.plain.specs.Table.{writes, sideOf, joining, step, tableTrace, settled}
 use Rattle.plain.specs.Examples.{var, atom, int, fun, count}
 
 abbrev replies : Table → List Request → List Reply
@@ -69,11 +69,11 @@ Joined =
     ∷ map (λ a. load a (0 ∷ 0 ∷ [])) (6 ∷ 7 ∷ 8 ∷ 9 ∷ [])))
     ≡ replicate 11 [] ++ ((atom 2 ∷ atom 2 ∷ []) ∷ (atom 2 ∷ atom 3 ∷ []) ∷ (atom 3 ∷ atom 2 ∷ [])
     ∷ (atom 3 ∷ atom 3 ∷ []) ∷ []))
-    -- a ground target: the empty answer, once
+    -- a ground target: the empty answer, once, and it is finished
     × (replies (fresh 40 4 9)
     (sources ++ ends ++ (call (fun 4 1 ∷ atom 1 ∷ []) ∷ join 1 2 (1 ∷ 0 ∷ []) 4 [] ∷ join 1 2 (0 ∷ 0 ∷ []) 4 []
     ∷ join 1 2 [] 4 [] ∷ []))
-    ≡ sourceReplies ++ (done ∷ done ∷ new 4 ∷ joined 1 ∷ joined 0 ∷ joined 0 ∷ []))
+    ≡ sourceReplies ++ (done ∷ done ∷ new 4 ∷ joined 1 ∷ refused 8 ∷ refused 8 ∷ []))
 
 -- the list of n ones: 2 n + 1 cells
 abbrev ones : ℕ → List ℕ
@@ -137,7 +137,7 @@ Long =
     ∷ refused 15 ∷ joined 0 ∷ [])
 
 pub join-examples : Joined × Refused × Long
-unfolding trace step counted called answered fits appended writes sideOf joining table.given table.entered
+unfolding settled trace step counted called answered fits appended writes sideOf joining table.given table.entered
     table.starting table.onward table.after table.following nodes answerNodes answersTo number subgoalOf answerOf
     subgoalAt answerAt noSubgoal noAnswer distinct prefixes union add has allInits inits pairsNamed copiesNamed named
     matching copied along combined before allRead ground joinOf judged handedOn reading callable predicate compacted

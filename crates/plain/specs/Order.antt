@@ -24,8 +24,8 @@ abbrev pub Accepted : Reply → Type 0
 Accepted r = (i : ℕ) × Gives i r
 
 module _ {S : Type 0} (step : S → Request → Result S) where
-  -- the answer cs to subgoal x, and straight after it the answer ds to y, another one; both are accepted, so both
-  -- subgoals are open
+  -- the answer cs to subgoal x, and straight after it the answer ds to y, another one; both are accepted: new at an
+  -- open subgoal, or old
   pub record Exchangeable (s : S) (x : ℕ) (cs : List ℕ) (y : ℕ) (ds : List ℕ) : Type 0 where
     pub apart : x ≡ y → ⊥
     pub first : Accepted (step s (answer x cs) .reply)

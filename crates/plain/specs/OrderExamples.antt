@@ -20,10 +20,9 @@ use Rattle.plain.specs.Requests.{Reply, new, oldAnswer, done, used, join
 use Rattle.plain.specs.Joins.{pairsNamed, copiesNamed, named, matching, copied, along, combined, before, allRead}
 use Rattle.plain.specs.Joins.{ground, joinOf}
 use Rattle.plain.specs.Table as table
-use Rattle.plain.specs.Table.{Table, fresh, noSubgoal, noAnswer, subgoalAt, answerAt, subgoalOfAnswer, answersTo}
-use Rattle.plain.specs.Table.{answerNodes, nodes, counted, number, subgoalOf, answerOf, withAnswer, fits}
-use Rattle.plain.specs.Table.{appended}
-use Rattle.plain.specs.Table.{called, answered, sideOf, joining, step, tableTrace}
+use Rattle.plain.specs.Table.{settled, Table, fresh, noSubgoal, noAnswer, subgoalAt, answerAt, subgoalOfAnswer}
+use Rattle.plain.specs.Table.{answersTo, answerNodes, nodes, counted, number, subgoalOf, answerOf, withAnswer}
+use Rattle.plain.specs.Table.{fits, appended, called, answered, sideOf, joining, step, tableTrace}
 use Rattle.plain.specs.Order.{Exchanged, exchange, behind, unnumbered, compared, concerns, Heard, heard}
 use Rattle.plain.specs.Order.{ArrivalOrder}
 use Rattle.plain.specs.Examples.{var, atom, fun, count}
@@ -94,7 +93,7 @@ Arrivals =
     × Exchanged (step (codingOf 1)) (fresh 15 3 5) (arrivalsWith toFirst toSecond) (arrivalsWith toSecond toFirst)
 
 pub arrivals : Arrivals
-unfolding heard concerns compared unnumbered trace step counted called answered fits appended answerAt nodes
+unfolding heard concerns compared unnumbered trace step counted settled called answered fits appended answerAt nodes
     answerNodes answersTo number subgoalOf answerOf subgoalAt noSubgoal noAnswer distinct prefixes union add has
     allInits inits judged handedOn reading callable predicate compacted compactForm areTerms pairForm formTerms front
     symbolic tokenOf items entered filled lastOf tailOf into inside collected whole reads begun applied paired shapeOf

@@ -133,6 +133,13 @@ withFinished t s = record {
   answers = t .answers;
 }
 
+-- a ground subgoal, one without variables, is finished as its one answer enters
+unfoldable pub settled : Table → ℕ → Table
+settled t s = pick (eqb (subgoalAt t s .m) 0) (withFinished t s) t
+
+abbrev pub withEntry : Table → ℕ → Word → Table
+withEntry t s w = settled (withAnswer t s w) s
+
 -- ---- answering
 
 -- the table stays, and out as lent
@@ -164,18 +171,18 @@ called t (accepted w m) =
     pick (eqb n 0) (appended t (withSubgoal t w m) (ltb count (t .F)) (suc count))
     (becomes t (oldSubgoal n (subgoalAt t n .state)))
 
--- an equal form under the subgoal is old, else it is appended
+-- 8 where the subgoal is finished
+abbrev pub whileOpen : Table → State → Result Table → Result Table
+whileOpen t Open r = r
+whileOpen t Finished r = becomes t (refused 8)
+
+-- an equal form under the subgoal is old, also where it is finished; else it is appended to an open one
 unfoldable pub answered : Table → ℕ → Reading → Result Table
 answered t s (refused r) = becomes t (refused r)
 answered t s (accepted w m) =
     let n = answerOf t s w in
     let count = length (t .answers) in
-    pick (eqb n 0) (appended t (withAnswer t s w) (ltb count (t .A)) (suc count)) (becomes t (oldAnswer n))
-
--- 8 where the subgoal is finished
-abbrev pub whileOpen : Table → State → Result Table → Result Table
-whileOpen t Open r = r
-whileOpen t Finished r = becomes t (refused 8)
+    pick (eqb n 0) (whileOpen t (subgoalAt t s .state) (appended t (withEntry t s w) (ltb count (t .A)) (suc count))) (becomes t (oldAnswer n))
 
 -- where next may start: from 0, or from an answer of the subgoal
 unfoldable pub starting : Table → ℕ → ℕ → Bool
@@ -196,7 +203,7 @@ writes t cs out =
 
 -- a form that is given to a subgoal: it is appended where the subgoal lacks it
 unfoldable pub given : Table → ℕ → Word → Table
-given t s w = pick (eqb (answerOf t s w) 0) (withAnswer t s w) t
+given t s w = pick (eqb (answerOf t s w) 0) (withEntry t s w) t
 
 -- forms given one after another
 unfoldable pub entered : Table → ℕ → List Word → Table
@@ -216,12 +223,11 @@ joining t s (formed ws) =
     (pick (leb (length (more .answers)) (t .A)) (becomes more (joined (length (more .answers) - length (t .answers)))) (becomes t (refused 11)))
     (becomes t (refused 10))
 
--- what each call leaves; 7 and 8 are checked before the cells are read
+-- what each call leaves; 7 is checked before the cells are read, a join's 8 too
 unfoldable pub step : Coding → Table → Request → Result Table
 step c t (call cs) = called t (c .called cs)
 step c t (answer s cs) =
-    known t [] (length (t .subgoals)) s
-    (whileOpen t (subgoalAt t s .state) (answered t s (c .answered (subgoalAt t s .m) cs)))
+    known t [] (length (t .subgoals)) s (answered t s (c .answered (subgoalAt t s .m) cs))
 step c t (finish s) = known t [] (length (t .subgoals)) s (becomes (withFinished t s) done)
 step c t (next s a) = known t [] (length (t .subgoals)) s (becomes t (pick (starting t s a) (onward t s a) (refused 7)))
 step c t (load a out) = known t out (length (t .answers)) a (writes t (c .expand (answerAt t a .form)) out)

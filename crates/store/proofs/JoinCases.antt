@@ -7,7 +7,7 @@ use lib.Dec.{eqb, leb, ltb}
 use lib.ListN.{length}
 use Rattle.basis.proofs.Cases.{by-cases}
 use Rattle.plain.specs.Words.{Word}
-use Rattle.plain.specs.Requests.{Reply, refused}
+use Rattle.plain.specs.Requests.{State, Open, Finished, Reply, refused}
 use Rattle.space.specs.Layout.{Sizes}
 use Rattle.space.specs.declared.Head.{Head}
 use Rattle.trie.specs.Walks.{Walk, whole, stopped, damaged}
@@ -28,12 +28,16 @@ module _ (z : Sizes) (cs : List ℕ) (h : Head) (s : ℕ) (w : Word) where
   unfolding change answerGiven
   says-written x = refl
 
+  open-written : (x : State) (d : Decision) → Written d → Written (decisions.whileOpen x d)
+  open-written Open d e = e
+  open-written Finished d e = says-written (refused 8)
+
   new-written : (more : ℕ) (d : Decision) → Written d → Written (answeredNew v s more d)
   unfolding answeredNew
   new-written more d e = by-cases (soundLast v s)
-      (λ p. by-cases (leb (v .nodes + more) (v .N))
-      (λ q. by-cases (ltb (v .answers) (v .A)) (λ r. rw (p, q, r) e) (λ r. rw (p, q, r) (says-written (refused 11))))
-      (λ q. rw (p, q) (says-written (refused 10))))
+      (λ p. rw p (open-written (decisions.stateOf (v .subgoal s .state)) _ (by-cases (leb (v .nodes + more) (v .N))
+      (λ q. by-cases (ltb (v .answers) (v .A)) (λ r. rw (q, r) e) (λ r. rw (q, r) (says-written (refused 11))))
+      (λ q. rw q (says-written (refused 10))))))
       (λ p. rw p (says-written (refused 9)))
 
   pub given-written : (x : Walk) → Written (answeredAt (viewOf z cs h) s w x)

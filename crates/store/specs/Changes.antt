@@ -51,7 +51,7 @@ answerEntered z cs h s g leaf nodes =
     ++ (put (lastCell z (h .«subgoal_offset») s) a ∷ put nodesCell nodes ∷ put answersCell a ∷ []))))
     cs
 
--- an answer with a path of its own, and one whose leaf is the answer root
+-- an answer with a path of its own; and one whose leaf is the answer root, which finishes its subgoal
 abbrev pub pathEntered : Sizes → List ℕ → Head → ℕ → ℕ → ℕ → Word → List ℕ
 pathEntered z cs h s parent last left =
     answerEntered z (appendPath z cs (h .nodes) parent last left) h s (subgoalIn z cs (h .«subgoal_offset») s)
@@ -60,7 +60,7 @@ pathEntered z cs h s parent last left =
 abbrev pub emptyEntered : Sizes → List ℕ → Head → ℕ → List ℕ
 emptyEntered z cs h s =
     let g = subgoalIn z cs (h .«subgoal_offset») s in
-    answerEntered z cs h s g (g .root) (h .nodes)
+    writes (put (stateCell z (h .«subgoal_offset») s) 1 ∷ []) (answerEntered z cs h s g (g .root) (h .nodes))
 
 -- what the decision on an answer writes; no answer comes to another decision
 unfoldable pub answerGiven : Sizes → List ℕ → Head → Decision → List ℕ

@@ -30,7 +30,7 @@ pub data Decision : Type 0 where
   entersSubgoal : ℕ → ℕ → Word → ℕ → Decision
   -- subgoal, parent, last child, tokens left
   entersAnswer : ℕ → ℕ → ℕ → Word → Decision
-  -- subgoal: the empty answer, whose leaf is the answer root
+  -- subgoal: the empty answer, whose leaf is the answer root; it finishes the subgoal, which has no variables
   entersEmpty : ℕ → Decision
   finishes : ℕ → Decision
   -- subgoal, forms that are given to it one after another
@@ -88,14 +88,21 @@ called v (accepted w m) = calledAt v (walk (subgoalTrie v) 0 w) m
 
 -- ---- answer
 
+-- 8 where the subgoal is finished
+abbrev pub whileOpen : State → Decision → Decision
+whileOpen Open d = d
+whileOpen Finished d = refuses 8
+
 -- the last answer of the subgoal, if there is one, is read before a new one is entered
 abbrev pub soundLast : View → ℕ → Bool
 soundLast v s = let a = v .subgoal s .last in pick (eqb a 0) true (soundAnswerOf v s a && eqb (v .answer a .next) 0)
 
+-- a form that the subgoal lacks: 9 by the last answer, then 8, 10 and 11
 unfoldable pub answeredNew : View → ℕ → ℕ → Decision → Decision
 answeredNew v s more d =
     sound (soundLast v s)
-    (pick (leb (v .nodes + more) (v .N)) (pick (ltb (v .answers) (v .A)) d (refuses 11)) (refuses 10))
+    (whileOpen (stateOf (v .subgoal s .state))
+    (pick (leb (v .nodes + more) (v .N)) (pick (ltb (v .answers) (v .A)) d (refuses 11)) (refuses 10)))
 
 -- the terms' path was found whole at a node with this link; with no terms that is the answer root
 unfoldable pub answeredOld : View → ℕ → Word → ℕ → ℕ → Decision
@@ -112,11 +119,6 @@ answeredAt v s w damaged = refuses 9
 unfoldable pub answered : View → ℕ → Reading → Decision
 answered v s (refused r) = refuses r
 answered v s (accepted w m) = answeredAt v s w (walk (answerTrie v) (v .subgoal s .root) w)
-
--- 8 where the subgoal is finished
-abbrev pub whileOpen : State → Decision → Decision
-whileOpen Open d = d
-whileOpen Finished d = refuses 8
 
 -- ---- next
 
@@ -256,7 +258,7 @@ decide c v (call cs) = called v (c .called cs)
 decide c v (answer s cs) =
     known (v .subgoals) s
     (sound (soundSubgoal v s && rootSound (answerTrie v) (v .subgoal s .root))
-    (whileOpen (stateOf (v .subgoal s .state)) (answered v s (c .answered (v .subgoal s .variables) cs))))
+    (answered v s (c .answered (v .subgoal s .variables) cs)))
 decide c v (finish s) = known (v .subgoals) s (sound (soundSubgoal v s) (finishes s))
 decide c v (next s a) = known (v .subgoals) s (pick (starting v s a) (onward v s a) (refuses 7))
 decide c v (load a out) = known (v .answers) a (sound (soundPair v a) (loaded c v a (λ w. gives (c .expand w))))

@@ -54,7 +54,7 @@ Joined =
     × (replies (filledCells 24 4 6)
     (call (fun 4 1 ∷ atom 1 ∷ []) ∷ join 1 2 (1 ∷ 0 ∷ []) 4 [] ∷ join 1 2 (0 ∷ 0 ∷ []) 4 [] ∷ join 1 2 [] 4 []
     ∷ counts ∷ [])
-    ≡ new 4 ∷ joined 1 ∷ joined 0 ∷ joined 0 ∷ used (count 24 4 6) ∷ [])
+    ≡ new 4 ∷ joined 1 ∷ refused 8 ∷ refused 8 ∷ used (count 24 4 6) ∷ [])
 
 -- cell k of answer a in a space of 24 nodes and 3 subgoals
 abbrev answerCell : ℕ → ℕ → ℕ

@@ -286,12 +286,15 @@ pub fn last_sound(space: &[u32], h: Head, s: usize, last: usize) -> bool
     false
 }
 
-// The refusal of a new answer that takes so many nodes more; 0 for none.
+// The refusal of a new answer that takes so many nodes more; 0 for none. A finished subgoal takes none.
 fn refusal(space: &[u32], h: Head, s: usize, g: Subgoal, more: usize) -> u32
     requires { ⌜ Held (now space) h s g ⌝ }
     ensures { λ r. ⌜ RefusedBy (now (space .entry)) h s more r ⌝ }
 {
     if last_sound(space, h, s, g.last) {
+        if g.state != 0 {
+            return STATE;
+        }
         let free = h.node_capacity - h.nodes;
         if free < more {
             return NODES;
@@ -359,7 +362,7 @@ fn enter_answer(space: &mut [u32], h: Head, s: usize, g: Subgoal, leaf: usize, n
     write_answer_counts(space, nodes as u32, a as u32);
 }
 
-// A new answer whose leaf is the answer root: that of no terms.
+// A new answer whose leaf is the answer root: that of no terms. Its subgoal has no variables, and so no other answer.
 fn answer_empty(space: &mut [u32], h: Head, s: usize, g: Subgoal) -> AnswerAnswer
     requires { ⌜ Held (now space) h s g ⌝ }
     ensures { λ r. ⌜
@@ -369,6 +372,7 @@ fn answer_empty(space: &mut [u32], h: Head, s: usize, g: Subgoal) -> AnswerAnswe
     let k = refusal(space, h, s, g, 0);
     if k == 0 {
         enter_answer(space, h, s, g, g.root, h.nodes);
+        write_state(space, h.subgoal_offset, s, 1, h.edition);
         let a = h.answers + 1;
         return AnswerAnswer::New(a as u32);
     }
@@ -481,8 +485,8 @@ fn answer_with(
     answer_at(space, h, s, g, &form[..n])
 }
 
-// An open subgoal is answered.
-fn answer_open(space: &mut [u32], h: Head, s: usize, g: Subgoal, terms: &[u32]) -> AnswerAnswer
+// A subgoal is answered. Short terms get short buffers.
+fn answer_terms(space: &mut [u32], h: Head, s: usize, g: Subgoal, terms: &[u32]) -> AnswerAnswer
     requires { ⌜ Held (now space) h s g ⌝ }
     ensures { λ r. ⌜
         Does (now (space .entry)) h (answeredBy h s (g .variables) (now (terms .entry)))
@@ -499,7 +503,7 @@ fn answer_open(space: &mut [u32], h: Head, s: usize, g: Subgoal, terms: &[u32]) 
     answer_with(space, h, s, g, terms, &mut vars, &mut form)
 }
 
-// In a space whose header is sound: the number, the subgoal and its answer root, the state.
+// In a space whose header is sound: the number, the subgoal and its answer root.
 fn answer_in(space: &mut [u32], h: Head, s: usize, terms: &[u32]) -> AnswerAnswer
     requires { ⌜ Bounds (now space) h ⌝ }
     ensures { λ r. ⌜
@@ -521,13 +525,10 @@ fn answer_in(space: &mut [u32], h: Head, s: usize, terms: &[u32]) -> AnswerAnswe
     if y.parent != g.root {
         return AnswerAnswer::Refused(RECORDS);
     }
-    if g.state == 0 {
-        return answer_open(space, h, s, g, terms);
-    }
-    AnswerAnswer::Refused(STATE)
+    answer_terms(space, h, s, g, terms)
 }
 
-// Enters the answer terms of an open subgoal, or finds them: one term for each of its variables.
+// Enters the answer terms of an open subgoal, or finds them, in a finished one too: one term for each of its variables.
 pub fn answer(space: &mut [u32], subgoal: u32, terms: &[u32]) -> AnswerAnswer
     ensures { λ r. ⌜
         Answers (now (space .entry)) (request.answer subgoal (now (terms .entry))) (saidAnswer r) [] (now (space .exit))

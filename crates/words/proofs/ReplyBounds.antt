@@ -131,8 +131,10 @@ module _ (v : View) where
   small-answered-new : (s more : ℕ) (d : Decision) → Small d → Small (answeredNew v s more d)
   unfolding answeredNew
   small-answered-new s more d f =
-      small-sound (pick (leb (v .nodes + more) (v .N)) (pick (ltb (v .answers) (v .A)) d (refuses 11)) (refuses 10)) (soundLast v s)
-      (λ q. small-tests (leb (v .nodes + more) (v .N)) (ltb (v .answers) (v .A)) d 11 10 (omega arith) (omega arith) f)
+      let x : State = stateOf (v .subgoal s .state) in
+      let room : Decision = pick (leb (v .nodes + more) (v .N)) (pick (ltb (v .answers) (v .A)) d (refuses 11)) (refuses 10) in
+      small-sound (whileOpen x room) (soundLast v s)
+      (λ q. small-while room x (small-tests (leb (v .nodes + more) (v .N)) (ltb (v .answers) (v .A)) d 11 10 (omega arith) (omega arith) f))
 
   small-answered-old : (s : ℕ) (w : Word) (leaf a : ℕ) → Small (answeredOld v s w leaf a)
   unfolding answeredOld
@@ -287,9 +289,9 @@ module _ (ed : ℕ) where
   decide-small v (answer s cs) =
       let g = v .subgoal s in
       let r = (codingOf ed) .answered (g .variables) cs in
-      small-known (sound (soundSubgoal v s && rootSound (answerTrie v) (g .root)) (whileOpen (stateOf (g .state)) (answered v s r))) (v .subgoals) s
-      (small-sound (whileOpen (stateOf (g .state)) (answered v s r)) (soundSubgoal v s && rootSound (answerTrie v) (g .root))
-      (λ q. small-while (answered v s r) (stateOf (g .state)) (small-answered v s r (judged-small (g .variables) cs (compacted (arityOf ed) cs) (compacted-small cs)))))
+      small-known (sound (soundSubgoal v s && rootSound (answerTrie v) (g .root)) (answered v s r)) (v .subgoals) s
+      (small-sound (answered v s r) (soundSubgoal v s && rootSound (answerTrie v) (g .root))
+      (λ q. small-answered v s r (judged-small (g .variables) cs (compacted (arityOf ed) cs) (compacted-small cs))))
   decide-small v (finish s) =
       small-known (sound (soundSubgoal v s) (finishes s)) (v .subgoals) s (small-sound (finishes s) (soundSubgoal v s) (λ q. tt))
   decide-small v (next s a) =
