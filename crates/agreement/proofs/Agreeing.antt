@@ -25,7 +25,7 @@ use Rattle.plain.proofs.StoredForms.{called-form-legal, answer-form-legal}
 use Rattle.space.specs.declared.Subgoal.{Subgoal}
 use Rattle.store.specs.Views.{View}
 use Rattle.store.specs.Decisions as decisions
-use Rattle.store.specs.Decisions.{Decision, says, gives, finishes, known, sound, onPath, loaded, instanced, handed, decide}
+use Rattle.store.specs.Decisions.{Decision, says, gives, finishes, known, sound, onPath, loaded, instanced, handed, decide, decideBy}
 use Rattle.store.specs.Calls.{reply, outAfter}
 use Rattle.agreement.specs.Records.{withState, withFinish, changedView, Fits, says-fits, gives-fits, finish-fits}
 use Rattle.agreement.proofs.SameRecords.{later, stateCell, LastSame, no-last, some-last, SubgoalSame, Same, same-counts, subgoal-judged, subgoal-state, answer-judged, answer-own-judged, variables-met, own-low, own-high, gather-subgoal, gather-answer}
@@ -200,11 +200,11 @@ module _ (c : Coding) (laws : CodingLaws c) (t : Table) (v : View) (S : Same c t
   -- ---- the calls
 
   pub counts-agrees : Agrees c v [] (step c t counts) (decide c v counts)
-  unfolding step decide
+  unfolding step decideBy
   counts-agrees = rw (same-counts c laws t v S) (agrees-says c t v S [] (used _))
 
   pub finish-agrees : (s : ℕ) → Agrees c v [] (step c t (finish s)) (decide c v (finish s))
-  unfolding step decide
+  unfolding step decideBy
   finish-agrees s = agrees-known c t v S [] (length (t .subgoals)) (v .subgoals) s _ _ (S .subgoals) (λ low high.
       rw (subgoal-judged c laws t v S s low high) (record {
         fits = finish-fits s low (omega (arith, S .subgoals));
@@ -214,19 +214,19 @@ module _ (c : Coding) (laws : CodingLaws c) (t : Table) (v : View) (S : Same c t
       }))
 
   pub next-agrees : (s a : ℕ) → Agrees c v [] (step c t (next s a)) (decide c v (next s a))
-  unfolding step decide
+  unfolding step decideBy
   next-agrees s a = agrees-known c t v S [] (length (t .subgoals)) (v .subgoals) s _ _ (S .subgoals) (λ low high.
       by-cases (table.starting t s a)
       (λ e. let f : decisions.starting v s a ≡ true = sym (starting-same s a) ∙ e in rw (e, f, onward-same s a low high e) (agrees-says c t v S [] _))
       (λ e. let f : decisions.starting v s a ≡ false = sym (starting-same s a) ∙ e in rw (e, f) (agrees-says c t v S [] (refused 7))))
 
   pub load-agrees : (a : ℕ) (out : List ℕ) → Agrees c v out (step c t (load a out)) (decide c v (load a out))
-  unfolding step decide
+  unfolding step decideBy
   load-agrees a out = agrees-known c t v S out (length (t .answers)) (v .answers) a _ _ (S .answers) (λ low high.
       rw (pair-judged a low high, loaded-form a low high (λ w. gives (c .expand w))) (agrees-gives c t v S _ out))
 
   pub instance-agrees : (a : ℕ) (out : List ℕ) → Agrees c v out (step c t (instance a out)) (decide c v (instance a out))
-  unfolding step decide
+  unfolding step decideBy
   instance-agrees a out = agrees-known c t v S out (length (t .answers)) (v .answers) a _ _ (S .answers) (λ low high.
       rw (
         pair-judged a low high,

@@ -33,7 +33,7 @@ use Rattle.trie.specs.Append.{withPath}
 use Rattle.trie.specs.Walks.{Walk, whole, stopped}
 use Rattle.store.specs.Views.{View}
 use Rattle.store.specs.Decisions as decisions
-use Rattle.store.specs.Decisions.{Decision, entersAnswer, entersEmpty, answeredNew, answeredOld, answeredAt, decide}
+use Rattle.store.specs.Decisions.{Decision, entersAnswer, entersEmpty, answeredNew, answeredOld, answeredAt, decide, decideBy}
 use Rattle.store.specs.Calls.{reply, outAfter}
 use Rattle.agreement.specs.Records.{withNext, withNewAnswer, changedView, answer-fits, empty-fits}
 use Rattle.agreement.proofs.TrieNodes.{Tries, tries-linked, Stop, stop-inside}
@@ -384,12 +384,12 @@ module _ (c : Coding) (laws : CodingLaws c) (t : Table) (v : View) (S : Same c t
       answered-new w q l a u h st (path ∙ rw (S .subgoal s low high .root-key)) rest m ks e (rw (S .subgoal s low high .root-key) at less)
 
   pub answered-read : (ks : List ℕ) (x : Reading) → c .answered (subgoalAt t s .m) ks ≡ x → Agrees c v [] (table.answered t s x) (decisions.answered v s x)
-  answered-read ks (refused r) e = unfold table.answered decisions.answered in agrees-says c t v S [] (refused r)
-  answered-read ks (accepted w m) e = unfold decisions.answered in answered-walked w m ks e (walked-answer c laws t v S s low high w)
+  answered-read ks (refused r) e = unfold table.answered decisions.answeredBy in agrees-says c t v S [] (refused r)
+  answered-read ks (accepted w m) e = unfold decisions.answeredBy in answered-walked w m ks e (walked-answer c laws t v S s low high w)
 
 module _ (c : Coding) (laws : CodingLaws c) (t : Table) (v : View) (S : Same c t v) where
   pub answer-agrees : (s : ℕ) (ks : List ℕ) → Agrees c v [] (step c t (answer s ks)) (decide c v (answer s ks))
-  unfolding step decide
+  unfolding step decideBy
   answer-agrees s ks = agrees-known c t v S [] (length (t .subgoals)) (v .subgoals) s _ _ (S .subgoals) (λ low high.
       rw (subgoal-judged c laws t v S s low high, answer-root-judged c laws t v S s low high, S .subgoal s low high .variables)
       (answered-read c laws t v S s low high ks (c .answered (subgoalAt t s .m) ks) refl))

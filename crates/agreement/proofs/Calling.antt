@@ -34,7 +34,7 @@ use Rattle.trie.specs.Walks.{Walk, whole, stopped}
 use Rattle.store.specs.Views.{View}
 use Rattle.store.specs.Changes.{newSubgoal}
 use Rattle.store.specs.Decisions as decisions
-use Rattle.store.specs.Decisions.{entersSubgoal, calledOld, calledNew, calledAt, decide}
+use Rattle.store.specs.Decisions.{entersSubgoal, calledOld, calledNew, calledAt, decide, decideBy}
 use Rattle.store.specs.Calls.{reply, outAfter}
 use Rattle.agreement.specs.Records.{updated, changedView, subgoal-fits}
 use Rattle.agreement.proofs.TrieNodes.{Tries, tries-count, tries-root, Stop, stop-inside}
@@ -259,9 +259,9 @@ module _ (c : Coding) (laws : CodingLaws c) (t : Table) (v : View) (S : Same c t
   called-walked w m ks e (stops q l a u h st path less rest) = called-new w m ks e q l a u h st (path ∙ rw (S .origin)) (rw (S .origin) at less) rest
 
   called-read : (ks : List ℕ) (x : Reading) → c .called ks ≡ x → Agrees c v [] (table.called t x) (decisions.called v x)
-  called-read ks (refused r) e = unfold table.called decisions.called in agrees-says c t v S [] (refused r)
-  called-read ks (accepted w m) e = unfold decisions.called in called-walked w m ks e (walked-call c laws t v S w)
+  called-read ks (refused r) e = unfold table.called decisions.calledBy in agrees-says c t v S [] (refused r)
+  called-read ks (accepted w m) e = unfold decisions.calledBy in called-walked w m ks e (walked-call c laws t v S w)
 
   pub call-agrees : (ks : List ℕ) → Agrees c v [] (step c t (call ks)) (decide c v (call ks))
-  unfolding step decide
+  unfolding step decideBy
   call-agrees ks = called-read ks (c .called ks) refl

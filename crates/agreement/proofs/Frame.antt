@@ -1,5 +1,6 @@
--- A form that is given to one subgoal leaves the records, the paths and the chains of all others, whatever the cells hold:
--- also where they are damaged. So a join may read its sources again while it gives forms to its target.
+-- A form that is given to one subgoal, by any way of finding a child, leaves the records, the paths and the chains of all
+-- others, whatever the cells hold: also where they are damaged. So a join may read its sources again while it gives forms to
+-- its target.
 use Prim.Native.Nat.{ℕ, _+_, _-_, _<_, _≤_}
 use mathlib.Core.Path.{_≡_, refl, sym, ap, _∙_, subst}
 use mathlib.Core.Bool.{true, _&&_}
@@ -20,14 +21,15 @@ use Rattle.space.specs.declared.Head.{Head}
 use Rattle.space.specs.declared.Header.{Header}
 use Rattle.space.specs.declared.Header.the-variants as header
 use Rattle.space.specs.declared.Subgoal.{Subgoal}
-use Rattle.trie.specs.Siblings.{Trie, searchChildren}
-use Rattle.trie.specs.Walks.{Walk, whole, stopped, damaged, onward, rootSound, walkFrom, walk}
+use Rattle.trie.specs.Siblings.{Trie}
+use Rattle.trie.specs.Walks.{Walk, whole, stopped, damaged, onward, Finding, rootSound, walkFromBy, walkBy}
 use Rattle.trie.specs.Append.{newNode, leadCell, appendNode, appendPath, withPath}
 use Rattle.trie.specs.declared.Search.{Search}
 use Rattle.trie.specs.declared.Search.the-variants.{Found, Last, Damaged}
 use Rattle.store.specs.Views.{View, viewOf, answerTrie}
-use Rattle.store.specs.Decisions.{Decision, says, gives, entersSubgoal, entersAnswer, entersEmpty, finishes, entersAnswers, soundAnswer, soundLast, answeredNew, answeredOld, answeredAt, walkTo}
-use Rattle.store.specs.Changes.{answerEntered, answerGiven, formGiven, formsGiven, change}
+use Rattle.store.specs.Decisions.{Decision, says, gives, entersSubgoal, entersAnswer, entersEmpty, finishes, entersAnswers, soundAnswer, soundLast, answeredNew, answeredOld, answeredAt, walkToBy}
+use Rattle.store.specs.Changes.{answerEntered, answerGiven, formGivenBy, formsGivenBy, change}
+use Rattle.trie.proofs.SearchLaws.{Finds}
 use Rattle.store.proofs.CallsWalks.{walk-stopped}
 use Rattle.store.proofs.JoinCases.{given-written}
 use Rattle.agreement.specs.Records.{Alike, Fits, says-fits, answer-fits, empty-fits, changedView}
@@ -38,21 +40,21 @@ use Rattle.agreement.proofs.SameBut.{SameBut, node-same, path-kept, sam
 
 -- ---- a walk that stopped has a token left
 
-step-left : (t : Trie) (n x p l : ℕ) (xs left : List ℕ) (f : Search) → onward f n (x ∷ xs) (λ child. walkFrom t child xs) ≡ stopped p l left
-    → ((c : ℕ) → walkFrom t c xs ≡ stopped p l left → 1 ≤ length left) → 1 ≤ length left
-step-left t n x p l xs left (Found c) e next = next c e
-step-left t n x p l xs left (Last k) e next = let d : _≡_ {A = List ℕ} (x ∷ xs) left = cc in rw (← d) (omega arith)
-step-left t n x p l xs left Damaged e next = let z : _≡_ {A = ℕ} 0 1 = cc in absurd (omega arith)
+step-left : (find : Finding) (t : Trie) (n x p l : ℕ) (xs left : List ℕ) (f : Search) → onward f n (x ∷ xs) (λ child. walkFromBy find t child xs) ≡ stopped p l left
+    → ((c : ℕ) → walkFromBy find t c xs ≡ stopped p l left → 1 ≤ length left) → 1 ≤ length left
+step-left find t n x p l xs left (Found c) e next = next c e
+step-left find t n x p l xs left (Last k) e next = let d : _≡_ {A = List ℕ} (x ∷ xs) left = cc in rw (← d) (omega arith)
+step-left find t n x p l xs left Damaged e next = let z : _≡_ {A = ℕ} 0 1 = cc in absurd (omega arith)
 
-from-left : (ys : List ℕ) (t : Trie) (n p l : ℕ) (left : List ℕ) → walkFrom t n ys ≡ stopped p l left → 1 ≤ length left
-unfolding walkFrom
-from-left [] t n p l left e = let z : _≡_ {A = ℕ} 0 1 = cc in absurd (omega arith)
-from-left (x ∷ xs) t n p l left e = step-left t n x p l xs left (searchChildren t n x) e (λ c f. from-left xs t c p l left f)
+from-left : (ys : List ℕ) (find : Finding) (t : Trie) (n p l : ℕ) (left : List ℕ) → walkFromBy find t n ys ≡ stopped p l left → 1 ≤ length left
+unfolding walkFromBy
+from-left [] find t n p l left e = let z : _≡_ {A = ℕ} 0 1 = cc in absurd (omega arith)
+from-left (x ∷ xs) find t n p l left e = step-left find t n x p l xs left (find t n x) e (λ c f. from-left xs find t c p l left f)
 
-walk-left : (t : Trie) (root p l : ℕ) (ys left : List ℕ) → walk t root ys ≡ stopped p l left → 1 ≤ length left
-unfolding walk
-walk-left t root p l ys left e = by-cases (rootSound t root)
-    (λ r. from-left ys t root p l left (rw r at e))
+walk-left : (find : Finding) (t : Trie) (root p l : ℕ) (ys left : List ℕ) → walkBy find t root ys ≡ stopped p l left → 1 ≤ length left
+unfolding walkBy
+walk-left find t root p l ys left e = by-cases (rootSound t root)
+    (λ r. from-left ys find t root p l left (rw r at e))
     (λ r. let f : damaged ≡ stopped p l left = rw r at e in let z : _≡_ {A = ℕ} 0 1 = cc in absurd (omega arith))
 
 -- ---- what the decision on an answer comes to
@@ -86,24 +88,24 @@ module _ (v : View) (s : ℕ) (P : Decision → Type 0) (spoken : (r : Reply) �
   answered-comes w damaged f g = spoken (refused 9)
 
 -- it fits, and leaves all but s
-module _ (v : View) (s : ℕ) (low : 1 ≤ s) (high : s ≤ v .subgoals) (root : v .subgoal s .root < v .nodes) (last : v .subgoal s .last ≤ v .answers) where
+module _ {find : Finding} (finds : Finds find) (v : View) (s : ℕ) (low : 1 ≤ s) (high : s ≤ v .subgoals) (root : v .subgoal s .root < v .nodes) (last : v .subgoal s .last ≤ v .answers) where
   abbrev Leaves : Decision → Type 0
   Leaves d = Fits v d × SameBut s v (changedView v d)
 
-  path-leaves : (w : Word) (parent child : ℕ) (left : Word) → walkTo v s w ≡ stopped parent child left → soundLast v s ≡ true → v .nodes + length left ≤ v .N → v .answers < v .A
+  path-leaves : (w : Word) (parent child : ℕ) (left : Word) → walkToBy find v s w ≡ stopped parent child left → soundLast v s ≡ true → v .nodes + length left ≤ v .N → v .answers < v .A
       → Leaves (entersAnswer s parent child left)
   unfolding changedView
   path-leaves w parent child left e judged room free =
-      let b = walk-stopped (answerTrie v) (v .subgoal s .root) parent child w left root e in (
-        answer-fits s parent child left low high last (b .parent-within) (b .last-within) (walk-left (answerTrie v) (v .subgoal s .root) parent child w left e) room free,
+      let b = walk-stopped finds (answerTrie v) (v .subgoal s .root) parent child w left root e in (
+        answer-fits s parent child left low high last (b .parent-within) (b .last-within) (walk-left find (answerTrie v) (v .subgoal s .root) parent child w left e) room free,
         new-kept v s root last judged (withPath (v .node) (v .nodes) parent child left) (v .nodes + length left) (v .nodes + length left - 1) (omega arith)
             (λ n h. path-kept left (v .node) (v .nodes) parent child (v .answers) n h),
       )
 
-  decision-leaves : (w : Word) → Fits v (answeredAt v s w (walkTo v s w)) × SameBut s v (changedView v (answeredAt v s w (walkTo v s w)))
+  decision-leaves : (w : Word) → Fits v (answeredAt v s w (walkToBy find v s w)) × SameBut s v (changedView v (answeredAt v s w (walkToBy find v s w)))
   decision-leaves w = answered-comes v s Leaves
       (λ r. (says-fits r, unfold changedView in same-but-same s v root last))
-      w (walkTo v s w)
+      w (walkToBy find v s w)
       (λ judged free. (
         empty-fits s low high last root free,
         unfold changedView in finish-kept (new-kept v s root last judged (v .node) (v .nodes) (v .subgoal s .root) (omega arith) (λ n h. node-same (v .nodes) (v .answers) n (v .node n))),
@@ -198,16 +200,16 @@ places-same z cs cs′ h h′ e e′ n f a =
 
 -- ---- the frame
 
-module _ (e s : ℕ) (known : knownEdition e ≡ true) (low : 1 ≤ s) where
+module _ {find : Finding} (finds : Finds find) (e s : ℕ) (known : knownEdition e ≡ true) (low : 1 ≤ s) where
   form-framed-of : (cs : List ℕ) (h : Head) → headerOf (sizesOf e) cs ≡ header.Sound h → s ≤ h .subgoals
       → viewOf (sizesOf e) cs h .subgoal s .root < h .nodes → viewOf (sizesOf e) cs h .subgoal s .last ≤ h .answers
-      → (w : Word) → Framed e s cs h (formGiven (sizesOf e) cs s w (header.Sound h))
-  unfolding formGiven
+      → (w : Word) → Framed e s cs h (formGivenBy find (sizesOf e) cs s w (header.Sound h))
+  unfolding formGivenBy
   form-framed-of cs h sound high root last w =
       let v : View = viewOf (sizesOf e) cs h in
-      let x : Walk = walkTo v s w in
+      let x : Walk = walkToBy find v s w in
       let d : Decision = answeredAt v s w x in
-      let l = decision-leaves v s low high root last w in
+      let l = decision-leaves finds v s low high root last w in
       let c = cells-change (sizesOf e) (sizes-wide e) cs h d sound (l .0) in
       let is : change (sizesOf e) cs h d ≡ answerGiven (sizesOf e) cs h d = given-written (sizesOf e) cs h s w x in
       let cs′ : List ℕ = answerGiven (sizesOf e) cs h d in
@@ -230,20 +232,20 @@ module _ (e s : ℕ) (known : knownEdition e ≡ true) (low : 1 ≤ s) where
 
   -- the forms behind the first, by what they leave of the cells that it leaves
   forms-step : (w : Word) (ws : List Word) (cs : List ℕ) (h : Head) → headerOf (sizesOf e) cs ≡ header.Sound h → s ≤ h .subgoals
-      → Framed e s cs h (formGiven (sizesOf e) cs s w (header.Sound h))
-      → (let ds = formGiven (sizesOf e) cs s w (header.Sound h) in
+      → Framed e s cs h (formGivenBy find (sizesOf e) cs s w (header.Sound h))
+      → (let ds = formGivenBy find (sizesOf e) cs s w (header.Sound h) in
       (h′ : Head) → headerOf (sizesOf e) ds ≡ header.Sound h′ → s ≤ h′ .subgoals
-      → viewOf (sizesOf e) ds h′ .subgoal s .root < h′ .nodes → viewOf (sizesOf e) ds h′ .subgoal s .last ≤ h′ .answers → Framed e s ds h′ (formsGiven (sizesOf e) ds s ws))
-      → Framed e s cs h (formsGiven (sizesOf e) cs s (w ∷ ws))
-  unfolding formsGiven
+      → viewOf (sizesOf e) ds h′ .subgoal s .root < h′ .nodes → viewOf (sizesOf e) ds h′ .subgoal s .last ≤ h′ .answers → Framed e s ds h′ (formsGivenBy find (sizesOf e) ds s ws))
+      → Framed e s cs h (formsGivenBy find (sizesOf e) cs s (w ∷ ws))
+  unfolding formsGivenBy
   forms-step w ws cs h sound high F later =
       let G = later (F .head) (F .sound) (omega (arith, F .view .subgoals-same)) (F .view .root-within) (F .view .last-within) in
-      subst (λ (x : Header). Framed e s cs h (formsGiven (sizesOf e) (formGiven (sizesOf e) cs s w x) s ws)) (sym sound) (framed-then F G)
+      subst (λ (x : Header). Framed e s cs h (formsGivenBy find (sizesOf e) (formGivenBy find (sizesOf e) cs s w x) s ws)) (sym sound) (framed-then F G)
 
   forms-framed-of : (ws : List Word) (cs : List ℕ) (h : Head) → headerOf (sizesOf e) cs ≡ header.Sound h → s ≤ h .subgoals
       → viewOf (sizesOf e) cs h .subgoal s .root < h .nodes → viewOf (sizesOf e) cs h .subgoal s .last ≤ h .answers
-      → Framed e s cs h (formsGiven (sizesOf e) cs s ws)
-  forms-framed-of [] cs h sound high root last = unfold formsGiven in record {
+      → Framed e s cs h (formsGivenBy find (sizesOf e) cs s ws)
+  forms-framed-of [] cs h sound high root last = unfold formsGivenBy in record {
     head = h;
     space = header-any e known cs h sound .0;
     sound = sound;
@@ -256,25 +258,25 @@ module _ (e s : ℕ) (known : knownEdition e ≡ true) (low : 1 ≤ s) where
   }
   forms-framed-of (w ∷ ws) cs h sound high root last =
       forms-step w ws cs h sound high (form-framed-of cs h sound high root last w)
-      (forms-framed-of ws (formGiven (sizesOf e) cs s w (header.Sound h)))
+      (forms-framed-of ws (formGivenBy find (sizesOf e) cs s w (header.Sound h)))
 
 -- one form, and a list of forms, given to a subgoal of a space whose header is sound
-module _ (cs : List ℕ) (h : Head) (space : spaceHeader cs ≡ header.Sound h) (s : ℕ) (low : 1 ≤ s) (high : s ≤ h .subgoals)
+module _ {find : Finding} (finds : Finds find) (cs : List ℕ) (h : Head) (space : spaceHeader cs ≡ header.Sound h) (s : ℕ) (low : 1 ≤ s) (high : s ≤ h .subgoals)
     (root : viewOf (sizesOf (h .edition)) cs h .subgoal s .root < h .nodes) (last : viewOf (sizesOf (h .edition)) cs h .subgoal s .last ≤ h .answers) where
-  pub form-framed : (w : Word) → Framed (h .edition) s cs h (formGiven (sizesOf (h .edition)) cs s w (header.Sound h))
-  form-framed w = let r = space-read cs h space in form-framed-of (h .edition) s (r .0) low cs h (r .1) high root last w
+  pub form-framed : (w : Word) → Framed (h .edition) s cs h (formGivenBy find (sizesOf (h .edition)) cs s w (header.Sound h))
+  form-framed w = let r = space-read cs h space in form-framed-of finds (h .edition) s (r .0) low cs h (r .1) high root last w
 
-  pub forms-framed : (ws : List Word) → Framed (h .edition) s cs h (formsGiven (sizesOf (h .edition)) cs s ws)
-  forms-framed ws = let r = space-read cs h space in forms-framed-of (h .edition) s (r .0) low ws cs h (r .1) high root last
+  pub forms-framed : (ws : List Word) → Framed (h .edition) s cs h (formsGivenBy find (sizesOf (h .edition)) cs s ws)
+  forms-framed ws = let r = space-read cs h space in forms-framed-of finds (h .edition) s (r .0) low ws cs h (r .1) high root last
 
   -- before any form
   pub framed-none : Framed (h .edition) s cs h cs
-  framed-none = unfold formsGiven in forms-framed []
+  framed-none = unfold formsGivenBy in forms-framed []
 
 -- and one form more
-pub framed-form : {e s : ℕ} {cs : List ℕ} {h : Head} {cs′ : List ℕ} → 1 ≤ s → s ≤ h .subgoals → (F : Framed e s cs h cs′) → (w : Word)
-    → Framed e s cs h (formGiven (sizesOf e) cs′ s w (header.Sound (F .head)))
-framed-form {e} {s} {cs} {h} {cs′} low high F w =
+pub framed-form : {find : Finding} → Finds find → {e s : ℕ} {cs : List ℕ} {h : Head} {cs′ : List ℕ} → 1 ≤ s → s ≤ h .subgoals → (F : Framed e s cs h cs′) → (w : Word)
+    → Framed e s cs h (formGivenBy find (sizesOf e) cs′ s w (header.Sound (F .head)))
+framed-form finds {e} {s} {cs} {h} {cs′} low high F w =
     let i : F .head .edition ≡ e = ap (λ (x : Head). x .edition) (header-read (sizesOf e) cs′ (F .head) (F .sound) .is) ∙ header-read (sizesOf e) cs′ (F .head) (F .sound) .headed .edition in
     let known : knownEdition e ≡ true = subst (λ (k : ℕ). knownEdition k ≡ true) i (space-read cs′ (F .head) (F .space) .0) in
-    framed-then F (form-framed-of e s known low cs′ (F .head) (F .sound) (omega (arith, F .view .subgoals-same)) (F .view .root-within) (F .view .last-within) w)
+    framed-then F (form-framed-of finds e s known low cs′ (F .head) (F .sound) (omega (arith, F .view .subgoals-same)) (F .view .root-within) (F .view .last-within) w)

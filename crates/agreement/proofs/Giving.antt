@@ -27,9 +27,9 @@ use Rattle.space.specs.declared.Head.{Head}
 use Rattle.trie.specs.Walks.{Walk, whole}
 use Rattle.store.specs.Views.{View, viewOf}
 use Rattle.store.specs.Decisions as decisions
-use Rattle.store.specs.Decisions.{Decision, answeredAt, walkTo, metSound, allSound, lacking, missing, nodesNeeded, answersNeeded}
+use Rattle.store.specs.Decisions.{Decision, answeredAt, walkTo, metSound, allSound, allSoundBy, lacking, missing, nodesNeeded, nodesNeededBy, answersNeeded, answersNeededBy}
 use Rattle.store.proofs.JoinCases.{given-written}
-use Rattle.store.specs.Changes.{answerGiven, formGiven, formsGiven}
+use Rattle.store.specs.Changes.{answerGiven, formGiven, formGivenBy, formsGiven, formsGivenBy}
 use Rattle.agreement.proofs.TrieWalks.{Walked, ends, stops}
 use Rattle.agreement.proofs.Numberings.{shared-members}
 use Rattle.agreement.proofs.SameRecords.{Same, different, link-answered, walked-answer, answer-judged, nodes-count}
@@ -95,12 +95,12 @@ module _ (c : Coding) (laws : CodingLaws c) (t : Table) (v : View) (S : Same c t
   -- ---- the counts before anything is written
 
   pub all-judged : (ws : List Word) → Readable c (subgoalAt t s .m) ws → allSound v s ws ≡ true
-  unfolding allSound
+  unfolding allSoundBy
   all-judged [] e = refl
   all-judged (w ∷ ws) e = rw (told w (e .0 .1) (e .0 .0) (e .0 .2) .judged) (all-judged ws (e .1))
 
   pub needed-nodes : (ws before : List Word) → Readable c (subgoalAt t s .m) ws → nodesNeeded v s before ws ≡ brings (answersTo (t .answers) s) before ws
-  unfolding nodesNeeded brings
+  unfolding nodesNeededBy brings
   needed-nodes [] before e = refl
   needed-nodes (w ∷ ws) before e =
       let l = told w (e .0 .1) (e .0 .0) (e .0 .2) .left in
@@ -112,7 +112,7 @@ module _ (c : Coding) (laws : CodingLaws c) (t : Table) (v : View) (S : Same c t
   one-needed b false = refl
 
   pub needed-answers : (ws before : List Word) → Readable c (subgoalAt t s .m) ws → answersNeeded v s before ws ≡ newcomers (answersTo (t .answers) s) before ws
-  unfolding answersNeeded newcomers
+  unfolding answersNeededBy newcomers
   needed-answers [] before e = refl
   needed-answers (w ∷ ws) before e =
       rw (told w (e .0 .1) (e .0 .0) (e .0 .2) .lacks, one-needed (has before w) (has held w), needed-answers ws (w ∷ before) (e .1))
@@ -122,12 +122,12 @@ module _ (c : Coding) (laws : CodingLaws c) (t : Table) (v : View) (S : Same c t
 module _ (z : Sizes) (c : Coding) (cells : Cells z) (laws : CodingLaws c) (s : ℕ) (low : 0 < s) where
   form-holds : (t : Table) (cs : List ℕ) → Holds z c t cs → s ≤ length (t .subgoals) → Taking t s → (w : Word) (n : ℕ) (ks : List ℕ) → c .answered (subgoalAt t s .m) ks ≡ accepted w n
       → nodes (given t s w) ≤ t .N → length (given t s w .answers) ≤ t .A → Holds z c (given t s w) (formGiven z cs s w (headerOf z cs))
-  unfolding formGiven
+  unfolding formGivenBy
   form-holds t cs k high ready w n ks e room free =
       let h : Head = k .head in
       let x : Walk = walkTo (viewOf z cs h) s w in
       let d : Decision = answeredAt (viewOf z cs h) s w x in
-      let a : Agrees c (viewOf z cs h) [] (table.answered t s (accepted w n)) d = unfold decisions.answered in answered-read c laws t (viewOf z cs h) (k .same) s low high ks (accepted w n) e in
+      let a : Agrees c (viewOf z cs h) [] (table.answered t s (accepted w n)) d = unfold decisions.answeredBy in answered-read c laws t (viewOf z cs h) (k .same) s low high ks (accepted w n) e in
       let g = taken t s low high w n (taking-open t s w ready (ground-empty c laws (subgoalAt t s .m) ks w n e)) room free in
       let b = agrees-answers z c cells cs h (k .sound) a in
       rw (k .sound) (subst (λ (u : Table). Holds z c u (answerGiven z cs h d)) g (subst (Holds z c (table.answered t s (accepted w n) .state)) (given-written z cs h s w x) (b .holds)))
@@ -135,7 +135,7 @@ module _ (z : Sizes) (c : Coding) (cells : Cells z) (laws : CodingLaws c) (s : �
   -- all of them, where there is room at the end
   pub forms-hold : (ws : List Word) (t : Table) (cs : List ℕ) → Holds z c t cs → s ≤ length (t .subgoals) → Taking t s → Readable c (subgoalAt t s .m) ws
       → nodes (entered t s ws) ≤ t .N → length (entered t s ws .answers) ≤ t .A → Holds z c (entered t s ws) (formsGiven z cs s ws)
-  unfolding entered formsGiven
+  unfolding entered formsGivenBy
   forms-hold [] t cs k high ready e room free = k
   forms-hold (w ∷ ws) t cs k high ready e room free =
       let u : Table = given t s w in

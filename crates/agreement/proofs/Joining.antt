@@ -25,8 +25,8 @@ use Rattle.space.specs.declared.Head.{Head}
 use Rattle.space.specs.declared.Header.the-variants as header
 use Rattle.store.specs.Views.{View, viewOf}
 use Rattle.store.specs.Decisions as decisions
-use Rattle.store.specs.Decisions.{Decision, says, entersAnswers, known, onChains, sideIn, nodesNeeded, answersNeeded, decide}
-use Rattle.store.specs.Changes.{formsGiven, change}
+use Rattle.store.specs.Decisions.{Decision, says, entersAnswers, known, onChains, sideIn, nodesNeeded, answersNeeded, decide, decideBy}
+use Rattle.store.specs.Changes.{formsGiven, changeBy}
 use Rattle.store.specs.Calls.{usedAnswers, reply, outAfter, countedCells}
 use Rattle.agreement.proofs.SameRecords.{Same, same-counts, nodes-count, answer-root-judged, subgoal-judged, subgoal-state, last-judged}
 use Rattle.agreement.proofs.Agreeing.{agrees-says}
@@ -69,7 +69,7 @@ module _ (z : Sizes) (c : Coding) (cells : Cells z) (laws : CodingLaws c) (t : T
     joining-accepted : subgoalAt t s .state ≡ Open → (ws : List Word) → Readable c (subgoalAt t s .m) ws
         → nodes (entered t s ws) ≤ t .N → length (entered t s ws .answers) ≤ t .A
         → Both (becomes (entered t s ws) (joined (length (entered t s ws .answers) - length (t .answers)))) (entersAnswers s ws)
-    unfolding reply outAfter change counted
+    unfolding reply outAfter changeBy counted
     joining-accepted is-open ws k room free =
         let u : Table = entered t s ws in
         let cs′ : List ℕ = formsGiven z cs s ws in
@@ -80,7 +80,7 @@ module _ (z : Sizes) (c : Coding) (cells : Cells z) (laws : CodingLaws c) (t : T
 
     -- every form or none
     joining-formed : subgoalAt t s .state ≡ Open → (ws : List Word) → Readable c (subgoalAt t s .m) ws → Both (table.joining t s (formed ws)) (decisions.joining v s (formed ws))
-    unfolding table.joining table.fits decisions.joining
+    unfolding table.joining table.fits decisions.joiningBy
     joining-formed is-open ws k =
         let n = entering t s ws low high in
         let a : v .nodes + nodesNeeded v s [] ws ≡ nodes (entered t s ws) =
@@ -95,11 +95,11 @@ module _ (z : Sizes) (c : Coding) (cells : Cells z) (laws : CodingLaws c) (t : T
         (λ p. answers-says (refused 10)))
 
     joining-read : subgoalAt t s .state ≡ Open → (x : Forms) → Read c (subgoalAt t s .m) x → Both (table.joining t s x) (decisions.joining v s x)
-    joining-read is-open (declined r) k = unfold table.joining decisions.joining in answers-says (refused r)
+    joining-read is-open (declined r) k = unfold table.joining decisions.joiningBy in answers-says (refused r)
     joining-read is-open (formed ws) k = joining-formed is-open ws k
 
     declines : (r : ℕ) → Both (table.joining t s (declined r)) (decisions.joining v s (declined r))
-    unfolding table.joining decisions.joining
+    unfolding table.joining decisions.joiningBy
     declines r = answers-says (refused r)
 
     joining-answers : (f g : Side) (ps ks : List ℕ)
@@ -110,7 +110,7 @@ module _ (z : Sizes) (c : Coding) (cells : Cells z) (laws : CodingLaws c) (t : T
         (λ is-open. joining-read is-open _ (all-read c (subgoalAt t s .m) _))
 
   pub join-answers : (f g : ℕ) (ps : List ℕ) (s : ℕ) (ks : List ℕ) → AnswersAlike z c cs h [] (step c t (join f g ps s ks)) (decide c (viewOf z cs h) (join f g ps s ks))
-  unfolding step decide onChains
+  unfolding step decideBy onChains
   join-answers f g ps s ks =
       answers-known (length (t .subgoals)) (v .subgoals) f _ _ (S .subgoals) (λ fl fh.
       answers-known (length (t .subgoals)) (v .subgoals) g _ _ (S .subgoals) (λ gl gh.

@@ -19,7 +19,7 @@ use Rattle.space.specs.Fresh.{freshAnswer, freshSpace, freshAnswerIn, freshSpac
 use Rattle.space.specs.declared.Head.{Head}
 use Rattle.space.specs.declared.Header.the-variants as header
 use Rattle.space.specs.declared.FreshAnswer.the-variants.{Done, Refused}
-use Rattle.store.specs.Calls.{cellStep, spaceStep, underAny, under}
+use Rattle.store.specs.Calls.{cellStep, spaceStep, spaceStepBy, underAnyBy, underBy}
 use Rattle.agreement.proofs.HeaderTests.{header-read}
 use Rattle.agreement.specs.Records.{Wide}
 use Rattle.agreement.specs.Promise.{Agreement, Promise, Marked, Marked2}
@@ -52,7 +52,7 @@ module _ (e : ℕ) (known : knownEdition e ≡ true) where
       (rw (i, known) s, ap (λ (k : Head). k .edition) (r .is) ∙ i)
 
   pub deciding : lists.Deciding (sizesOf e) (codingOf e) spaceStep
-  unfolding spaceStep underAny under
+  unfolding spaceStepBy underAnyBy underBy
   deciding cs h q s = let k = header-any cs h s in rw (k .0, k .1)
 
 -- fresh takes the editions that there are, and lays the space out by them

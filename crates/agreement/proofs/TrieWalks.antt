@@ -17,7 +17,7 @@ use Rattle.space.specs.Judging.{follows}
 use Rattle.space.specs.declared.Node.{Node}
 use Rattle.space.proofs.JudgingLaws.{follows-zero, node-sound}
 use Rattle.trie.specs.Siblings.{Trie, sound, searchSiblings, searchChildren}
-use Rattle.trie.specs.Walks.{Walk, whole, stopped, rootSound, walkFrom, walk}
+use Rattle.trie.specs.Walks.{Walk, whole, stopped, rootSound, walkFrom, walk, walkBy, walkFromBy}
 use Rattle.trie.specs.Paths.{tokens, below, gather}
 use Rattle.trie.specs.declared.Search.the-variants.{Found, Last}
 use Rattle.trie.proofs.PathLaws.{gather-root, gather-up}
@@ -193,19 +193,19 @@ module _ (K : List Word) (nd : ℕ → Node) (n : ℕ) (r : Tries K nd n) (d : D
 
     -- the clauses of the walk as equations
     walk-bare : (p t : ℕ) (w : Word) → nd p .child ≡ 0 → walkFrom T p (t ∷ w) ≡ stopped p 0 (t ∷ w)
-    unfolding walkFrom searchChildren
+    unfolding walkFromBy searchChildren
     walk-bare p t w e = rw (eq-eqb (nd p .child) 0 e)
 
     walk-last : (p t l : ℕ) (w : Word) → (nd p .child ≡ 0 → ⊥) → searchSiblings n T p t (nd p .child) ≡ Last l → walkFrom T p (t ∷ w) ≡ stopped p l (t ∷ w)
-    unfolding walkFrom searchChildren
+    unfolding walkFromBy searchChildren
     walk-last p t l w e s = rw (ne-eqb (nd p .child) 0 e, s)
 
     walk-on : (p t j : ℕ) (w : Word) → (nd p .child ≡ 0 → ⊥) → searchSiblings n T p t (nd p .child) ≡ Found j → walkFrom T p (t ∷ w) ≡ walkFrom T j w
-    unfolding walkFrom searchChildren
+    unfolding walkFromBy searchChildren
     walk-on p t j w e s = rw (ne-eqb (nd p .child) 0 e, s)
 
     walked-from : (p : ℕ) (w : Word) → p < n → InTrie p → Walked K nd n p w (walkFrom T p w)
-    walked-from p [] h tp = unfold walkFrom in ends p h (sym (append-nil (key K p)))
+    walked-from p [] h tp = unfold walkFromBy in ends p h (sym (append-nil (key K p)))
     walked-from p (t ∷ w) h tp = by-cases (has K (key K p ++ (t ∷ [])))
         (λ e. let f = has-place K (key K p ++ (t ∷ [])) e in
         let j = f .0 in
@@ -233,7 +233,7 @@ module _ (K : List Word) (nd : ℕ → Node) (n : ℕ) (r : Tries K nd n) (d : D
     root-judged p h e = rw (node-judged p h ([], e), root-own p h e, eq-eqb p p refl)
 
     pub walked : (p : ℕ) (w : Word) → p < n → key K p ≡ s ∷ [] → Walked K nd n p w (walk T p w)
-    unfolding walk
+    unfolding walkBy
     walked p w h e = rw (root-judged p h e) (walked-from p w h ([], e))
 
     -- ---- the tokens gathered from a node are the word of its key

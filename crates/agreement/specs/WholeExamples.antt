@@ -20,12 +20,12 @@ use Rattle.space.specs.Layout.{subgoalWidth, answerWidth}
 use Rattle.space.specs.Heading.{inRange, capacity, whole, counted, headerOf, spaceHeader}
 use Rattle.space.specs.Judging.{follows, nodeSound, bothOrNeither, subgoalSound, answerSound}
 use Rattle.trie.specs.Siblings.{searchSiblings, searchChildren}
-use Rattle.trie.specs.Walks.{walkFrom, walk}
+use Rattle.trie.specs.Walks.{walkBy, walkFromBy}
 use Rattle.trie.specs.Paths.{gather}
 use Rattle.trie.specs.Append.{leadCell, appendNode, appendPath}
-use Rattle.store.specs.Decisions.{answeredNew, answeredOld, answeredAt, answered, starting, handed, onward, decide}
-use Rattle.store.specs.Changes.{answerEntered, change}
-use Rattle.store.specs.Calls.{reply, outAfter, under, underAny, spaceStep, countedCells}
+use Rattle.store.specs.Decisions.{answeredNew, answeredOld, answeredAt, answeredBy, starting, handed, onward, decideBy}
+use Rattle.store.specs.Changes.{answerEntered, changeBy}
+use Rattle.store.specs.Calls.{reply, outAfter, underBy, underAnyBy, spaceStep, spaceStepBy, countedCells}
 use Rattle.agreement.specs.Whole.{everyBelow, upTo, rootWhole, childWhole, linkWhole, nodeWhole, endsWhole}
 use Rattle.agreement.specs.Whole.{subgoalWhole, answerWhole, chain, chains, wholeView, wholeUnder, wholeAny}
 use Rattle.agreement.specs.Whole.{wholeSpace}
@@ -133,11 +133,11 @@ pub checked : Checked
 unfolding upTo wholeSpace wholeAny wholeUnder wholeView chains chain answerWhole subgoalWhole endsWhole nodeWhole
     linkWhole childWhole rootWhole everyBelow trace lent inRange capacity counted knownEdition headerOf spaceHeader
     subgoalWidth answerWidth follows nodeSound bothOrNeither subgoalSound answerSound searchSiblings searchChildren
-    walkFrom walk gather leadCell appendNode appendPath answeredNew answeredOld answeredAt answered starting handed
-    onward decide answerEntered change reply outAfter under underAny spaceStep areForms legalForm judged handedOn
-    reading callable predicate compacted compactForm areTerms pairForm formTerms front symbolic tokenOf items entered
-    filled lastOf tailOf into inside collected reads begun applied paired shapeOf arityOf every compact elements pairs
-    numbered renamed met seen rank same whole
+    walkFromBy walkBy gather leadCell appendNode appendPath answeredNew answeredOld answeredAt answeredBy starting
+    handed onward decideBy answerEntered changeBy reply outAfter underBy underAnyBy spaceStepBy areForms legalForm
+    judged handedOn reading callable predicate compacted compactForm areTerms pairForm formTerms front symbolic
+    tokenOf items entered filled lastOf tailOf into inside collected reads begun applied paired shapeOf arityOf every
+    compact elements pairs numbered renamed met seen rank same whole
 checked = (refl, refl, refl, refl, refl, refl, refl, refl, refl, refl, refl, refl, refl, refl)
 
 -- what is broken in them
@@ -158,11 +158,11 @@ pub first-broken : FirstBroken
 unfolding faultOf faultUnder faultIn firstFailing chained among wholeSpace wholeAny wholeUnder wholeView chains chain
     answerWhole subgoalWhole endsWhole nodeWhole linkWhole childWhole rootWhole everyBelow trace lent inRange capacity
     counted knownEdition headerOf spaceHeader subgoalWidth answerWidth follows nodeSound bothOrNeither subgoalSound
-    answerSound searchSiblings searchChildren walkFrom walk gather leadCell appendNode appendPath answeredNew
-    answeredOld answeredAt answered starting handed onward decide answerEntered change reply outAfter under underAny
-    spaceStep areForms legalForm judged handedOn reading callable predicate compacted compactForm areTerms pairForm
-    formTerms front symbolic tokenOf items entered filled lastOf tailOf into inside collected reads begun applied
-    paired shapeOf arityOf every compact elements pairs numbered renamed met seen rank same whole
+    answerSound searchSiblings searchChildren walkFromBy walkBy gather leadCell appendNode appendPath answeredNew
+    answeredOld answeredAt answeredBy starting handed onward decideBy answerEntered changeBy reply outAfter underBy
+    underAnyBy spaceStepBy areForms legalForm judged handedOn reading callable predicate compacted compactForm
+    areTerms pairForm formTerms front symbolic tokenOf items entered filled lastOf tailOf into inside collected reads
+    begun applied paired shapeOf arityOf every compact elements pairs numbered renamed met seen rank same whole
 first-broken = (refl, refl, refl, refl, refl, refl, refl, refl, refl, refl)
 
 -- a finished subgoal knows its own answers: 8 is for those that it lacks, and the last answer is judged (9) before it
@@ -180,9 +180,9 @@ pub held : Held
 unfolding upTo wholeSpace wholeAny wholeUnder wholeView chains chain answerWhole subgoalWhole endsWhole nodeWhole
     linkWhole childWhole rootWhole everyBelow trace lent inRange capacity counted knownEdition headerOf spaceHeader
     subgoalWidth answerWidth follows nodeSound bothOrNeither subgoalSound answerSound searchSiblings searchChildren
-    walkFrom walk gather leadCell appendNode appendPath answeredNew answeredOld answeredAt answered starting handed
-    onward decide answerEntered change reply outAfter under underAny spaceStep areForms legalForm judged handedOn
-    reading callable predicate compacted compactForm areTerms pairForm formTerms front symbolic tokenOf items entered
-    filled lastOf tailOf into inside collected reads begun applied paired shapeOf arityOf every compact elements pairs
-    numbered renamed met seen rank same whole
+    walkFromBy walkBy gather leadCell appendNode appendPath answeredNew answeredOld answeredAt answeredBy starting
+    handed onward decideBy answerEntered changeBy reply outAfter underBy underAnyBy spaceStepBy areForms legalForm
+    judged handedOn reading callable predicate compacted compactForm areTerms pairForm formTerms front symbolic
+    tokenOf items entered filled lastOf tailOf into inside collected reads begun applied paired shapeOf arityOf every
+    compact elements pairs numbered renamed met seen rank same whole
 held = (refl, refl, refl, refl, refl, refl)

@@ -26,6 +26,7 @@ use Rattle.space.specs.declared.SubgoalRead.the-variants as subgoal-read
 use Rattle.space.proofs.HeaderLaws.{header-bounds}
 use Rattle.space.proofs.JudgingLaws.{read-node-sound, read-node-damaged, read-subgoal-sound, subgoal-bounds}
 use Rattle.trie.specs.Walks.{rootSound}
+use Rattle.trie.proofs.SearchLaws.{chains-find}
 use Rattle.store.specs.Views.{answerTrie}
 use Rattle.store.specs.Decisions.{soundLast, allSound, nodesNeeded, answersNeeded}
 use Rattle.store.specs.Calls.{usedAnswers, Answers}
@@ -320,7 +321,7 @@ module _ (cs : List ℕ) (x : Sides) (s : ℕ) (ps ks : List ℕ) (n : Enterable
   framed : Framed (x .h .edition) s cs (x .h) cs′
   framed =
       subst (Framed (x .h .edition) s cs (x .h)) (sym e)
-      (forms-framed cs (x .h) (n .space) s (n .target .low) (n .target .high) (n .target .root-in) (n .target .last-in) (allForms cs x ps ks))
+      (forms-framed chains-find cs (x .h) (n .space) s (n .target .low) (n .target .high) (n .target .root-in) (n .target .last-in) (allForms cs x ps ks))
 
   pub entered-unsound : (r : ℕ) → header.Refused r ≡ spaceHeader cs′ → ⊥
   entered-unsound r d = let q : header.Refused r ≡ header.Sound (framed .head) = d ∙ framed .space in let z : _≡_ {A = ℕ} 0 1 = cc in omega arith

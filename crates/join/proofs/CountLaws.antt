@@ -19,13 +19,14 @@ use Rattle.space.specs.declared.Head.{Head}
 use Rattle.trie.specs.Siblings.{Trie}
 use Rattle.trie.specs.Walks.{Walk, whole, stopped, damaged, walk}
 use Rattle.store.specs.Views.{View, answerTrie}
-use Rattle.store.specs.Decisions.{unbroken, chainFrom, walkTo, metSound, lacking, missing, allSound, nodesNeeded, answersNeeded}
+use Rattle.store.specs.Decisions.{unbroken, chainFrom, walkTo, metSound, lacking, missing, allSound, allSoundBy, nodesNeeded, answersNeeded}
 use Rattle.store.specs.Contracts.{viewIn}
 use Rattle.parts.specs.Parts.{parts, AllGround, allFit}
 use Rattle.sides.specs.Counts.{sumMissing, sumLacking}
 use Rattle.sides.specs.Searches.{Searched}
 use Rattle.sides.specs.declared.Met.{Met}
 use Rattle.sides.proofs.CountLaws.{combined-length, chain-length}
+use Rattle.trie.proofs.SearchLaws.{chains-find}
 use Rattle.store.proofs.CallsWalks.{walk-stopped}
 use native.Mathlib.Nat.{mul-le-mul-left}
 use Rattle.join.specs.declared.Source.{Source}
@@ -79,7 +80,7 @@ pub not-long : (edition : ℕ) (ws : List Word) → allFit (arityOf edition) ws 
 not-long edition ws f t = true≢false (sym f ∙ ap (allFit (arityOf edition)) (t .2) ∙ unfit-cons (arityOf edition) (t .0) (t .1) (t .3))
 
 sound-cons : (v : View) (s : ℕ) (w : Word) (ws : List Word) → allSound v s (w ∷ ws) ≡ (metSound v w (walkTo v s w) && allSound v s ws)
-unfolding allSound
+unfolding allSoundBy
 sound-cons v s w ws = refl
 
 and-assoc : (a b d : Bool) → ((a && b) && d) ≡ (a && (b && d))
@@ -143,7 +144,7 @@ module _ (cs : List ℕ) (x : Sides) (root : ℕ) (ps ks : List ℕ) where
 
   module _ (at : Cursor) (hands form : List ℕ) (y : Sums) (c : Counting cs x root ps ks at hands form y) (hands′ form′ : List ℕ) where
     pub counted-end : Advances cs x ps ks at hands hands′ form′ match.End → Counts cs x root ps ks (counted.Sums y)
-    unfolding allFit allSound sumMissing sumLacking
+    unfolding allFit allSoundBy sumMissing sumLacking
     counted-end e s p = (
       c .fit ∙ ap (allFit (arityOf (x .h .edition))) e,
       sym (and-true (y .sound)) ∙ ap (λ (ws : List Word). y .sound && allSound (viewIn cs (x .h)) s ws) (sym e) ∙ c .sound s p,
@@ -198,7 +199,7 @@ module _ (cs : List ℕ) (x : Sides) (root : ℕ) (ps ks : List ℕ) where
 missing-of : (t : Trie) (root : ℕ) (w : Word) (x : Walk) → root < t .nodes → walk t root w ≡ x → missing x ≤ length w
 unfolding missing
 missing-of t root w (whole n) l e = omega arith
-missing-of t root w (stopped p k left) l e = walk-stopped t root p k w left l e .fewer
+missing-of t root w (stopped p k left) l e = walk-stopped chains-find t root p k w left l e .fewer
 missing-of t root w damaged l e = omega arith
 
 -- no more tokens are missing than a form has

@@ -18,10 +18,11 @@ use Rattle.space.specs.declared.Header.{Header}
 use Rattle.space.specs.declared.Header.the-variants as header
 use Rattle.space.specs.declared.Subgoal.{Subgoal}
 use Rattle.space.proofs.HeaderLaws.{header-bounds}
+use Rattle.trie.proofs.SearchLaws.{chains-find}
 use Rattle.store.specs.Views.{View, viewOf}
 use Rattle.plain.specs.Requests.{Reply}
 use Rattle.store.specs.Decisions.{unbroken, chainFrom, walkTo}
-use Rattle.store.specs.Changes.{change, formGiven, formsGiven}
+use Rattle.store.specs.Changes.{change, formGiven, formGivenBy, formsGiven, formsGivenBy}
 use Rattle.store.proofs.JoinCases.{given-written}
 use Rattle.store.specs.Contracts.{viewIn, Does, Held, answeredFrom}
 use Rattle.agreement.proofs.ChainSteps.{chain-longer}
@@ -170,7 +171,7 @@ module _ (cs0 : List ℕ) (x0 : Sides) (s : ℕ) (ps ks : List ℕ) where
 
   module _ (cs : List ℕ) (x : Sides) (at : Cursor) (hands form : List ℕ) (n : Entering cs0 x0 s ps ks cs x at hands form) (hands′ form′ : List ℕ) where
     entered-end : Advances cs x ps ks at hands hands′ form′ match.End → Enters cs0 x0 s ps ks cs
-    unfolding formsGiven
+    unfolding formsGivenBy
     entered-end e = sym (ap (formsGiven (sizesOf (x .h .edition)) cs s) e) ∙ n .left
 
     -- nothing more matches
@@ -181,10 +182,10 @@ module _ (cs0 : List ℕ) (x0 : Sides) (s : ℕ) (ps ks : List ℕ) where
 
     module _ (next : Cursor) (m : ℕ) (a : Advances cs x ps ks at hands hands′ form′ (match.At next m)) (cs′ : List ℕ) (g : cs′ ≡ formGiven (sizesOf (x .h .edition)) cs s (take m form′) (header.Sound (x .h))) where
       framed : Framed (x .h .edition) s cs (x .h) cs′
-      framed = subst (Framed (x .h .edition) s cs (x .h)) (sym g) (form-framed cs (x .h) (n .space) s (n .target .low) (n .target .high) (n .target .root-in) (n .target .last-in) (take m form′))
+      framed = subst (Framed (x .h .edition) s cs (x .h)) (sym g) (form-framed chains-find cs (x .h) (n .space) s (n .target .low) (n .target .high) (n .target .root-in) (n .target .last-in) (take m form′))
 
       given : formsGiven (sizesOf (x .h .edition)) cs s (toCome cs x ps ks at hands) ≡ formsGiven (sizesOf (x .h .edition)) cs′ s (toCome cs x ps ks next hands′)
-      unfolding formsGiven
+      unfolding formsGivenBy
       given =
           ap (formsGiven (sizesOf (x .h .edition)) cs s) (a .1 .1)
           ∙ ap (λ (y : Header). formsGiven (sizesOf (x .h .edition)) (formGiven (sizesOf (x .h .edition)) cs s (take m form′) y) s (toCome cs x ps ks next hands′)) (space-read cs (x .h) (n .space) .1)
@@ -235,7 +236,7 @@ module _ (cs0 : List ℕ) (x0 : Sides) (s : ℕ) (ps ks : List ℕ) where
 
 -- a form given as a single answer is
 pub given-by : (cs : List ℕ) (h : Head) (s : ℕ) (w : Word) (g : Subgoal) (r : Reply) (cs′ : List ℕ) → g ≡ subgoalUnder cs h s → Does cs h (answeredFrom s (g .root) w) r cs′ → cs′ ≡ formGiven (sizesOf (h .edition)) cs s w (header.Sound h)
-unfolding formGiven
+unfolding formGivenBy
 given-by cs h s w g r cs′ e d =
     d .1
     ∙ ap (λ (q : Subgoal). change (sizesOf (h .edition)) cs h (answeredFrom s (q .root) w (viewIn cs h))) e

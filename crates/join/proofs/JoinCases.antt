@@ -23,8 +23,8 @@ use Rattle.space.proofs.JudgingLaws.{subgoal-bounds}
 use Rattle.trie.specs.Walks.{rootSound}
 use Rattle.store.specs.Views.{View, answerTrie}
 use Rattle.store.specs.Decisions as decisions
-use Rattle.store.specs.Decisions.{Decision, says, refuses, known, sound, stateOf, soundSubgoal, soundTarget, soundLast, Chain, broken, unbroken, chainFrom, chainOf, onChains, sideIn, allSound, nodesNeeded, answersNeeded, joining, entersAnswers, decide}
-use Rattle.store.specs.Changes.{formsGiven, change}
+use Rattle.store.specs.Decisions.{Decision, says, refuses, known, sound, stateOf, soundSubgoal, soundTarget, soundLast, Chain, broken, unbroken, chainFrom, chainOf, onChains, sideIn, allSound, nodesNeeded, answersNeeded, joining, joiningBy, entersAnswers, decide, decideBy}
+use Rattle.store.specs.Changes.{formsGiven, changeBy}
 use Rattle.store.specs.Calls.{usedAnswers, reply}
 use Rattle.store.specs.Contracts.{viewIn, Held, AnswersUnder}
 use Rattle.store.proofs.CallsCases.{Decided, decided-says, comes}
@@ -50,7 +50,7 @@ module _ (cs : List ℕ) (h : Head) (f g : ℕ) (ps : List ℕ) (s : ℕ) (ks : 
 
   pub join-entered : (ws : List Word) (n : ℕ) (cs′ : List ℕ) → decide (codingOf (h .edition)) (viewIn cs h) (join f g ps s ks) ≡ entersAnswers s ws
       → cs′ ≡ formsGiven (Rattle.space.specs.Layout.sizesOf (h .edition)) cs s ws → n ≡ usedAnswers cs′ - h .answers → AnswersUnder cs h (join f g ps s ks) (joined n) cs′
-  unfolding lent reply change
+  unfolding lent reply changeBy
   join-entered ws n cs′ e c m = comes cs h (join f g ps s ks) (entersAnswers s ws) (joined n) cs′ refl e (ap joined m, c)
 
 -- ---- the numbers
@@ -77,24 +77,24 @@ module _ (c : Coding) (v : View) (f g : ℕ) (ps : List ℕ) (s : ℕ) (ks : Lis
   judged = sound (soundSubgoal v f && soundSubgoal v g && soundTarget v s) sourced
 
   pub first-unknown : isNumber (v .subgoals) f ≡ false → decide c v (join f g ps s ks) ≡ refuses 7
-  unfolding decide
+  unfolding decideBy
   first-unknown e = known-not (v .subgoals) f (known (v .subgoals) g (known (v .subgoals) s judged)) e
 
   module _ (i : isNumber (v .subgoals) f ≡ true) where
     pub second-unknown : isNumber (v .subgoals) g ≡ false → decide c v (join f g ps s ks) ≡ refuses 7
-    unfolding decide
+    unfolding decideBy
     second-unknown e = known-is (v .subgoals) f (known (v .subgoals) g (known (v .subgoals) s judged)) i ∙ known-not (v .subgoals) g (known (v .subgoals) s judged) e
 
     module _ (j : isNumber (v .subgoals) g ≡ true) where
       pub target-unknown : isNumber (v .subgoals) s ≡ false → decide c v (join f g ps s ks) ≡ refuses 7
-      unfolding decide
+      unfolding decideBy
       target-unknown e =
           known-is (v .subgoals) f (known (v .subgoals) g (known (v .subgoals) s judged)) i
           ∙ known-is (v .subgoals) g (known (v .subgoals) s judged) j ∙ known-not (v .subgoals) s judged e
 
       module _ (k : isNumber (v .subgoals) s ≡ true) where
         known-all : decide c v (join f g ps s ks) ≡ judged
-        unfolding decide
+        unfolding decideBy
         known-all =
             known-is (v .subgoals) f (known (v .subgoals) g (known (v .subgoals) s judged)) i
             ∙ known-is (v .subgoals) g (known (v .subgoals) s judged) j ∙ known-is (v .subgoals) s judged k
@@ -223,7 +223,7 @@ module _ (cs : List ℕ) (h : Head) (y : Parties) (ps ks : List ℕ) (p : Partie
           unread ∙ ap (joining (viewIn cs h) (y .target)) rule-is
 
       declines : (r : ℕ) → (r ≡ 0 → ⊥) → ruleOf (codingOf (h .edition)) (y .f) us (y .g) vs ps (y .t) ks ≡ declined r → Ruled cs h y ps ks r
-      unfolding joining
+      unfolding joiningBy
       declines r z e = refused-ruled r z (both-read ∙ ap (joining (viewIn cs h) (y .target)) e)
 
       pub ruled-finished : (y .t .state ≡ 0 → ⊥) → Ruled cs h y ps ks 8

@@ -15,7 +15,7 @@ use Rattle.forms.specs.Compact.{same}
 use Rattle.plain.specs.Words.{Word, common, most, has}
 use Rattle.space.specs.Sound.{subgoalUnder}
 use Rattle.store.specs.Views.{View}
-use Rattle.store.specs.Decisions.{walkTo, lacking, missing, nodesNeeded, answersNeeded}
+use Rattle.store.specs.Decisions.{walkTo, lacking, missing, nodesNeeded, nodesNeededBy, answersNeeded, answersNeededBy}
 use Rattle.store.specs.Contracts.{viewIn}
 use Rattle.parts.specs.Parts.{allFit}
 use Rattle.sides.specs.Searches.{Searched}
@@ -173,11 +173,11 @@ shared-length ws k w r o = omega (arith, o .0, most-length (backwards (take k ws
 -- ---- the exact needs
 
 nodes-cons : (v : View) (s : ℕ) (before : List Word) (w : Word) (ws : List Word) → nodesNeeded v s before (w ∷ ws) ≡ min (missing (walkTo v s w)) (length w - most before w) + nodesNeeded v s (w ∷ before) ws
-unfolding nodesNeeded
+unfolding nodesNeededBy
 nodes-cons v s before w ws = refl
 
 answers-cons : (v : View) (s : ℕ) (before : List Word) (w : Word) (ws : List Word) → answersNeeded v s before (w ∷ ws) ≡ pick (lacking v (walkTo v s w)) (pick (has before w) 0 1) 0 + answersNeeded v s (w ∷ before) ws
-unfolding answersNeeded
+unfolding answersNeededBy
 answers-cons v s before w ws = refl
 
 one-new : (p q : Bool) → oneNew p q ≡ pick p (pick q 0 1) 0
@@ -226,7 +226,7 @@ module _ (cs : List ℕ) (x : Sides) (root : ℕ) (ps ks : List ℕ) where
 
   module _ (at : Cursor) (hands form : List ℕ) (i : ℕ) (y : Needs) (c : Needing cs x root ps ks at hands form i y) (hands′ form′ : List ℕ) where
     pub needed-end : Advances cs x ps ks at hands hands′ form′ match.End → NeedsOf cs x root ps ks y
-    unfolding nodesNeeded answersNeeded
+    unfolding nodesNeededBy answersNeededBy
     needed-end e s p = (
       omega (arith, c .nodes s p, ap (nodesNeeded (viewIn cs (x .h)) s (backwards (c .done) [])) e),
       omega (arith, c .answers s p, ap (answersNeeded (viewIn cs (x .h)) s (backwards (c .done) [])) e),

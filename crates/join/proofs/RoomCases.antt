@@ -21,8 +21,8 @@ use Rattle.space.specs.declared.Header.{Header}
 use Rattle.space.specs.declared.Header.the-variants as header
 use Rattle.trie.specs.Walks.{Walk, whole, stopped, damaged}
 use Rattle.store.specs.Views.{View, viewOf}
-use Rattle.store.specs.Decisions.{Decision, says, refuses, soundAnswer, soundLast, walkTo, metSound, lacking, missing, allSound, nodesNeeded, answersNeeded, joining, answeredOld, answeredAt, entersAnswers, decide}
-use Rattle.store.specs.Changes.{answerGiven, formGiven, formsGiven}
+use Rattle.store.specs.Decisions.{Decision, says, refuses, soundAnswer, soundLast, walkTo, metSound, lacking, missing, allSound, allSoundBy, nodesNeeded, answersNeeded, joining, joiningBy, answeredOld, answeredAt, entersAnswers, decide}
+use Rattle.store.specs.Changes.{answerGiven, formGiven, formGivenBy, formsGiven, formsGivenBy}
 use Rattle.store.specs.Calls.{usedAnswers}
 use Rattle.store.specs.Contracts.{viewIn, AnswersUnder}
 use Rattle.agreement.proofs.Frame.{space-read}
@@ -68,13 +68,13 @@ held-says v s w damaged m e = absurd (true≢false e)
 module _ (e : ℕ) (cs : List ℕ) (h : Head) (i : headerOf (sizesOf e) cs ≡ header.Sound h) (s : ℕ) where
   held-given : (w : Word) → metSound (viewOf (sizesOf e) cs h) w (walkTo (viewOf (sizesOf e) cs h) s w) ≡ true → lacking (viewOf (sizesOf e) cs h) (walkTo (viewOf (sizesOf e) cs h) s w) ≡ false
       → formGiven (sizesOf e) cs s w (headerOf (sizesOf e) cs) ≡ cs
-  unfolding formGiven answerGiven
+  unfolding formGivenBy answerGiven
   held-given w m l =
       let r = held-says (viewOf (sizesOf e) cs h) s w (walkTo (viewOf (sizesOf e) cs h) s w) m l in
       ap (formGiven (sizesOf e) cs s w) i ∙ ap (answerGiven (sizesOf e) cs h) (r .1)
 
   none-given : (ws : List Word) → allSound (viewOf (sizesOf e) cs h) s ws ≡ true → sumLacking (viewOf (sizesOf e) cs h) s ws ≡ 0 → formsGiven (sizesOf e) cs s ws ≡ cs
-  unfolding allSound formsGiven
+  unfolding allSoundBy formsGivenBy
   none-given [] a l = refl
   none-given (w ∷ ws) a l =
       let p = and-parts (metSound (viewOf (sizesOf e) cs h) w (walkTo (viewOf (sizesOf e) cs h) s w)) (allSound (viewOf (sizesOf e) cs h) s ws) a in
@@ -92,17 +92,17 @@ none-missing v s (w ∷ ws) l =
 
 module _ (v : View) (s : ℕ) (ws : List Word) where
   pub joining-unsound : allSound v s ws ≡ false → joining v s (formed ws) ≡ refuses 9
-  unfolding joining
+  unfolding joiningBy
   joining-unsound e = rw e
 
   module _ (a : allSound v s ws ≡ true) where
     pub joining-last : (answersNeeded v s [] ws ≡ 0 → ⊥) → soundLast v s ≡ false → joining v s (formed ws) ≡ refuses 9
-    unfolding joining
+    unfolding joiningBy
     joining-last z l = rw (a, ne-eqb (answersNeeded v s [] ws) 0 z, l)
 
     last-either : pick (eqb (answersNeeded v s [] ws) 0) true (soundLast v s) ≡ true
         → joining v s (formed ws) ≡ pick (leb (v .nodes + nodesNeeded v s [] ws) (v .N)) (pick (leb (v .answers + answersNeeded v s [] ws) (v .A)) (entersAnswers s ws) (refuses 11)) (refuses 10)
-    unfolding joining
+    unfolding joiningBy
     last-either e = rw (a, e)
 
     last-none : answersNeeded v s [] ws ≡ 0 → pick (eqb (answersNeeded v s [] ws) 0) true (soundLast v s) ≡ true
@@ -138,7 +138,7 @@ module _ (cs : List ℕ) (h : Head) (y : Parties) (ps ks : List ℕ) (g : Ground
   refuses-by r e = join-refused cs h (y .first) (y .second) ps (y .target) ks r (decides cs h y ps ks g ∙ e)
 
   pub too-long : allFit (arityOf (h .edition)) (allForms cs (sidesOf h y) ps ks) ≡ false → AnswersUnder cs h (asked y ps ks) (refused 4) cs
-  unfolding joining
+  unfolding joiningBy
   too-long e = refuses-by 4 (ap (joining (viewIn cs h) (y .target)) (fitted-long (arityOf (h .edition)) ws e))
 
   module _ (fit : allFit (arityOf (h .edition)) (allForms cs (sidesOf h y) ps ks) ≡ true) where

@@ -21,9 +21,9 @@ use Rattle.space.specs.declared.Header.the-variants as header
 use Rattle.trie.specs.Paths.{Path, gather, longest}
 use Rattle.trie.specs.Paths as path
 use Rattle.store.specs.Views.{View, viewOf, subgoalTrie, answerTrie}
-use Rattle.store.specs.Decisions.{Decision, says, stateOf, gives, refuses, soundSubgoal, soundAnswer, soundAnswerOf, soundPair, starting, handed, onward, onPath, loaded, instanced, decide}
-use Rattle.store.specs.Changes.{change}
-use Rattle.store.specs.Calls.{reply, under, underAny, spaceStep, Answers}
+use Rattle.store.specs.Decisions.{Decision, says, stateOf, gives, refuses, soundSubgoal, soundAnswer, soundAnswerOf, soundPair, starting, handed, onward, onPath, loaded, instanced, decide, decideBy}
+use Rattle.store.specs.Changes.{change, changeBy}
+use Rattle.store.specs.Calls.{reply, underBy, underAny, underAnyBy, spaceStep, spaceStepBy, Answers}
 use Rattle.store.proofs.AnswersLaws.{step-none}
 
 -- ---- what the decisions of a reading call have in common, if refusals have it
@@ -64,15 +64,15 @@ module _ (P : Decision → Type 0) (refusing : (r : ℕ) → P (refuses r)) wher
 
   module _ (c : Coding) (v : View) where
     next-comes : (s a : ℕ) → ((x : State) → P (says (lacksNext x))) → ((n : ℕ) → P (says (at n))) → P (decide c v (next s a))
-    unfolding decide
+    unfolding decideBy
     next-comes s a x y = known-comes (v .subgoals) s _ (pick-comes (starting v s a) _ _ (onward-comes v s a x y) (refusing 7))
 
     load-comes : (a : ℕ) (out : List ℕ) → ((ks : List ℕ) → P (gives ks)) → P (decide c v (load a out))
-    unfolding decide
+    unfolding decideBy
     load-comes a out x = known-comes (v .answers) a _ (sound-comes (soundPair v a) _ (loaded-comes c v a _ (λ w. x (c .expand w))))
 
     instance-comes : (a : ℕ) (out : List ℕ) → ((ks : List ℕ) → P (gives ks)) → P (decide c v (instance a out))
-    unfolding decide
+    unfolding decideBy
     instance-comes a out x =
         known-comes (v .answers) a _ (sound-comes (soundPair v a) _ (loaded-comes c v a _ (λ w. instanced-comes c v (v .answer a .subgoal) _ (λ u. x (c .instanceOf u w)))))
 
@@ -82,11 +82,11 @@ abbrev pub Reads : Decision → Type 0
 Reads d = (z : Sizes) (cs : List ℕ) (h : Head) → change z cs h d ≡ cs
 
 says-reads : (r : Reply) → Reads (says r)
-unfolding change
+unfolding changeBy
 says-reads r z cs h = refl
 
 gives-reads : (ks : List ℕ) → Reads (gives ks)
-unfolding change
+unfolding changeBy
 gives-reads ks z cs h = refl
 
 abbrev refuses-reads : (r : ℕ) → Reads (refuses r)
@@ -94,7 +94,7 @@ refuses-reads r = says-reads (refused r)
 
 module _ (c : Coding) (v : View) where
   pub counts-reads : Reads (decide c v counts)
-  unfolding decide
+  unfolding decideBy
   counts-reads = says-reads _
 
   pub next-reads : (s a : ℕ) → Reads (decide c v (next s a))
@@ -109,12 +109,12 @@ module _ (c : Coding) (v : View) where
 -- a call whose decision writes nothing leaves the space, under any header
 module _ (cs : List ℕ) (q : Request) where
   under-stays : (e : Header) → ((c : Coding) (v : View) → Reads (decide c v q)) → cs ≡ underAny cs q e .state
-  unfolding underAny under
+  unfolding underAnyBy underBy
   under-stays (header.Sound h) x = sym (x _ _ _ cs h)
   under-stays (header.Refused r) x = refl
 
   step-stays : ((c : Coding) (v : View) → Reads (decide c v q)) → cs ≡ spaceStep cs q .state
-  unfolding spaceStep
+  unfolding spaceStepBy
   step-stays x = under-stays (spaceHeader cs) x
 
 -- ---- so their contracts follow from what they answer and leave in out
@@ -153,15 +153,15 @@ gives-fits ks v room after n e =
 
 module _ (cs : List ℕ) where
   under-fits : (q : Request) (e : Header) → ((c : Coding) (v : View) → Fits (decide c v q)) → (n : ℕ) → underAny cs q e .reply ≡ cells n → n ≤ length (lent q)
-  unfolding underAny under
+  unfolding underAnyBy underBy
   under-fits q (header.Sound h) x n e = x (codingOf (h .edition)) (viewOf (sizesOf (h .edition)) cs h) (viewOf (sizesOf (h .edition)) cs h) (length (lent q)) _ n e
   under-fits q (header.Refused r) x n e = let z : _≡_ {A = ℕ} 0 1 = cc in absurd (omega arith)
 
   module _ (a : ℕ) (out : List ℕ) (n : ℕ) where
     pub load-fits : spaceStep cs (load a out) .reply ≡ cells n → n ≤ length out
-    unfolding spaceStep lent
+    unfolding spaceStepBy lent
     load-fits e = under-fits (load a out) (spaceHeader cs) (λ c v. load-comes Fits refuses-fits c v a out gives-fits) n e
 
     pub instance-fits : spaceStep cs (instance a out) .reply ≡ cells n → n ≤ length out
-    unfolding spaceStep lent
+    unfolding spaceStepBy lent
     instance-fits e = under-fits (instance a out) (spaceHeader cs) (λ c v. instance-comes Fits refuses-fits c v a out gives-fits) n e

@@ -22,7 +22,7 @@ use Rattle.space.specs.declared.Header.{Header}
 use Rattle.space.specs.declared.Header.the-variants as header
 use Rattle.space.specs.Heading.{spaceHeader}
 use Rattle.store.specs.Decisions.{Decision, says as decides, gives, entersSubgoal, entersAnswer, entersEmpty, finishes, entersAnswers, decide}
-use Rattle.store.specs.Calls.{outAfter, under, underAny, spaceStep}
+use Rattle.store.specs.Calls.{outAfter, underBy, underAny, underAnyBy, spaceStep, spaceStepBy}
 use Rattle.store.specs.Views.{viewOf}
 use Rattle.plain.specs.Coding.{codingOf}
 use Rattle.text.specs.Fields.{Fields, fields, Number, noNumber, number, Cells, noCells, cellsOf, firstNumber, behind, onlyNumber, hexCells}
@@ -54,12 +54,12 @@ out-after (finishes s) out = refl
 out-after (entersAnswers s ws) out = refl
 
 under-out : (cs : List ℕ) (q : Request) (h : Header) → length (underAny cs q h .out) ≡ length (lent q)
-unfolding underAny under
+unfolding underAnyBy underBy
 under-out cs q (header.Sound h) = out-after (decide (codingOf (h .edition)) (viewOf (sizesOf (h .edition)) cs h) q) (lent q)
 under-out cs q (header.Refused r) = refl
 
 step-out : (cs : List ℕ) (q : Request) → length (spaceStep cs q .out) ≡ length (lent q)
-unfolding spaceStep
+unfolding spaceStepBy
 step-out cs q = under-out cs q (spaceHeader cs)
 
 -- ---- a line leaves out as long as it was

@@ -17,13 +17,13 @@ use Rattle.space.specs.Heading.{inRange, capacity, whole, counted, headerOf, sp
 use Rattle.space.specs.Fresh.{freshCells, freshFits, freshSpace, freshSpaceIn}
 use Rattle.space.specs.Judging.{follows, nodeSound, bothOrNeither, subgoalSound, answerSound}
 use Rattle.trie.specs.Siblings.{searchSiblings, searchChildren}
-use Rattle.trie.specs.Walks.{walkFrom, walk}
+use Rattle.trie.specs.Walks.{walkFromBy, walkBy}
 use Rattle.trie.specs.Paths.{gather}
 use Rattle.trie.specs.Append.{leadCell, appendNode, appendPath}
-use Rattle.store.specs.Decisions.{calledOld, calledNew, calledAt, called, answeredNew, answeredOld, answeredAt}
-use Rattle.store.specs.Decisions.{answered, starting, handed, onward, onPath, loaded, instanced, decide}
-use Rattle.store.specs.Changes.{subgoalEntered, answerEntered, change}
-use Rattle.store.specs.Calls.{reply, outAfter, under, underAny, spaceStep}
+use Rattle.store.specs.Decisions.{calledOld, calledNew, calledAt, calledBy, answeredNew, answeredOld, answeredAt}
+use Rattle.store.specs.Decisions.{answeredBy, starting, handed, onward, onPath, loaded, instanced, decideBy}
+use Rattle.store.specs.Changes.{subgoalEntered, answerEntered, changeBy}
+use Rattle.store.specs.Calls.{reply, outAfter, underBy, underAnyBy, spaceStepBy}
 use Rattle.plain.specs.Requests.{Open, Request, call, answer, finish, next, load, instance, counts, Reply, new}
 use Rattle.plain.specs.Requests.{oldSubgoal, cells, used, refused, short, lent}
 use Rattle.text.specs.Fields.{fields, valueFrom, numeral, hexCells}
@@ -106,10 +106,10 @@ pub worked :
 unfolding linesFrom session says means wordMeans fields valueFrom numeral hexCells replyText digitsBefore cellTexts
     lent inRange capacity counted knownEdition headerOf spaceHeader subgoalWidth answerWidth freshCells freshFits
     freshSpace freshSpaceIn follows nodeSound bothOrNeither subgoalSound answerSound searchSiblings searchChildren
-    walkFrom walk gather leadCell appendNode appendPath calledOld calledNew calledAt called answeredNew answeredOld
-    answeredAt answered starting handed onward onPath loaded instanced decide subgoalEntered answerEntered change
-    reply outAfter under underAny spaceStep areForms legalForm judged handedOn reading callable predicate compacted
-    substituted compactForm areTerms pairForm formTerms front symbolic tokenOf items entered filled lastOf tailOf
-    into inside collected reads begun applied paired shapeOf arityOf every compact elements pairs numbered renamed
-    met seen rank same whole
+    walkFromBy walkBy gather leadCell appendNode appendPath calledOld calledNew calledAt calledBy answeredNew
+    answeredOld answeredAt answeredBy starting handed onward onPath loaded instanced decideBy subgoalEntered
+    answerEntered changeBy reply outAfter underBy underAnyBy spaceStepBy areForms legalForm judged handedOn reading
+    callable predicate compacted substituted compactForm areTerms pairForm formTerms front symbolic tokenOf items
+    entered filled lastOf tailOf into inside collected reads begun applied paired shapeOf arityOf every compact
+    elements pairs numbered renamed met seen rank same whole
 worked = refl

@@ -16,7 +16,7 @@ use Rattle.plain.specs.Coding.{Coding}
 use Rattle.plain.specs.Joins.{Terms, matching, copied, along, combined}
 use Rattle.trie.specs.Paths.{Path, none, tokens, gather, longest}
 use Rattle.store.specs.Views.{View, answerTrie}
-use Rattle.store.specs.Decisions.{walkTo, lacking, nodesNeeded, answersNeeded, soundAnswerOf}
+use Rattle.store.specs.Decisions.{walkTo, lacking, nodesNeeded, nodesNeededBy, answersNeeded, answersNeededBy, soundAnswerOf}
 use Rattle.store.specs.Decisions.{Chain, broken, unbroken, headed, chainFrom}
 use Rattle.sides.specs.Counts.{sumMissing, sumLacking}
 
@@ -35,12 +35,12 @@ one-none false d e f = refl
 
 module _ (v : View) (s : ℕ) where
   pub nodes-needed-most : (before ws : List Word) → nodesNeeded v s before ws ≤ sumMissing v s ws
-  unfolding nodesNeeded sumMissing
+  unfolding nodesNeededBy sumMissing
   nodes-needed-most before [] = omega arith
   nodes-needed-most before (w ∷ ws) = omega (arith, nodes-needed-most (w ∷ before) ws)
 
   pub answers-needed-most : (before ws : List Word) → answersNeeded v s before ws ≤ sumLacking v s ws
-  unfolding answersNeeded sumLacking
+  unfolding answersNeededBy sumLacking
   answers-needed-most before [] = omega arith
   answers-needed-most before (w ∷ ws) =
       omega (arith, answers-needed-most (w ∷ before) ws, one-most (lacking v (walkTo v s w)) (has before w))
@@ -57,7 +57,7 @@ module _ (v : View) (s : ℕ) where
       (λ e. o u (rw e at h))
 
   none-lacking : (before ws : List Word) → AllOld before → answersNeeded v s before ws ≡ 0 → sumLacking v s ws ≡ 0
-  unfolding answersNeeded sumLacking
+  unfolding answersNeededBy sumLacking
   none-lacking before [] o e = refl
   none-lacking before (w ∷ ws) o e =
       let l = one-none (lacking v (walkTo v s w)) (has before w) (omega arith) (o w) in

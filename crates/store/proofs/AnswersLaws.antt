@@ -10,7 +10,7 @@ use Rattle.space.specs.Heading.{spaceHeader}
 use Rattle.space.specs.declared.Header.{Header}
 use Rattle.space.specs.declared.Header.the-variants as header
 use Rattle.store.specs.Decisions.{Decision, says, gives, entersSubgoal, entersAnswer, entersEmpty, finishes, entersAnswers}
-use Rattle.store.specs.Calls.{outAfter, under, underAny, spaceStep, Answers}
+use Rattle.store.specs.Calls.{outAfter, underBy, underAny, underAnyBy, spaceStep, spaceStepBy, Answers}
 use Rattle.store.proofs.CallsCases.{Steps}
 
 out-none : (d : Decision) → outAfter d [] ≡ []
@@ -25,12 +25,12 @@ out-none (finishes s) = refl
 out-none (entersAnswers s ws) = refl
 
 under-none : (cs : List ℕ) (q : Request) (x : Header) → lent q ≡ [] → underAny cs q x .out ≡ []
-unfolding underAny under
+unfolding underAnyBy underBy
 under-none cs q (header.Sound h) e = rw e (out-none _)
 under-none cs q (header.Refused r) e = e
 
 pub step-none : (cs : List ℕ) (q : Request) → lent q ≡ [] → [] ≡ spaceStep cs q .out
-unfolding spaceStep
+unfolding spaceStepBy
 step-none cs q e = sym (under-none cs q (spaceHeader cs) e)
 
 module _ (cs : List ℕ) (r : Reply) (cs′ : List ℕ) where

@@ -14,7 +14,7 @@ use Rattle.trie.specs.Walks.{Walk, whole, stopped, damaged}
 use Rattle.store.specs.Views.{View, viewOf}
 use Rattle.store.specs.Decisions as decisions
 use Rattle.store.specs.Decisions.{Decision, says, soundLast, answeredNew, answeredOld, answeredAt}
-use Rattle.store.specs.Changes.{answerGiven, change}
+use Rattle.store.specs.Changes.{answerGiven, change, changeBy}
 
 module _ (z : Sizes) (cs : List ℕ) (h : Head) (s : ℕ) (w : Word) where
   abbrev v : View
@@ -25,7 +25,7 @@ module _ (z : Sizes) (cs : List ℕ) (h : Head) (s : ℕ) (w : Word) where
   Written d = change z cs h d ≡ answerGiven z cs h d
 
   says-written : (x : Reply) → Written (says x)
-  unfolding change answerGiven
+  unfolding changeBy answerGiven
   says-written x = refl
 
   open-written : (x : State) (d : Decision) → Written d → Written (decisions.whileOpen x d)
@@ -44,10 +44,10 @@ module _ (z : Sizes) (cs : List ℕ) (h : Head) (s : ℕ) (w : Word) where
   unfolding answeredAt answeredOld
   given-written (whole leaf) = by-cases (eqb (v .node leaf .link) 0)
       (λ p. by-cases (eqb (length w) 0)
-      (λ q. rw (p, q) (new-written 0 (decisions.entersEmpty s) (unfold change answerGiven in refl)))
+      (λ q. rw (p, q) (new-written 0 (decisions.entersEmpty s) (unfold changeBy answerGiven in refl)))
       (λ q. rw (p, q) (says-written (refused 9))))
       (λ p. by-cases (decisions.soundAnswer v (v .node leaf .link) && eqb (v .answer (v .node leaf .link) .leaf) leaf)
       (λ q. rw (p, q) (says-written _))
       (λ q. rw (p, q) (says-written (refused 9))))
-  given-written (stopped parent last left) = new-written (length left) (decisions.entersAnswer s parent last left) (unfold change answerGiven in refl)
+  given-written (stopped parent last left) = new-written (length left) (decisions.entersAnswer s parent last left) (unfold changeBy answerGiven in refl)
   given-written damaged = says-written (refused 9)

@@ -1,4 +1,5 @@
--- The eight calls on the cells of a space, sound or damaged: refusal 1, then the decision, then the change.
+-- The eight calls on the cells of a space, sound or damaged: refusal 1, then the decision, then the change. The way of
+-- finding a child is a parameter; by the sibling chains they are the calls without an index.
 use Prim.Native.Nat.{ℕ, _+_, _-_}
 use mathlib.Core.List.{List, [], _++_}
 use mathlib.Core.Path.{_≡_}
@@ -13,10 +14,12 @@ use Rattle.space.specs.Heading.{headerOf, spaceHeader}
 use Rattle.space.specs.declared.Head.{Head}
 use Rattle.space.specs.declared.Header.{Header}
 use Rattle.space.specs.declared.Header.the-variants as header
+use Rattle.trie.specs.Siblings.{searchChildren}
+use Rattle.trie.specs.Walks.{Finding}
 use Rattle.store.specs.Views.{View, viewOf}
 use Rattle.store.specs.Decisions.{Decision, says, gives, entersSubgoal, entersAnswer, entersEmpty, finishes}
-use Rattle.store.specs.Decisions.{entersAnswers, decide}
-use Rattle.store.specs.Changes.{change}
+use Rattle.store.specs.Decisions.{entersAnswers, decideBy}
+use Rattle.store.specs.Changes.{changeBy}
 
 -- the answers used, as the header counts them
 abbrev pub usedAnswers : List ℕ → ℕ
@@ -43,25 +46,37 @@ outAfter (entersEmpty s) out = out
 outAfter (finishes s) out = out
 outAfter (entersAnswers s ws) out = out
 
-unfoldable pub under : Sizes → Coding → List ℕ → Request → Header → Result (List ℕ)
-under z c cs q (header.Sound h) =
+unfoldable pub underBy : Finding → Sizes → Coding → List ℕ → Request → Header → Result (List ℕ)
+underBy find z c cs q (header.Sound h) =
     let v = viewOf z cs h in
-    let d = decide c v q in
-    let after = change z cs h d in
+    let d = decideBy find c v q in
+    let after = changeBy find z cs h d in
     record { reply = reply v d (length (lent q)) (usedAnswers after); out = outAfter d (lent q); state = after }
-under z c cs q (header.Refused r) = record { reply = refused r; out = lent q; state = cs }
+underBy find z c cs q (header.Refused r) = record { reply = refused r; out = lent q; state = cs }
+
+-- what a call leaves of a space of any edition: the one that its header names
+unfoldable pub underAnyBy : Finding → List ℕ → Request → Header → Result (List ℕ)
+underAnyBy find cs q (header.Sound h) =
+    underBy find (sizesOf (h .edition)) (codingOf (h .edition)) cs q (header.Sound h)
+underAnyBy find cs q (header.Refused r) = record { reply = refused r; out = lent q; state = cs }
+
+unfoldable pub spaceStepBy : Finding → List ℕ → Request → Result (List ℕ)
+spaceStepBy find cs q = underAnyBy find cs q (spaceHeader cs)
+
+-- ---- by the sibling chains
+
+abbrev pub under : Sizes → Coding → List ℕ → Request → Header → Result (List ℕ)
+under = underBy searchChildren
+
+abbrev pub underAny : List ℕ → Request → Header → Result (List ℕ)
+underAny = underAnyBy searchChildren
+
+abbrev pub spaceStep : List ℕ → Request → Result (List ℕ)
+spaceStep = spaceStepBy searchChildren
 
 -- what a call leaves of a space of one edition
 unfoldable pub cellStep : Sizes → Coding → List ℕ → Request → Result (List ℕ)
 cellStep z c cs q = under z c cs q (headerOf z cs)
-
--- what a call leaves of a space of any edition: the one that its header names
-unfoldable pub underAny : List ℕ → Request → Header → Result (List ℕ)
-underAny cs q (header.Sound h) = under (sizesOf (h .edition)) (codingOf (h .edition)) cs q (header.Sound h)
-underAny cs q (header.Refused r) = record { reply = refused r; out = lent q; state = cs }
-
-unfoldable pub spaceStep : List ℕ → Request → Result (List ℕ)
-spaceStep cs q = underAny cs q (spaceHeader cs)
 
 -- On the cells `before` the call q answers r, and leaves `out` of the out that was lent to it and `after` of the
 -- cells: the contract of every call. A space that is lent to read alone is afterwards what it was, so there `after` is

@@ -1,4 +1,5 @@
--- What a decision writes into the cells. It can no longer fail.
+-- What a decision writes into the cells. It can no longer fail. A join searches again for each form that it gives, by
+-- the same way of finding a child as its decision.
 use Prim.Native.Nat.{ℕ, _+_, _-_}
 use mathlib.Core.List.{List, [], _∷_, _++_}
 use lib.Dec.{eqb}
@@ -13,10 +14,12 @@ use Rattle.space.specs.declared.Head.{Head}
 use Rattle.space.specs.declared.Header.{Header}
 use Rattle.space.specs.declared.Header.the-variants as header
 use Rattle.space.specs.declared.Subgoal.{Subgoal}
+use Rattle.trie.specs.Siblings.{searchChildren}
+use Rattle.trie.specs.Walks.{Finding}
 use Rattle.trie.specs.Append.{newRoot, appendPath}
 use Rattle.store.specs.Views.{viewOf}
 use Rattle.store.specs.Decisions.{Decision, says, gives, entersSubgoal, entersAnswer, entersEmpty, finishes}
-use Rattle.store.specs.Decisions.{entersAnswers, answeredAt, walkTo}
+use Rattle.store.specs.Decisions.{entersAnswers, answeredAt, walkToBy}
 
 -- a new subgoal is open and has no answer
 abbrev pub newSubgoal : ℕ → ℕ → ℕ → Subgoal
@@ -73,20 +76,32 @@ answerGiven z cs h (finishes s) = cs
 answerGiven z cs h (entersAnswers s ws) = cs
 
 -- a form is given as a single answer is, whatever that comes to
-unfoldable pub formGiven : Sizes → List ℕ → ℕ → Word → Header → List ℕ
-formGiven z cs s w (header.Sound h) = let v = viewOf z cs h in answerGiven z cs h (answeredAt v s w (walkTo v s w))
-formGiven z cs s w (header.Refused r) = cs
+unfoldable pub formGivenBy : Finding → Sizes → List ℕ → ℕ → Word → Header → List ℕ
+formGivenBy find z cs s w (header.Sound h) =
+    let v = viewOf z cs h in answerGiven z cs h (answeredAt v s w (walkToBy find v s w))
+formGivenBy find z cs s w (header.Refused r) = cs
 
 -- each on the cells as the one before left them
-unfoldable pub formsGiven : Sizes → List ℕ → ℕ → List Word → List ℕ
-formsGiven z cs s [] = cs
-formsGiven z cs s (w ∷ ws) = formsGiven z (formGiven z cs s w (headerOf z cs)) s ws
+unfoldable pub formsGivenBy : Finding → Sizes → List ℕ → ℕ → List Word → List ℕ
+formsGivenBy find z cs s [] = cs
+formsGivenBy find z cs s (w ∷ ws) = formsGivenBy find z (formGivenBy find z cs s w (headerOf z cs)) s ws
 
-unfoldable pub change : Sizes → List ℕ → Head → Decision → List ℕ
-change z cs h (says r) = cs
-change z cs h (gives ks) = cs
-change z cs h (entersSubgoal parent last left m) = subgoalEntered z cs h parent last left m
-change z cs h (entersAnswer s parent last left) = pathEntered z cs h s parent last left
-change z cs h (entersEmpty s) = emptyEntered z cs h s
-change z cs h (finishes s) = writes (put (stateCell z (h .«subgoal_offset») s) 1 ∷ []) cs
-change z cs h (entersAnswers s ws) = formsGiven z cs s ws
+unfoldable pub changeBy : Finding → Sizes → List ℕ → Head → Decision → List ℕ
+changeBy find z cs h (says r) = cs
+changeBy find z cs h (gives ks) = cs
+changeBy find z cs h (entersSubgoal parent last left m) = subgoalEntered z cs h parent last left m
+changeBy find z cs h (entersAnswer s parent last left) = pathEntered z cs h s parent last left
+changeBy find z cs h (entersEmpty s) = emptyEntered z cs h s
+changeBy find z cs h (finishes s) = writes (put (stateCell z (h .«subgoal_offset») s) 1 ∷ []) cs
+changeBy find z cs h (entersAnswers s ws) = formsGivenBy find z cs s ws
+
+-- ---- by the sibling chains
+
+abbrev pub formGiven : Sizes → List ℕ → ℕ → Word → Header → List ℕ
+formGiven = formGivenBy searchChildren
+
+abbrev pub formsGiven : Sizes → List ℕ → ℕ → List Word → List ℕ
+formsGiven = formsGivenBy searchChildren
+
+abbrev pub change : Sizes → List ℕ → Head → Decision → List ℕ
+change = changeBy searchChildren

@@ -72,5 +72,6 @@ enteredBelow s parent last left v = answeredNew v s (length left) (entersAnswer 
 abbrev pub answeredFrom : ℕ → ℕ → List ℕ → View → Decision
 answeredFrom s root w v = answeredAt v s w (walk (answerTrie v) root w)
 
-abbrev pub answeredBy : Head → ℕ → ℕ → List ℕ → View → Decision
-answeredBy h s m terms v = answered v s (judged (arityOf (h .edition)) m terms (compacted (arityOf (h .edition)) terms))
+abbrev pub answeredTerms : Head → ℕ → ℕ → List ℕ → View → Decision
+answeredTerms h s m terms v =
+    answered v s (judged (arityOf (h .edition)) m terms (compacted (arityOf (h .edition)) terms))

@@ -1,5 +1,6 @@
 -- What a call comes to, before anything is written: refusals 3 to 11 and 14 to 16 in their order, each record judged
--- where it is read.
+-- where it is read. Call, answer and join search a trie: what they come to is defined once, with the way of finding a
+-- child as a parameter.
 use Prim.Native.Nat.{ℕ, zero, suc, _+_, _-_, min}
 use mathlib.Core.Bool.{Bool, true, false, _&&_}
 use mathlib.Core.List.{List, [], _∷_}
@@ -16,8 +17,8 @@ use Rattle.plain.specs.Joins.{Forms, declined, formed, Side, joinOf}
 use Rattle.space.specs.Judging.{subgoalSound, answerSound}
 use Rattle.space.specs.declared.Subgoal.{Subgoal}
 use Rattle.space.specs.declared.Answer.{Answer}
-use Rattle.trie.specs.Siblings.{Trie}
-use Rattle.trie.specs.Walks.{Walk, whole, stopped, damaged, rootSound, walk}
+use Rattle.trie.specs.Siblings.{Trie, searchChildren}
+use Rattle.trie.specs.Walks.{Walk, whole, stopped, damaged, Finding, rootSound, walkBy}
 use Rattle.trie.specs.Paths.{Path, none, tokens, gather, longest}
 use Rattle.store.specs.Views.{View, subgoalTrie, answerTrie}
 
@@ -82,9 +83,9 @@ calledAt v (whole leaf) m = calledOld v leaf (v .node leaf .link)
 calledAt v (stopped parent last left) m = calledNew v parent last left m
 calledAt v damaged m = refuses 9
 
-unfoldable pub called : View → Reading → Decision
-called v (refused r) = refuses r
-called v (accepted w m) = calledAt v (walk (subgoalTrie v) 0 w) m
+unfoldable pub calledBy : Finding → View → Reading → Decision
+calledBy find v (refused r) = refuses r
+calledBy find v (accepted w m) = calledAt v (walkBy find (subgoalTrie v) 0 w) m
 
 -- ---- answer
 
@@ -116,9 +117,13 @@ answeredAt v s w (whole leaf) = answeredOld v s w leaf (v .node leaf .link)
 answeredAt v s w (stopped parent last left) = answeredNew v s (length left) (entersAnswer s parent last left)
 answeredAt v s w damaged = refuses 9
 
-unfoldable pub answered : View → ℕ → Reading → Decision
-answered v s (refused r) = refuses r
-answered v s (accepted w m) = answeredAt v s w (walk (answerTrie v) (v .subgoal s .root) w)
+-- the search of a form among the answers to s
+abbrev pub walkToBy : Finding → View → ℕ → Word → Walk
+walkToBy find v s w = walkBy find (answerTrie v) (v .subgoal s .root) w
+
+unfoldable pub answeredBy : Finding → View → ℕ → Reading → Decision
+answeredBy find v s (refused r) = refuses r
+answeredBy find v s (accepted w m) = answeredAt v s w (walkToBy find v s w)
 
 -- ---- next
 
@@ -197,10 +202,6 @@ onChains (unbroken us) (unbroken vs) d = d us vs
 unfoldable pub sideIn : View → ℕ → List Word → Side
 sideIn v s ws = record { state = stateOf (v .subgoal s .state); m = v .subgoal s .variables; forms = ws }
 
--- the search of a form among the answers to s
-abbrev pub walkTo : View → ℕ → Word → Walk
-walkTo v s w = walk (answerTrie v) (v .subgoal s .root) w
-
 -- no damaged record was met: a form found whole ends in its answer's leaf, or it is empty and new
 unfoldable pub metSound : View → Word → Walk → Bool
 metSound v w (whole leaf) =
@@ -209,9 +210,9 @@ metSound v w (whole leaf) =
 metSound v w (stopped parent last left) = true
 metSound v w damaged = false
 
-unfoldable pub allSound : View → ℕ → List Word → Bool
-allSound v s [] = true
-allSound v s (w ∷ ws) = metSound v w (walkTo v s w) && allSound v s ws
+unfoldable pub allSoundBy : Finding → View → ℕ → List Word → Bool
+allSoundBy find v s [] = true
+allSoundBy find v s (w ∷ ws) = metSound v w (walkToBy find v s w) && allSoundBy find v s ws
 
 -- the form is not among the answers
 unfoldable pub lacking : View → Walk → Bool
@@ -227,24 +228,24 @@ missing damaged = 0
 
 -- the nodes that forms take, those before them given: each its tokens that were not found, less those that it shares
 -- with a form before it. Nothing is written for it.
-unfoldable pub nodesNeeded : View → ℕ → List Word → List Word → ℕ
-nodesNeeded v s before [] = 0
-nodesNeeded v s before (w ∷ ws) =
-    min (missing (walkTo v s w)) (length w - most before w) + nodesNeeded v s (w ∷ before) ws
+unfoldable pub nodesNeededBy : Finding → View → ℕ → List Word → List Word → ℕ
+nodesNeededBy find v s before [] = 0
+nodesNeededBy find v s before (w ∷ ws) =
+    min (missing (walkToBy find v s w)) (length w - most before w) + nodesNeededBy find v s (w ∷ before) ws
 
 -- and the records: one for each form that is not among the answers and not before it
-unfoldable pub answersNeeded : View → ℕ → List Word → List Word → ℕ
-answersNeeded v s before [] = 0
-answersNeeded v s before (w ∷ ws) =
-    pick (lacking v (walkTo v s w)) (pick (has before w) 0 1) 0 + answersNeeded v s (w ∷ before) ws
+unfoldable pub answersNeededBy : Finding → View → ℕ → List Word → List Word → ℕ
+answersNeededBy find v s before [] = 0
+answersNeededBy find v s before (w ∷ ws) =
+    pick (lacking v (walkToBy find v s w)) (pick (has before w) 0 1) 0 + answersNeededBy find v s (w ∷ before) ws
 
 -- where a form is new the last answer is read; 10 and 11 are for all new forms together
-unfoldable pub joining : View → ℕ → Forms → Decision
-joining v s (declined r) = refuses r
-joining v s (formed ws) =
-    let more = answersNeeded v s [] ws in
-    sound (allSound v s ws && pick (eqb more 0) true (soundLast v s))
-    (pick (leb (v .nodes + nodesNeeded v s [] ws) (v .N))
+unfoldable pub joiningBy : Finding → View → ℕ → Forms → Decision
+joiningBy find v s (declined r) = refuses r
+joiningBy find v s (formed ws) =
+    let more = answersNeededBy find v s [] ws in
+    sound (allSoundBy find v s ws && pick (eqb more 0) true (soundLast v s))
+    (pick (leb (v .nodes + nodesNeededBy find v s [] ws) (v .N))
     (pick (leb (v .answers + more) (v .A)) (entersAnswers s ws) (refuses 11)) (refuses 10))
 
 -- the target's own records are judged with those of the sources
@@ -253,22 +254,48 @@ soundTarget v s = soundSubgoal v s && rootSound (answerTrie v) (v .subgoal s .ro
 
 -- ---- the eight calls
 
-unfoldable pub decide : Coding → View → Request → Decision
-decide c v (call cs) = called v (c .called cs)
-decide c v (answer s cs) =
+unfoldable pub decideBy : Finding → Coding → View → Request → Decision
+decideBy find c v (call cs) = calledBy find v (c .called cs)
+decideBy find c v (answer s cs) =
     known (v .subgoals) s
     (sound (soundSubgoal v s && rootSound (answerTrie v) (v .subgoal s .root))
-    (answered v s (c .answered (v .subgoal s .variables) cs)))
-decide c v (finish s) = known (v .subgoals) s (sound (soundSubgoal v s) (finishes s))
-decide c v (next s a) = known (v .subgoals) s (pick (starting v s a) (onward v s a) (refuses 7))
-decide c v (load a out) = known (v .answers) a (sound (soundPair v a) (loaded c v a (λ w. gives (c .expand w))))
-decide c v (instance a out) =
+    (answeredBy find v s (c .answered (v .subgoal s .variables) cs)))
+decideBy find c v (finish s) = known (v .subgoals) s (sound (soundSubgoal v s) (finishes s))
+decideBy find c v (next s a) = known (v .subgoals) s (pick (starting v s a) (onward v s a) (refuses 7))
+decideBy find c v (load a out) = known (v .answers) a (sound (soundPair v a) (loaded c v a (λ w. gives (c .expand w))))
+decideBy find c v (instance a out) =
     known (v .answers) a
     (sound (soundPair v a) (loaded c v a (λ w. instanced c v (v .answer a .subgoal) (λ u. gives (c .instanceOf u w)))))
-decide c v counts = says (used (record { nodes = v .nodes; subgoals = v .subgoals; answers = v .answers }))
-decide c v (join f g ps s cs) =
+decideBy find c v counts = says (used (record { nodes = v .nodes; subgoals = v .subgoals; answers = v .answers }))
+decideBy find c v (join f g ps s cs) =
     known (v .subgoals) f (known (v .subgoals) g (known (v .subgoals) s
     (sound (soundSubgoal v f && soundSubgoal v g && soundTarget v s)
     (onChains (chainOf c v f) (chainOf c v g) (λ us vs.
-    joining v s (joinOf c (sideIn v f us) (sideIn v g vs) ps (stateOf (v .subgoal s .state))
-    (v .subgoal s .variables) cs))))))
+    joiningBy find v s
+    (joinOf c (sideIn v f us) (sideIn v g vs) ps (stateOf (v .subgoal s .state)) (v .subgoal s .variables) cs))))))
+
+-- ---- by the sibling chains
+
+abbrev pub called : View → Reading → Decision
+called = calledBy searchChildren
+
+abbrev pub walkTo : View → ℕ → Word → Walk
+walkTo = walkToBy searchChildren
+
+abbrev pub answered : View → ℕ → Reading → Decision
+answered = answeredBy searchChildren
+
+abbrev pub allSound : View → ℕ → List Word → Bool
+allSound = allSoundBy searchChildren
+
+abbrev pub nodesNeeded : View → ℕ → List Word → List Word → ℕ
+nodesNeeded = nodesNeededBy searchChildren
+
+abbrev pub answersNeeded : View → ℕ → List Word → List Word → ℕ
+answersNeeded = answersNeededBy searchChildren
+
+abbrev pub joining : View → ℕ → Forms → Decision
+joining = joiningBy searchChildren
+
+abbrev pub decide : Coding → View → Request → Decision
+decide = decideBy searchChildren

@@ -23,15 +23,15 @@ use Rattle.space.specs.Heading.{inRange, capacity, whole, counted, headerOf}
 use Rattle.space.specs.Fresh.{freshCells}
 use Rattle.space.specs.Judging.{follows, nodeSound, bothOrNeither, subgoalSound, answerSound}
 use Rattle.trie.specs.Siblings.{searchSiblings, searchChildren}
-use Rattle.trie.specs.Walks.{walkFrom, walk}
+use Rattle.trie.specs.Walks.{walkBy, walkFromBy}
 use Rattle.trie.specs.Paths.{gather}
 use Rattle.trie.specs.Append.{leadCell, appendNode, appendPath}
-use Rattle.store.specs.Decisions.{calledOld, calledNew, calledAt, called, answeredNew, answeredOld, answeredAt}
-use Rattle.store.specs.Decisions.{answered, starting, handed, onward, onPath, loaded, instanced, headed}
-use Rattle.store.specs.Decisions.{chainFrom, onChains, sideIn, metSound, allSound, lacking, missing}
-use Rattle.store.specs.Decisions.{nodesNeeded, answersNeeded, joining, decide}
-use Rattle.store.specs.Changes.{subgoalEntered, answerEntered, answerGiven, formGiven, formsGiven, change}
-use Rattle.store.specs.Calls.{reply, outAfter, under, cellStep, cellTrace}
+use Rattle.store.specs.Decisions.{calledOld, calledNew, calledAt, calledBy, answeredNew, answeredOld}
+use Rattle.store.specs.Decisions.{answeredAt, answeredBy, starting, handed, onward, onPath, loaded, instanced}
+use Rattle.store.specs.Decisions.{headed, chainFrom, onChains, sideIn, metSound, allSoundBy, lacking, missing}
+use Rattle.store.specs.Decisions.{nodesNeededBy, answersNeededBy, joiningBy, decideBy}
+use Rattle.store.specs.Changes.{subgoalEntered, answerEntered, answerGiven, formGivenBy, formsGivenBy, changeBy}
+use Rattle.store.specs.Calls.{reply, outAfter, underBy, cellStep, cellTrace}
 
 abbrev space : ℕ → ℕ → ℕ → List ℕ
 space n f a = freshCells sizes n f a []
@@ -71,12 +71,12 @@ Damage =
 
 pub join-examples : Joined × Damage
 unfolding trace left lent inRange capacity counted headerOf subgoalWidth answerWidth freshCells follows nodeSound
-    bothOrNeither subgoalSound answerSound searchSiblings searchChildren walkFrom walk gather leadCell appendNode
-    appendPath calledOld calledNew calledAt called answeredNew answeredOld answeredAt answered starting handed onward
-    onPath loaded instanced headed chainFrom onChains sideIn metSound allSound lacking missing nodesNeeded
-    answersNeeded joining decide subgoalEntered answerEntered answerGiven formGiven formsGiven change reply outAfter
-    under cellStep pairsNamed copiesNamed named matching copied along combined before allRead ground joinOf has common
-    most areForms legalForm judged handedOn reading callable predicate compacted compactForm areTerms pairForm
-    formTerms front symbolic tokenOf items entered filled lastOf tailOf into inside collected reads begun applied
-    paired shapeOf arityOf every compact elements pairs numbered renamed met seen rank same whole
+    bothOrNeither subgoalSound answerSound searchSiblings searchChildren walkFromBy walkBy gather leadCell appendNode
+    appendPath calledOld calledNew calledAt calledBy answeredNew answeredOld answeredAt answeredBy starting handed
+    onward onPath loaded instanced headed chainFrom onChains sideIn metSound allSoundBy lacking missing nodesNeededBy
+    answersNeededBy joiningBy decideBy subgoalEntered answerEntered answerGiven formGivenBy formsGivenBy changeBy
+    reply outAfter underBy cellStep pairsNamed copiesNamed named matching copied along combined before allRead ground
+    joinOf has common most areForms legalForm judged handedOn reading callable predicate compacted compactForm
+    areTerms pairForm formTerms front symbolic tokenOf items entered filled lastOf tailOf into inside collected reads
+    begun applied paired shapeOf arityOf every compact elements pairs numbered renamed met seen rank same whole
 join-examples = ((refl, refl, refl, refl, refl), (refl, refl, refl, refl))

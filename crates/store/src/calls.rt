@@ -58,7 +58,7 @@ ghost use Rattle.store.specs.Calls.{Answers};
 ghost use Rattle.convert.specs.Holds.{RoomForForm};
 ghost use Rattle.store.specs.Contracts.{viewIn, Does, AnswersUnder, StoppedAt};
 ghost use Rattle.store.specs.Contracts.{Held, HeldLast, RefusedBy, refusalOf, calledFrom};
-ghost use Rattle.store.specs.Contracts.{enteredBelow, answeredFrom, answeredBy};
+ghost use Rattle.store.specs.Contracts.{enteredBelow, answeredFrom, answeredTerms};
 ghost use Rattle.store.specs.Replies.{saidState, saidCall, saidAnswer, saidFinish};
 
 // The number by which the reader of terms refused; 0 where it did not.
@@ -474,7 +474,7 @@ fn answer_with(
     requires { ⌜ Held (now space) h s g ⌝ }
     requires { ⌜ RoomForForm (now terms) (now vars) (now form) ⌝ }
     ensures { λ r. ⌜
-        Does (now (space .entry)) h (answeredBy h s (g .variables) (now (terms .entry)))
+        Does (now (space .entry)) h (answeredTerms h s (g .variables) (now (terms .entry)))
         (saidAnswer r) (now (space .exit))
         ⌝ }
 {
@@ -489,7 +489,7 @@ fn answer_with(
 fn answer_terms(space: &mut [u32], h: Head, s: usize, g: Subgoal, terms: &[u32]) -> AnswerAnswer
     requires { ⌜ Held (now space) h s g ⌝ }
     ensures { λ r. ⌜
-        Does (now (space .entry)) h (answeredBy h s (g .variables) (now (terms .entry)))
+        Does (now (space .entry)) h (answeredTerms h s (g .variables) (now (terms .entry)))
         (saidAnswer r) (now (space .exit))
         ⌝ }
 {

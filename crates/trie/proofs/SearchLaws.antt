@@ -9,6 +9,7 @@ use Rattle.basis.proofs.Cases.{by-cases}
 use Rattle.space.specs.declared.Node.{Node}
 use Rattle.space.proofs.JudgingLaws.{node-bounds, follows-rises, follows-within}
 use Rattle.trie.specs.Siblings.{Trie, sound, searchSiblings, searchChildren}
+use Rattle.trie.specs.Walks.{Finding}
 use Rattle.trie.specs.declared.Search.{Search}
 use Rattle.trie.specs.declared.Search.the-variants.{Found, Last, Damaged}
 use Rattle.trie.proofs.SearchCases.{search-unsound, search-stray, search-same, search-last, search-next, children-none, children-some}
@@ -112,3 +113,13 @@ children-ended t parent token last h s e =
     let f = search-ended (t .nodes) t parent token (t .at parent .child) last (first-within t parent h s)
     (children-some t parent token (t .at parent) refl c ∙ e) in
     record { parent-within = h; last-within = f .within; no-child = λ l. absurd (let r = f .reached in omega arith); no-sibling = λ _. f .no-sibling })
+
+-- what the laws of the walk ask of a way of finding a child: one that is found is a sound node with that parent and token,
+-- and where none is found the node named is the parent's last child
+pub record Finds (find : Finding) : Type 0 where
+  pub found : (t : Trie) (parent token c : ℕ) → parent < t .nodes → sound t parent ≡ true → find t parent token ≡ Found c → Child t parent token c
+  pub ended : (t : Trie) (parent token last : ℕ) → parent < t .nodes → sound t parent ≡ true → find t parent token ≡ Last last → Ends t parent last
+
+-- the sibling chains
+pub chains-find : Finds searchChildren
+chains-find = record { found = children-found; ended = children-ended }

@@ -13,7 +13,7 @@ use Rattle.space.specs.Judging.{nodeSound}
 use Rattle.space.specs.declared.Node.{Node}
 use Rattle.space.proofs.JudgingLaws.{NodeBounds, node-bounds, node-sound, follows-zero, follows-last, follows-more, follows-within}
 use Rattle.trie.specs.Siblings.{Trie, trieIn, sound, searchSiblings, searchChildren}
-use Rattle.trie.specs.Walks.{Walk, whole, stopped, damaged, walkFrom, walk}
+use Rattle.trie.specs.Walks.{Walk, whole, stopped, damaged, walkFrom, walk, walkBy, walkFromBy}
 use Rattle.trie.specs.Paths.{Path, none, tokens, below, gather}
 use Rattle.trie.proofs.PathLaws.{gather-unsound, gather-root, gather-other, gather-deep, gather-up}
 use Rattle.trie.specs.Append.{newNode, withChild, withSibling, withNode, appendNode, appendPath}
@@ -206,16 +206,16 @@ stopped-parts : {n l p k : ℕ} {ys xs : List ℕ} {y x : ℕ} → stopped n l (
 stopped-parts e = (cc, cc, cc, cc)
 
 walk-stop : (ys : List ℕ) (t : Trie) (n parent last token : ℕ) (xs : List ℕ) → n < t .nodes → sound t n ≡ true → walkFrom t n ys ≡ stopped parent last (token ∷ xs) → Stop t parent last token
-unfolding walkFrom
+unfolding walkFromBy
 walk-stop [] t n parent last token xs h s e = let z : _≡_ {A = ℕ} 0 1 = cc in absurd (omega arith)
 walk-stop (y ∷ ys) t n parent last token xs h s e = by-search (searchChildren t n y) refl (λ c f. walk-stop ys t c parent last token xs)
   where
     by-search : (r : Search) → searchChildren t n y ≡ r → ((c : ℕ) → searchChildren t n y ≡ Found c → c < t .nodes → sound t c ≡ true → walkFrom t c ys ≡ stopped parent last (token ∷ xs) → Stop t parent last token) → Stop t parent last token
     by-search (Found c) f next =
         let d = children-found t n y c h s f in
-        next c f (d .within) (d .judged) (sym (walk-found t n y ys c f) ∙ e)
+        next c f (d .within) (d .judged) (sym (walk-found searchChildren t n y ys c f) ∙ e)
     by-search (Last l) f next =
-        let q = stopped-parts (sym (walk-last t n y ys l f) ∙ e) in
+        let q = stopped-parts (sym (walk-last searchChildren t n y ys l f) ∙ e) in
         let i : n ≡ parent = q .0 in
         let j : y ≡ token = q .2 in
         record {
@@ -224,29 +224,29 @@ walk-stop (y ∷ ys) t n parent last token xs h s e = by-search (searchChildren 
           searched = ap (λ (k : ℕ). searchChildren t k token) (sym i) ∙ ap (searchChildren t n) (sym j) ∙ f ∙ ap Last (q .1);
         }
     by-search Damaged f next =
-        let d = sym (walk-damaged t n y ys f) ∙ e in
+        let d = sym (walk-damaged searchChildren t n y ys f) ∙ e in
         let z : _≡_ {A = ℕ} 0 1 = cc in absurd (omega arith)
 
 -- after one more node, the walk goes through it
 walk-through : (ys : List ℕ) (t t′ : Trie) (n parent last token : ℕ) (xs : List ℕ) → Grown t t′ parent last token → Ends t parent last → sound t parent ≡ true →
     n < t .nodes → sound t n ≡ true → walkFrom t n ys ≡ stopped parent last (token ∷ xs) → walkFrom t′ n ys ≡ walkFrom t′ (t .nodes) xs
-unfolding walkFrom
+unfolding walkFromBy
 walk-through [] t t′ n parent last token xs g e p h s w = let z : _≡_ {A = ℕ} 0 1 = cc in absurd (omega arith)
 walk-through (y ∷ ys) t t′ n parent last token xs g e p h s w = by-search (searchChildren t n y) refl (λ c. walk-through ys t t′ c parent last token xs g e p)
   where
     by-search : (r : Search) → searchChildren t n y ≡ r → ((c : ℕ) → c < t .nodes → sound t c ≡ true → walkFrom t c ys ≡ stopped parent last (token ∷ xs) → walkFrom t′ c ys ≡ walkFrom t′ (t .nodes) xs) → walkFrom t′ n (y ∷ ys) ≡ walkFrom t′ (t .nodes) xs
     by-search (Found c) f next =
         let d = children-found t n y c h s f in
-        walk-found t′ n y ys c (children-again g e n y c h s f) ∙ next c (d .within) (d .judged) (sym (walk-found t n y ys c f) ∙ w)
+        walk-found searchChildren t′ n y ys c (children-again g e n y c h s f) ∙ next c (d .within) (d .judged) (sym (walk-found searchChildren t n y ys c f) ∙ w)
     by-search (Last l) f next =
-        let q = stopped-parts (sym (walk-last t n y ys l f) ∙ w) in
+        let q = stopped-parts (sym (walk-last searchChildren t n y ys l f) ∙ w) in
         let i : n ≡ parent = q .0 in
         let j : y ≡ token = q .2 in
         let f′ : searchChildren t parent token ≡ Last last = ap (λ (k : ℕ). searchChildren t k token) (sym i) ∙ ap (searchChildren t n) (sym j) ∙ f ∙ ap Last (q .1) in
         let a : searchChildren t′ n y ≡ Found (t .nodes) = ap (λ (k : ℕ). searchChildren t′ k y) i ∙ ap (searchChildren t′ parent) j ∙ children-onward g e p f′ in
-        walk-found t′ n y ys (t .nodes) a ∙ ap (walkFrom t′ (t .nodes)) (q .3)
+        walk-found searchChildren t′ n y ys (t .nodes) a ∙ ap (walkFrom t′ (t .nodes)) (q .3)
     by-search Damaged f next =
-        let d = sym (walk-damaged t n y ys f) ∙ w in
+        let d = sym (walk-damaged searchChildren t n y ys f) ∙ w in
         let z : _≡_ {A = ℕ} 0 1 = cc in absurd (omega arith)
 
 pub both-true : (b c : Bool) → b && c ≡ true → (b ≡ true) × (c ≡ true)
@@ -256,14 +256,14 @@ both-true false c e = let z : _≡_ {A = ℕ} 0 1 = cc in absurd (omega arith)
 -- a root at which a walk did not find damage
 root-sound : (t : Trie) (root : ℕ) (ys : List ℕ) (parent last : ℕ) (xs : List ℕ) → walk t root ys ≡ stopped parent last xs →
     (sound t root ≡ true) × (t .at root .parent ≡ root) × (walkFrom t root ys ≡ stopped parent last xs)
-unfolding walk
+unfolding walkBy
 root-sound t root ys parent last xs e =
     by-cases (sound t root && eqb (t .at root .parent) root)
     (λ b. let q = both-true _ _ b in (q .0, eqb-true _ _ (q .1), rw b at e))
     (λ b. let d = rw b at e in let z : _≡_ {A = ℕ} 0 1 = cc in absurd (omega arith))
 
 root-walk : (t : Trie) (root : ℕ) (ys : List ℕ) → sound t root ≡ true → t .at root .parent ≡ root → walk t root ys ≡ walkFrom t root ys
-unfolding walk
+unfolding walkBy
 root-walk t root ys s p = simp (s, eq-eqb _ _ p)
 
 -- the walk that stopped before the tokens left goes on from the new node, whatever holds the records
@@ -293,7 +293,7 @@ cells-grown s nodes links parent last token p l h =
 pub walk-appended : (xs s ys : List ℕ) (nodes links root parent last token : ℕ) → 8 + 5 * (nodes + (length xs + 1)) ≤ length s → root < nodes →
     walk (trieIn sizes s nodes links) root ys ≡ stopped parent last (token ∷ xs) →
     walk (trieIn sizes (appendPath sizes s nodes parent last (token ∷ xs)) (nodes + (length xs + 1)) links) root ys ≡ whole (nodes + length xs)
-unfolding appendPath walkFrom
+unfolding appendPath walkFromBy
 walk-appended [] s ys nodes links root parent last token h r e =
     let d = walk-ends (trieIn sizes s nodes links) root parent last token ys [] r e in
     let p : parent < nodes = d .parent-within in
@@ -312,7 +312,7 @@ walk-appended (x ∷ xs) s ys nodes links root parent last token h r e =
     let c : t′ .at nodes .child ≡ 0 = ap (λ (y : Node). y .child) (new-is g d) in
     let w : walk t′ root ys ≡ stopped nodes 0 (x ∷ xs) =
     walk-grown t t′ root parent last token ys (x ∷ xs) g r e
-    ∙ walk-last t′ nodes x xs 0 (sym (children-none t′ nodes x (t′ .at nodes) refl c)) in
+    ∙ walk-last searchChildren t′ nodes x xs 0 (sym (children-none t′ nodes x (t′ .at nodes) refl c)) in
     let i : nodes + (length (x ∷ xs) + 1) ≡ nodes + 1 + (length xs + 1) = omega arith in
     let j : nodes + 1 + length xs ≡ nodes + length (x ∷ xs) = omega arith in
     ap (λ (k : ℕ). walk (trieIn sizes (appendPath sizes s′ (nodes + 1) nodes 0 (x ∷ xs)) k links) root ys) i

@@ -5,7 +5,7 @@ use mathlib.Core.List.{List, [], _∷_}
 use Rattle.space.specs.Layout.{sizes}
 use Rattle.space.specs.Judging.{follows, nodeSound}
 use Rattle.trie.specs.Siblings.{Trie, trieIn, searchSiblings, searchChildren}
-use Rattle.trie.specs.Walks.{whole, stopped, damaged, walkFrom, walk}
+use Rattle.trie.specs.Walks.{whole, stopped, damaged, walk, walkBy, walkFromBy}
 use Rattle.trie.specs.Paths.{none, tokens, gather, longest}
 use Rattle.trie.specs.Runs as runs
 use Rattle.trie.specs.Runs.{cut, lost, climbed}
@@ -39,7 +39,7 @@ searched-damaged = (refl, refl)
 
 walked : (walk small 0 (40 ∷ 72 ∷ []) ≡ whole 4) × (walk small 0 (40 ∷ 73 ∷ 74 ∷ []) ≡ stopped 1 4 (73 ∷ 74 ∷ []))
     × (walk small 0 [] ≡ whole 0) × (walk small 1 [] ≡ damaged)
-unfolding walk walkFrom searchChildren searchSiblings nodeSound follows
+unfolding walkBy walkFromBy searchChildren searchSiblings nodeSound follows
 walked = (refl, refl, refl, refl)
 
 gathered : (gather longest small 0 4 ≡ tokens (40 ∷ 72 ∷ [])) × (gather longest small 3 4 ≡ none)
@@ -54,5 +54,5 @@ in-runs = (refl, refl, refl)
 
 -- the walk that stopped is whole after its tokens are appended
 appended : walk (trieIn sizes (appendPath sizes cells 5 1 4 (73 ∷ 74 ∷ [])) 7 2) 0 (40 ∷ 73 ∷ 74 ∷ []) ≡ whole 6
-unfolding walk walkFrom searchChildren searchSiblings nodeSound follows appendPath appendNode leadCell
+unfolding walkBy walkFromBy searchChildren searchSiblings nodeSound follows appendPath appendNode leadCell
 appended = refl

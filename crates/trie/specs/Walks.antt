@@ -1,4 +1,5 @@
--- The walk of a list of tokens from a root.
+-- The walk of a list of tokens from a root. The way of finding a child is a parameter: the walk is defined once for
+-- all of them, and without an index it goes by the sibling chains.
 use Prim.Native.Nat.{ℕ}
 use mathlib.Core.Bool.{Bool, _&&_}
 use mathlib.Core.List.{List, [], _∷_}
@@ -23,16 +24,27 @@ onward (Found child) n left next = next child
 onward (Last last) n left next = stopped n last left
 onward Damaged n left next = damaged
 
-unfoldable pub walkFrom : Trie → ℕ → List ℕ → Walk
-walkFrom t n [] = whole n
-walkFrom t n (x ∷ xs) = onward (searchChildren t n x) n (x ∷ xs) (λ child. walkFrom t child xs)
+-- how a trie's child with a given parent and token is found; where there is none, what a new one would follow
+abbrev pub Finding : Type 0
+Finding = Trie → ℕ → ℕ → Search
+
+unfoldable pub walkFromBy : Finding → Trie → ℕ → List ℕ → Walk
+walkFromBy find t n [] = whole n
+walkFromBy find t n (x ∷ xs) = onward (find t n x) n (x ∷ xs) (λ child. walkFromBy find t child xs)
 
 -- a root is its own parent
 abbrev pub rootSound : Trie → ℕ → Bool
 rootSound t root = sound t root && eqb (t .at root .parent) root
 
-unfoldable pub walk : Trie → ℕ → List ℕ → Walk
-walk t root xs = pick (rootSound t root) (walkFrom t root xs) damaged
+unfoldable pub walkBy : Finding → Trie → ℕ → List ℕ → Walk
+walkBy find t root xs = pick (rootSound t root) (walkFromBy find t root xs) damaged
+
+-- by the sibling chains
+abbrev pub walkFrom : Trie → ℕ → List ℕ → Walk
+walkFrom = walkFromBy searchChildren
+
+abbrev pub walk : Trie → ℕ → List ℕ → Walk
+walk = walkBy searchChildren
 
 -- as the code answers: the number of tokens left
 abbrev pub shown : Walk → Walked

@@ -35,8 +35,8 @@ use Rattle.trie.specs.Walks.{Walk, whole, stopped, damaged, rootSound, walk}
 use Rattle.trie.specs.Paths.{Path, tokens, gather, longest}
 use Rattle.trie.specs.Paths as path
 use Rattle.store.specs.Views.{View, viewOf, subgoalTrie, answerTrie}
-use Rattle.store.specs.Decisions.{Decision, says, gives, entersSubgoal, entersAnswer, entersEmpty, finishes, entersAnswers, refuses, soundSubgoal, soundAnswer, soundAnswerOf, sound, known, stateOf, soundLast, whileOpen, calledOld, calledNew, calledAt, called, answeredNew, answeredOld, answeredAt, answered, starting, handed, onward, onPath, loaded, instanced, soundPair, Chain, broken, unbroken, chainOf, onChains, sideIn, allSound, nodesNeeded, answersNeeded, joining, soundTarget, decide}
-use Rattle.store.specs.Calls.{reply, under, underAny, spaceStep}
+use Rattle.store.specs.Decisions.{Decision, says, gives, entersSubgoal, entersAnswer, entersEmpty, finishes, entersAnswers, refuses, soundSubgoal, soundAnswer, soundAnswerOf, sound, known, stateOf, soundLast, whileOpen, calledOld, calledNew, calledAt, called, calledBy, answeredNew, answeredOld, answeredAt, answered, answeredBy, starting, handed, onward, onPath, loaded, instanced, soundPair, Chain, broken, unbroken, chainOf, onChains, sideIn, allSound, nodesNeeded, answersNeeded, joining, joiningBy, soundTarget, decide, decideBy}
+use Rattle.store.specs.Calls.{reply, under, underBy, underAny, underAnyBy, spaceStep, spaceStepBy}
 use Rattle.words.specs.Words.{saidFresh}
 use Rattle.words.specs.Bounded.{Bounded}
 
@@ -202,12 +202,12 @@ module _ (ed : ℕ) where
   callable-small false cs = omega arith
 
   small-called : (v : View) (r : Reading) → SmallReading r → Small (called v r)
-  unfolding called
+  unfolding calledBy
   small-called v (refused r) f = f
   small-called v (accepted w m) f = small-called-at v (walk (subgoalTrie v) 0 w) m
 
   small-answered : (v : View) (s : ℕ) (r : Reading) → SmallReading r → Small (answered v s r)
-  unfolding answered
+  unfolding answeredBy
   small-answered v s (refused r) f = f
   small-answered v s (accepted w m) f = small-answered-at v s w (walk (answerTrie v) (v .subgoal s .root) w)
 
@@ -263,14 +263,14 @@ module _ (ed : ℕ) where
 
   -- a join: reading refuses by 3 to 5, the rule by 8 and 14 to 16
   small-joining : (v : View) (s m : ℕ) (x : Forms) → Read (codingOf ed) m x → Small (joining v s x)
-  unfolding joining
+  unfolding joiningBy
   small-joining v s m (declined r) e = omega (arith, compact-laws (arityOf ed) .answered-refused m (e .0) r (e .1) .1)
   small-joining v s m (formed ws) e =
       small-sound _ (allSound v s ws && pick (eqb (answersNeeded v s [] ws) 0) true (soundLast v s)) (λ q.
       small-tests (leb (v .nodes + nodesNeeded v s [] ws) (v .N)) (leb (v .answers + answersNeeded v s [] ws) (v .A)) (entersAnswers s ws) 11 10 (omega arith) (omega arith) tt)
 
   small-declined : (v : View) (s r : ℕ) → r ≤ 16 → Small (joining v s (declined r))
-  unfolding joining
+  unfolding joiningBy
   small-declined v s r h = h
 
   small-chains : (v : View) (s f g : ℕ) (ps cs : List ℕ) (x y : Chain) → Small (onChains x y (λ us vs. joining v s (joinOf (codingOf ed) (sideIn v f us) (sideIn v g vs) ps (stateOf (v .subgoal s .state)) (v .subgoal s .variables) cs)))
@@ -283,7 +283,7 @@ module _ (ed : ℕ) where
       (λ o. small-joining v s (v .subgoal s .variables) _ (all-read (codingOf ed) (v .subgoal s .variables) _))
 
   decide-small : (v : View) (q : Request) → Small (decide (codingOf ed) v q)
-  unfolding decide
+  unfolding decideBy
   decide-small v (call cs) =
       small-called v ((codingOf ed) .called cs) (judged-small 1 cs (pick (predicate cs) (compacted (arityOf ed) cs) (refused 6)) (callable-small (predicate cs) cs))
   decide-small v (answer s cs) =
@@ -319,7 +319,7 @@ module _ (ed : ℕ) where
   reply-bounded v (entersAnswers s ws) room after f = tt
 
   under-bounded : (s : List ℕ) (q : Request) (h : Header) → SmallHeader h → Bounded (under (sizesOf ed) (codingOf ed) s q h .reply)
-  unfolding under
+  unfolding underBy
   under-bounded s q (header.Sound h) f = reply-bounded (viewOf (sizesOf ed) s h) (decide (codingOf ed) (viewOf (sizesOf ed) s h) q) (length (lent q)) _ (decide-small (viewOf (sizesOf ed) s h) q)
   under-bounded s q (header.Refused r) f = f
 
@@ -328,12 +328,12 @@ unfolding spaceHeader
 any-small s = by-cases (knownEdition (getD s 0 0)) (λ q. rw q (header-small (getD s 0 0) s)) (λ q. rw q (omega arith))
 
 any-bounded : (s : List ℕ) (q : Request) (h : Header) → SmallHeader h → Bounded (underAny s q h .reply)
-unfolding underAny
+unfolding underAnyBy
 any-bounded s q (header.Sound h) f = under-bounded (h .edition) s q (header.Sound h) f
 any-bounded s q (header.Refused r) f = f
 
 pub step-bounded : (s : List ℕ) (q : Request) → Bounded (spaceStep s q .reply)
-unfolding spaceStep
+unfolding spaceStepBy
 step-bounded s q = any-bounded s q (spaceHeader s) (any-small s)
 
 pub fresh-bounded : (e n f a : ℕ) (s : List ℕ) → Bounded (saidFresh (freshAnswerIn e n f a s))

@@ -8,8 +8,8 @@ use Rattle.basis.specs.Editions.{knownEdition}
 use Rattle.space.specs.Layout.{sizes, subgoalWidth, answerWidth}
 use Rattle.space.specs.Heading.{inRange, capacity, whole, counted, headerOf, spaceHeader}
 use Rattle.space.specs.Fresh.{freshCells, freshFits, freshAnswer, freshAnswerIn}
-use Rattle.store.specs.Decisions.{decide}
-use Rattle.store.specs.Calls.{reply, under, underAny, spaceStep}
+use Rattle.store.specs.Decisions.{decideBy}
+use Rattle.store.specs.Calls.{reply, underBy, underAnyBy, spaceStep, spaceStepBy}
 use Rattle.words.specs.Words.{word, saidFresh, counting, countsReply, countsOut, countsOf}
 
 -- a fresh space for four nodes, two subgoals and one answer: 43 cells
@@ -42,7 +42,7 @@ pub calls :
     × (word (spaceStep space (finish 1) .reply) ≡ 263 * 2 ^ 32)
     × (word (spaceStep [] (next 1 0) .reply) ≡ 257 * 2 ^ 32)
 unfolding word freshAnswerIn freshAnswer freshFits freshCells inRange capacity whole counted knownEdition headerOf
-    spaceHeader subgoalWidth answerWidth decide reply under underAny spaceStep
+    spaceHeader subgoalWidth answerWidth decideBy reply underBy underAnyBy spaceStepBy
 calls = (refl, refl, refl, refl, refl)
 
 pub counts :
@@ -56,5 +56,5 @@ pub counts :
     × (word (countsReply (countsOf []) (9 ∷ 9 ∷ [])) ≡ 257 * 2 ^ 32)
     × (countsOut (countsOf []) (9 ∷ 9 ∷ 9 ∷ []) ≡ 9 ∷ 9 ∷ 9 ∷ [])
 unfolding word countsReply countsOut counting freshCells inRange capacity whole counted knownEdition headerOf
-    spaceHeader subgoalWidth answerWidth decide reply under underAny spaceStep
+    spaceHeader subgoalWidth answerWidth decideBy reply underBy underAnyBy spaceStepBy
 counts = (refl, refl, refl, refl, refl, refl)

@@ -1,7 +1,8 @@
 -- `trie::walks::walk_from` meets its contract.
 use Rattle.trie.proofs.WalkCases.{Descent, descent-begin, descent-whole, descent-last, descent-damaged, descent-found}
 use Rattle.trie.specs.Walks.{walkFrom}
-use Rattle.trie.specs.Siblings.{trieIn}
+use Rattle.trie.proofs.SearchLaws.{chains-find}
+use Rattle.trie.specs.Siblings.{trieIn, searchChildren}
 use Rattle.space.specs.Layout.{sizes}
 use lib.ListN.{length}
 use Prim.Native.Nat.{_-_}
@@ -11,13 +12,13 @@ use Rattle.trie.proofs.walks.walk_from.Statement.{statement}
 use Rattle.trie.proofs.walks.walk_from.Tie as tie
 
 abbrev Inv-loop : tie.InvT-loop
-Inv-loop space nodes links start tokens n₀ i₀ n i = Descent (trieIn sizes space nodes links) tokens n i (walkFrom (trieIn sizes space nodes links) start tokens)
+Inv-loop space nodes links start tokens n₀ i₀ n i = Descent searchChildren (trieIn sizes space nodes links) tokens n i (walkFrom (trieIn sizes space nodes links) start tokens)
 
 abbrev μ-loop : tie.MeasureT-loop
 μ-loop space nodes links start tokens n₀ i₀ n i = length tokens - i
 
 loop-holds : tie.Need-loop-holds Inv-loop μ-loop
-loop-holds c = descent-begin _ _ _ (search needs) (search needs)
+loop-holds c = descent-begin _ _ _ _ (search needs) (search needs)
 
 mul-search-children : tie.Need-mul-search-children Inv-loop μ-loop
 mul-search-children c = omega arith
@@ -38,7 +39,7 @@ loop-less : tie.Need-loop-less Inv-loop μ-loop
 loop-less c = omega arith
 
 loop-again : tie.Need-loop-again Inv-loop μ-loop
-loop-again c = descent-found (c .before .before .before .before .before .before .loop .inv) (search needs) (c .before .found .given .0 .0) (cc)
+loop-again c = descent-found (c .before .before .before .before .before .before .loop .inv) (search needs) chains-find (c .before .found .given .0 .0) (cc)
 
 enum-known-found-2 : tie.Need-enum-known-found-2 Inv-loop μ-loop
 enum-known-found-2 c = search needs
