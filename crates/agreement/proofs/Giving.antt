@@ -24,7 +24,8 @@ use Rattle.plain.proofs.JoinLaws.{taken, ground-empty}
 use Rattle.space.specs.Layout.{Sizes}
 use Rattle.space.specs.Heading.{headerOf}
 use Rattle.space.specs.declared.Head.{Head}
-use Rattle.trie.specs.Walks.{Walk, whole}
+use Rattle.trie.specs.Walks.{Walk, whole, Finding}
+use Rattle.trie.proofs.IndexLaws.{AsChains}
 use Rattle.store.specs.Views.{View, viewOf}
 use Rattle.store.specs.Decisions as decisions
 use Rattle.store.specs.Decisions.{Decision, answeredAt, walkTo, metSound, allSound, allSoundBy, lacking, missing, nodesNeeded, nodesNeededBy, answersNeeded, answersNeededBy}
@@ -32,7 +33,7 @@ use Rattle.store.proofs.JoinCases.{given-written}
 use Rattle.store.specs.Changes.{answerGiven, formGiven, formGivenBy, formsGiven, formsGivenBy}
 use Rattle.agreement.proofs.TrieWalks.{Walked, ends, stops}
 use Rattle.agreement.proofs.Numberings.{shared-members}
-use Rattle.agreement.proofs.SameRecords.{Same, different, link-answered, walked-answer, answer-judged, nodes-count}
+use Rattle.agreement.proofs.SameRecords.{Same, different, link-answered, walked-answer, answer-as-chains, answer-judged, nodes-count}
 use Rattle.agreement.proofs.Agreeing.{Agrees}
 use Rattle.agreement.proofs.Answering.{answered-held, nodes-more, answered-read}
 use Rattle.agreement.proofs.Holding.{Cells, Holds, agrees-answers}
@@ -146,3 +147,26 @@ module _ (z : Sizes) (c : Coding) (cells : Cells z) (laws : CodingLaws c) (s : �
       form-holds t cs k high ready w (e .0 .1) (e .0 .0) (e .0 .2) (omega (arith, more .0)) (omega (arith, more .1)) in
       forms-hold ws u (formGiven z cs s w (headerOf z cs)) here high′ (given-taking t s low high w ready (ground-empty c laws (subgoalAt t s .m) (e .0 .0) w (e .0 .1) (e .0 .2))) (rw (kept .2) (e .1))
       (subst (λ (m : ℕ). nodes (entered u s ws) ≤ m) (sym (kept .0)) room) (subst (λ (m : ℕ). length (entered u s ws .answers) ≤ m) (sym (kept .1)) free)
+
+  -- and another way of finding a child gives them alike
+  module _ (find : Finding) (as-chains : AsChains find) where
+    form-same : (t : Table) (cs : List ℕ) → Holds z c t cs → s ≤ length (t .subgoals) → (w : Word) → formGivenBy find z cs s w (headerOf z cs) ≡ formGiven z cs s w (headerOf z cs)
+    unfolding formGivenBy
+    form-same t cs k high w =
+        let h : Head = k .head in
+        rw (k .sound) (ap (λ (x : Walk). answerGiven z cs h (answeredAt (viewOf z cs h) s w x)) (answer-as-chains c laws t (viewOf z cs h) (k .same) s low high find as-chains w))
+
+    pub forms-same : (ws : List Word) (t : Table) (cs : List ℕ) → Holds z c t cs → s ≤ length (t .subgoals) → Taking t s → Readable c (subgoalAt t s .m) ws
+        → nodes (entered t s ws) ≤ t .N → length (entered t s ws .answers) ≤ t .A → formsGivenBy find z cs s ws ≡ formsGiven z cs s ws
+    unfolding entered formsGivenBy
+    forms-same [] t cs k high ready e room free = refl
+    forms-same (w ∷ ws) t cs k high ready e room free =
+        let u : Table = given t s w in
+        let kept = given-stays t s low high w in
+        let high′ : s ≤ length (u .subgoals) = rw (given-subgoals t s low high w) high in
+        let more = entering u s ws low high′ in
+        let here : Holds z c u (formGiven z cs s w (headerOf z cs)) =
+        form-holds t cs k high ready w (e .0 .1) (e .0 .0) (e .0 .2) (omega (arith, more .0)) (omega (arith, more .1)) in
+        ap (λ (ds : List ℕ). formsGivenBy find z ds s ws) (form-same t cs k high w)
+        ∙ forms-same ws u (formGiven z cs s w (headerOf z cs)) here high′ (given-taking t s low high w ready (ground-empty c laws (subgoalAt t s .m) (e .0 .0) w (e .0 .1) (e .0 .2))) (rw (kept .2) (e .1))
+        (subst (λ (m : ℕ). nodes (entered u s ws) ≤ m) (sym (kept .0)) room) (subst (λ (m : ℕ). length (entered u s ws .answers) ≤ m) (sym (kept .1)) free)

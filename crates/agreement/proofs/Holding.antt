@@ -1,5 +1,5 @@
 -- Cells that hold a table, and what one call on them leaves.
-use mathlib.Core.Path.{_≡_}
+use mathlib.Core.Path.{_≡_, refl}
 use mathlib.Core.List.{List}
 use Prim.Native.Nat.{ℕ}
 use lib.ListN.{length}
@@ -12,11 +12,13 @@ use Rattle.space.specs.Fresh.{freshAnswer, freshSpace}
 use Rattle.space.specs.declared.Head.{Head}
 use Rattle.space.specs.declared.Header.the-variants as header
 use Rattle.space.specs.declared.FreshAnswer.the-variants.{Done}
-use Rattle.store.specs.Views.{viewOf}
+use Rattle.trie.specs.Walks.{Finding}
+use Rattle.trie.proofs.IndexLaws.{AsChains}
+use Rattle.store.specs.Views.{View, viewOf}
 use Rattle.store.specs.Decisions.{Decision}
-use Rattle.store.specs.Changes.{change}
+use Rattle.store.specs.Changes.{change, changeBy}
 use Rattle.store.specs.Calls.{usedAnswers, reply, outAfter, countedCells}
-use Rattle.agreement.specs.Records.{Alike, freshView, changedView, Fits}
+use Rattle.agreement.specs.Records.{Alike, freshView, changedView, Fits, says-fits, gives-fits, subgoal-fits, answer-fits, empty-fits, finish-fits}
 use Rattle.agreement.proofs.SameRecords.{Same, same-alike}
 use Rattle.agreement.proofs.Agreeing.{Agrees}
 
@@ -35,11 +37,23 @@ pub record Holds (z : Sizes) (c : Coding) (t : Table) (cs : List ℕ) : Type 0 w
   pub sound : headerOf z cs ≡ header.Sound head
   pub same : Same c t (viewOf z cs head)
 
--- what the plain table gives and the decision on the cells: the same answer, the same out, and cells that hold the table left
+-- what the plain table gives and the decision on the cells: the same answer, the same out, and cells that hold the table
+-- left, whichever way of finding a child wrote them
 pub record AnswersAlike (z : Sizes) (c : Coding) (cs : List ℕ) (h : Head) (out : List ℕ) (r : Result Table) (d : Decision) : Type 0 where
   pub replies : reply (viewOf z cs h) d (length out) (usedAnswers (change z cs h d)) ≡ r .reply
   pub leaves : outAfter d out ≡ r .out
   pub holds : Holds z c (r .state) (change z cs h d)
+  pub change-same : (find : Finding) → AsChains find → changeBy find z cs h d ≡ change z cs h d
+
+-- a decision that fits is written alike by any: it names what was found
+fits-same : (find : Finding) (z : Sizes) (cs : List ℕ) (h : Head) (v : View) {d : Decision} → Fits v d → changeBy find z cs h d ≡ change z cs h d
+unfolding changeBy
+fits-same find z cs h v (says-fits r) = refl
+fits-same find z cs h v (gives-fits ks) = refl
+fits-same find z cs h v (subgoal-fits parent last left m a b e f g) = refl
+fits-same find z cs h v (answer-fits s parent last left a b e f g i j k) = refl
+fits-same find z cs h v (empty-fits s a b e f g) = refl
+fits-same find z cs h v (finish-fits s a b) = refl
 
 -- where the decision fits and makes the same records
 pub agrees-answers : (z : Sizes) (c : Coding) → Cells z → (cs : List ℕ) (h : Head) → headerOf z cs ≡ header.Sound h → {out : List ℕ} {r : Result Table} {d : Decision}
@@ -54,4 +68,5 @@ agrees-answers z c cells cs h e {out} {r} {d} a =
         sound = more .1;
         same = same-alike c (r .state) (changedView (viewOf z cs h) d) (viewOf z (change z cs h d) (more .0)) (a .same) (more .2);
       };
+      change-same = λ find as-chains. fits-same find z cs h (viewOf z cs h) (a .fits);
     }

@@ -32,7 +32,7 @@ use Rattle.agreement.proofs.SameRecords.{Same, same-counts, nodes-count
 use Rattle.agreement.proofs.Agreeing.{agrees-says}
 use Rattle.agreement.proofs.Holding.{Cells, Holds, AnswersAlike, agrees-answers}
 use Rattle.agreement.proofs.Chains.{chain-forms}
-use Rattle.agreement.proofs.Giving.{all-judged, needed-nodes, needed-answers, forms-hold}
+use Rattle.agreement.proofs.Giving.{all-judged, needed-nodes, needed-answers, forms-hold, forms-same}
 
 either : (b : Bool) → pick b true true ≡ true
 either true = refl
@@ -76,7 +76,12 @@ module _ (z : Sizes) (c : Coding) (cells : Cells z) (laws : CodingLaws c) (t : T
         let left : Holds z c u cs′ = forms-hold z c cells laws s low ws t cs (record { head = h; sound = e; same = S }) high (inl is-open) k room free in
         let count : countedCells cs′ ≡ counted u = cells .cells-counts cs′ (left .head) (left .sound) ∙ sym (same-counts c laws u (viewOf z cs′ (left .head)) (left .same)) in
         let used : usedAnswers cs′ ≡ length (u .answers) = ap (λ (n : Counts). n .answers) count in
-        record { replies = rw (used, S .answers); leaves = refl; holds = left }
+        record {
+          replies = rw (used, S .answers);
+          leaves = refl;
+          holds = left;
+          change-same = λ find as-chains. forms-same z c cells laws s low find as-chains ws t cs (record { head = h; sound = e; same = S }) high (inl is-open) k room free;
+        }
 
     -- every form or none
     joining-formed : subgoalAt t s .state ≡ Open → (ws : List Word) → Readable c (subgoalAt t s .m) ws → Both (table.joining t s (formed ws)) (decisions.joining v s (formed ws))

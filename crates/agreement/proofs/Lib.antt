@@ -22,6 +22,8 @@ pub mod CallLists
 pub mod Following
 pub mod Untouched
 pub mod Theorem
+pub mod IndexSteps
+pub mod IndexBuilt
 pub mod Frame
 pub mod Pigeons
 pub mod RisingChains
@@ -37,6 +39,7 @@ pub mod TableRead
 pub mod Order
 pub mod ReadingAgain
 pub mod WholeSpaces
+pub mod IndexWhole
 pub mod Faults
 pub mod Hollow
 pub mod Histories

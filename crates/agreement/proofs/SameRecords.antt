@@ -30,14 +30,15 @@ use Rattle.space.specs.declared.Subgoal.{Subgoal}
 use Rattle.space.specs.declared.Answer.{Answer}
 use Rattle.space.proofs.JudgingLaws.{SubgoalBounds, AnswerBounds}
 use Rattle.trie.specs.Append.{newRoot}
-use Rattle.trie.specs.Walks.{rootSound, walk}
+use Rattle.trie.specs.Walks.{Finding, rootSound, walk, walkBy}
 use Rattle.trie.specs.Paths.{tokens, gather, longest}
+use Rattle.trie.proofs.IndexLaws.{AsChains}
 use Rattle.store.specs.Views.{View, subgoalTrie, answerTrie}
 use Rattle.store.specs.Decisions.{stateOf, soundSubgoal, soundAnswer, soundAnswerOf, soundLast}
 use Rattle.agreement.specs.Records.{Alike, freshView}
 use Rattle.agreement.proofs.Numberings.{Numbering, numbering-made}
 use Rattle.agreement.proofs.TrieNodes.{Tries, linked-equal, tries-linked, tries-root}
-use Rattle.agreement.proofs.TrieWalks.{follows-after, Walked, walked, root-judged, gather-key}
+use Rattle.agreement.proofs.TrieWalks.{follows-after, Walked, walked, walk-as-chains, root-judged, gather-key}
 use Rattle.agreement.proofs.TrieLinks.{Links}
 
 -- ---- the relation
@@ -234,14 +235,14 @@ module _ (c : Coding) (laws : CodingLaws c) (t : Table) (v : View) (S : Same c t
   link-answered zero h i w b e = absurd (omega arith)
   link-answered (suc s) h i w b e = S .links i b ∙ rw e (unfold linkOf in refl)
 
-  called-links : (i : ℕ) (w : Word) → i < v .nodes → key K i ≡ 0 ∷ w → v .node i .link ≤ v .subgoals
+  pub called-links : (i : ℕ) (w : Word) → i < v .nodes → key (S .K) i ≡ 0 ∷ w → v .node i .link ≤ v .subgoals
   called-links i w h e =
       let l = link-called i w h e in
       by-cases (has (calledForms (t .subgoals)) w)
       (λ z. let p = subgoalOf-some t w z in omega (arith, p .high, S .subgoals))
       (λ z. let p = subgoalOf-none t w z in omega arith)
 
-  answered-links : (s : ℕ) → 0 < s → (i : ℕ) (w : Word) → i < v .nodes → key K i ≡ s ∷ w → v .node i .link ≤ v .answers
+  pub answered-links : (s : ℕ) → 0 < s → (i : ℕ) (w : Word) → i < v .nodes → key (S .K) i ≡ s ∷ w → v .node i .link ≤ v .answers
   answered-links s h i w b e =
       let l = link-answered s h i w b e in
       by-cases (has (answersTo (t .answers) s) w)
@@ -253,6 +254,10 @@ module _ (c : Coding) (laws : CodingLaws c) (t : Table) (v : View) (S : Same c t
   pub walked-call : (w : Word) → Walked (S .K) (v .node) (v .nodes) 0 w (walk (subgoalTrie v) 0 w)
   walked-call w = walked K (v .node) (v .nodes) (S .tries) different (v .subgoals) 0 called-links 0 w (S .some) (S .origin)
 
+  pub call-as-chains : (find : Finding) → AsChains find → (w : Word) → walkBy find (subgoalTrie v) 0 w ≡ walk (subgoalTrie v) 0 w
+  call-as-chains find as-chains w =
+      walk-as-chains K (v .node) (v .nodes) (S .tries) different (v .subgoals) 0 called-links find as-chains 0 w (S .some) (S .origin)
+
   module _ (s : ℕ) (low : 0 < s) (high : s ≤ length (t .subgoals)) where
     pub answer-root-judged : rootSound (answerTrie v) (v .subgoal s .root) ≡ true
     answer-root-judged =
@@ -263,6 +268,12 @@ module _ (c : Coding) (laws : CodingLaws c) (t : Table) (v : View) (S : Same c t
     walked-answer w =
         let o = S .subgoal s low high in
         walked K (v .node) (v .nodes) (S .tries) different (v .answers) s (answered-links s low) (v .subgoal s .root) w (o .root-in) (o .root-key)
+
+    pub answer-as-chains : (find : Finding) → AsChains find → (w : Word)
+        → walkBy find (answerTrie v) (v .subgoal s .root) w ≡ walk (answerTrie v) (v .subgoal s .root) w
+    answer-as-chains find as-chains w =
+        let o = S .subgoal s low high in
+        walk-as-chains K (v .node) (v .nodes) (S .tries) different (v .answers) s (answered-links s low) find as-chains (v .subgoal s .root) w (o .root-in) (o .root-key)
 
     -- ---- a subgoal record
 

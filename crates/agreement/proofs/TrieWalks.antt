@@ -17,10 +17,11 @@ use Rattle.space.specs.Judging.{follows}
 use Rattle.space.specs.declared.Node.{Node}
 use Rattle.space.proofs.JudgingLaws.{follows-zero, node-sound}
 use Rattle.trie.specs.Siblings.{Trie, sound, searchSiblings, searchChildren}
-use Rattle.trie.specs.Walks.{Walk, whole, stopped, rootSound, walkFrom, walk, walkBy, walkFromBy}
+use Rattle.trie.specs.Walks.{Walk, whole, stopped, Finding, rootSound, walkFrom, walk, walkBy, walkFromBy}
 use Rattle.trie.specs.Paths.{tokens, below, gather}
 use Rattle.trie.specs.declared.Search.the-variants.{Found, Last}
 use Rattle.trie.proofs.PathLaws.{gather-root, gather-up}
+use Rattle.trie.proofs.IndexLaws.{AsChains, walk-alike}
 use Rattle.agreement.proofs.TrieNodes.{par, Kind, isRoot, isChild, nextOf, Tries, parent-most, LastOf, Stop, bare, behind}
 
 -- ---- a number that follows another
@@ -33,6 +34,12 @@ pub follows-after : (f : ℕ → ℕ) (n i x : ℕ) → follows n i (after f n i
 follows-after f n i x = by-cases (eqb (after f n i x) 0)
     (λ e. ap (follows n i) (eqb-true (after f n i x) 0 e) ∙ follows-zero n i)
     (λ e. let c = after-found f n i x (eqb-false _ _ e) in follows-rising n i (after f n i x) (c .above) (c .below))
+
+found-one : {a b : ℕ} → Found a ≡ Found b → a ≡ b
+found-one e = cc
+
+found-not : (a b : ℕ) → Last a ≡ Found b → ⊥
+found-not a b e = let z : _≡_ {A = ℕ} 0 1 = cc in omega arith
 
 -- ---- what a walk comes to, by the keys
 
@@ -76,6 +83,19 @@ module _ (K : List Word) (nd : ℕ → Node) (n : ℕ) (r : Tries K nd n) (d : D
       go : Kind K nd c → key K c ≡ key K p ++ (nd c .token ∷ [])
       go (isRoot s q z k) = absurd (omega arith)
       go (isChild q k) = k ∙ rw e
+
+  -- a parent has one child for each token
+  pub child-one : (p t a b : ℕ) → a < n → p < a → par nd a ≡ p → nd a .token ≡ t → b < n → p < b → par nd b ≡ p → nd b .token ≡ t → a ≡ b
+  child-one p t a b ha pa ea ta hb pb eb tb =
+      d a b (omega (arith, r .keys)) (omega (arith, r .keys))
+      (key-of p a ha pa ea ∙ ap (λ (x : ℕ). key K p ++ (x ∷ [])) (ta ∙ sym tb) ∙ sym (key-of p b hb pb eb))
+
+  pub child-up : (i : ℕ) → i < n → (par nd i ≡ i → ⊥) → par nd i < i
+  child-up i h e = go (r .kind i h)
+    where
+      go : Kind K nd i → par nd i < i
+      go (isRoot s p t k) = absurd (e p)
+      go (isChild p k) = p
 
   next-sibling : (p c : ℕ) → c < n → p < c → par nd c ≡ p → nd c .sibling ≡ after (par nd) n c p
   next-sibling p c h b e = r .sibling c h ∙ rw (e, ne-eqb p c (λ z. omega arith))
@@ -190,6 +210,36 @@ module _ (K : List Word) (nd : ℕ → Node) (n : ℕ) (r : Tries K nd n) (d : D
         let v = siblings-last k p t (after (par nd) n c p) tp hn
         (record { above = omega (arith, ch .above, a .above); below = a .below; under = a .under }) (omega (arith, a .above)) in
         (v .0, siblings-on k p t c (node-judged c (ch .below) (in-child p c tp ch)) (ch .under) h z ∙ ap (λ (x : ℕ). searchSiblings k T p t x) s ∙ v .1, v .2)))
+
+    -- a node of this parent and token is what the search ends with
+    pub search-child : (p t x : ℕ) → InTrie p → p < x → x < n → par nd x ≡ p → nd x .token ≡ t → (sound T x ≡ true) × (searchChildren T p t ≡ Found x)
+    search-child p t x tp above below e u =
+        let k = key-of p x below above e in
+        let o = search-own x below (rw e tp) (rw e above) in
+        (node-judged x below (child-in p (nd x .token) x tp k), rw (e, u) at o)
+
+    -- what the search ends with is a node of this trie
+    pub search-meets : (p t c : ℕ) → p < n → InTrie p → searchChildren T p t ≡ Found c → (c < n) × InTrie c
+    unfolding searchChildren
+    search-meets p t c h tp e = by-cases (has K (key K p ++ (t ∷ [])))
+        (λ k. let f = has-place K (key K p ++ (t ∷ [])) k in
+        let hj : f .0 < n = omega (arith, r .keys, f .1) in
+        let cj = child-of p t (f .0) h hj (f .2) in
+        let o : searchChildren T p t ≡ Found (f .0) = search-child p t (f .0) tp (cj .above) hj (cj .parent) (cj .token) .1 in
+        let same : f .0 ≡ c = found-one (sym o ∙ e) in
+        (rw (← same) hj, rw (← same) (child-in p t (f .0) tp (f .2))))
+        (λ k. by-cases (eqb (nd p .child) 0)
+        (λ z. absurd (found-not 0 c (rw z at e)))
+        (λ z. let v = siblings-last n p t (nd p .child) tp k (first-of p h (eqb-false _ _ z)) (omega arith) in
+        absurd (found-not (v .0) c (sym (v .1) ∙ (rw z at e)))))
+
+    -- so a walk by another way of finding is the walk by the chains
+    pub walk-as-chains : (find : Finding) → AsChains find → (p : ℕ) (w : Word) → p < n → key K p ≡ s ∷ [] → walkBy find T p w ≡ walk T p w
+    walk-as-chains find as-chains p w h e =
+        walk-alike find T (λ i. (i < n) × InTrie i)
+        (λ i x m. as-chains T i x (λ c k. search-child i x c (m .1) (k .above) (k .below) (k .parent-is) (k .token-is)))
+        (λ i x c m f. search-meets i x c (m .0) (m .1) f)
+        p w (h, ([], e))
 
     -- the clauses of the walk as equations
     walk-bare : (p t : ℕ) (w : Word) → nd p .child ≡ 0 → walkFrom T p (t ∷ w) ≡ stopped p 0 (t ∷ w)

@@ -108,7 +108,7 @@ module _ (e : ℕ) (known : knownEdition e ≡ true) where
     edition-in cs (k .head) (k .sound),
   )
 
-  space-holds : (cs : List ℕ) (h : Head) → headerOf (sizesOf e) cs ≡ header.Sound h → wholeSpace cs ≡ true → HeldIn (tableOf cs) cs
+  pub space-holds : (cs : List ℕ) (h : Head) → headerOf (sizesOf e) cs ≡ header.Sound h → wholeSpace cs ≡ true → Holds (sizesOf e) (codingOf e) (tableOf cs) cs
   space-holds cs h s w =
       subst (λ (t : Table). HeldIn t cs) (sym (table-in cs h s))
       (whole-holds (sizesOf e) (codingOf e) cells-in (compact-laws (arityOf e)) (compact-again (arityOf e)) spaceStep (deciding e known) cs (sym (whole-in cs h s) ∙ w))
@@ -117,7 +117,7 @@ module _ (e : ℕ) (known : knownEdition e ≡ true) where
   left-in t cs qs k = left-held (sizesOf e) (codingOf e) cells-in (compact-laws (arityOf e)) (compact-again (arityOf e)) spaceStep (deciding e known) t cs qs k
 
 -- a space that passes names an edition that there is, and its header is sound in it
-abbrev KnownSpace : List ℕ → Type 0
+abbrev pub KnownSpace : List ℕ → Type 0
 KnownSpace cs = (knownEdition (editionOf cs) ≡ true) × ((h : Head) × (headerOf (sizesOf (editionOf cs)) cs ≡ header.Sound h))
 
 sound-header : (cs : List ℕ) (x : Header) → wholeAny cs x ≡ true → (h : Head) × (x ≡ header.Sound h)
@@ -125,7 +125,7 @@ unfolding wholeAny
 sound-header cs (header.Sound h) w = (h, refl)
 sound-header cs (header.Refused r) w = absurd (false≢true w)
 
-whole-known : (cs : List ℕ) → wholeSpace cs ≡ true → KnownSpace cs
+pub whole-known : (cs : List ℕ) → wholeSpace cs ≡ true → KnownSpace cs
 unfolding wholeSpace spaceHeader
 whole-known cs w = by-cases (knownEdition (editionOf cs))
     (λ k. (k, sound-header cs (headerOf (sizesOf (editionOf cs)) cs) (rw k at w)))

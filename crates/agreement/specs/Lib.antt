@@ -3,6 +3,7 @@ pub mod Promise
 pub mod Consequences
 pub mod Order
 pub mod Whole
+pub mod Indexed
 pub mod Faults
 pub mod WholeExamples
 pub mod Hollow

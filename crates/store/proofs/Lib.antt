@@ -5,3 +5,4 @@ pub mod CallsCases
 pub mod CallsAnswers
 pub mod AnswersLaws
 pub mod JoinCases
+pub mod FindingLaws

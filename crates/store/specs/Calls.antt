@@ -16,6 +16,7 @@ use Rattle.space.specs.declared.Header.{Header}
 use Rattle.space.specs.declared.Header.the-variants as header
 use Rattle.trie.specs.Siblings.{searchChildren}
 use Rattle.trie.specs.Walks.{Finding}
+use Rattle.trie.specs.Index.{searchIndexed}
 use Rattle.store.specs.Views.{View, viewOf}
 use Rattle.store.specs.Decisions.{Decision, says, gives, entersSubgoal, entersAnswer, entersEmpty, finishes}
 use Rattle.store.specs.Decisions.{entersAnswers, decideBy}
@@ -62,6 +63,10 @@ underAnyBy find cs q (header.Refused r) = record { reply = refused r; out = lent
 
 unfoldable pub spaceStepBy : Finding → List ℕ → Request → Result (List ℕ)
 spaceStepBy find cs q = underAnyBy find cs q (spaceHeader cs)
+
+-- with an index of these cells; one of no cells is none
+abbrev pub indexedStep : List ℕ → List ℕ → Request → Result (List ℕ)
+indexedStep index = spaceStepBy (searchIndexed index)
 
 -- ---- by the sibling chains
 

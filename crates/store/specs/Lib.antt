@@ -2,7 +2,9 @@ pub mod Views
 pub mod Decisions
 pub mod Changes
 pub mod Calls
+pub mod Building
 pub mod Contracts
 pub mod Replies
 pub mod Examples
 pub mod JoinExamples
+pub mod BuildExamples

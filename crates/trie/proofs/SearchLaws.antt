@@ -48,7 +48,7 @@ pub record Child (t : Trie) (parent token n : ℕ) : Type 0 where
   pub parent-is : t .at n .parent ≡ parent
   pub token-is : t .at n .token ≡ token
 
-step-found : {t : Trie} {parent token n c : ℕ} {rest r : Search} → Step t parent token n rest r → n < t .nodes → r ≡ Found c →
+pub step-found : {t : Trie} {parent token n c : ℕ} {rest r : Search} → Step t parent token n rest r → n < t .nodes → r ≡ Found c →
     (t .at n .sibling < t .nodes → rest ≡ Found c → Child t parent token c) → Child t parent token c
 step-found hurt h e again = let z : _≡_ {A = ℕ} 0 1 = cc in absurd (omega arith)
 step-found {n = n} {c = c} (same s p q) h e again = let f : n ≡ c = cc in rw (← f) (record { within = h; judged = s; parent-is = p; token-is = q })
@@ -80,7 +80,7 @@ pub record LastChild (t : Trie) (from n : ℕ) : Type 0 where
   pub reached : from ≤ n
   pub no-sibling : t .at n .sibling ≡ 0
 
-step-ended : {t : Trie} {parent token n l : ℕ} {rest r : Search} → Step t parent token n rest r → n < t .nodes → r ≡ Last l →
+pub step-ended : {t : Trie} {parent token n l : ℕ} {rest r : Search} → Step t parent token n rest r → n < t .nodes → r ≡ Last l →
     (t .at n .sibling < t .nodes → rest ≡ Last l → LastChild t (t .at n .sibling) l) → LastChild t n l
 step-ended hurt h e again = let z : _≡_ {A = ℕ} 0 1 = cc in absurd (omega arith)
 step-ended (same s p q) h e again = let z : _≡_ {A = ℕ} 0 1 = cc in absurd (omega arith)

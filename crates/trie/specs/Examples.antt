@@ -13,7 +13,7 @@ use Rattle.trie.specs.Append.{leadCell, appendNode, appendPath}
 use Rattle.trie.specs.declared.Search.the-variants.{Found, Last, Damaged}
 
 -- token, child, sibling, parent, link; after the header's 8 cells
-abbrev cells : List ℕ
+abbrev pub cells : List ℕ
 cells = 1 ∷ 5 ∷ 2 ∷ 0 ∷ 8 ∷ 0 ∷ 0 ∷ 0
     ∷ 0 ∷ 1 ∷ 0 ∷ 0 ∷ 0
     ∷ 40 ∷ 2 ∷ 0 ∷ 0 ∷ 0
@@ -23,7 +23,7 @@ cells = 1 ∷ 5 ∷ 2 ∷ 0 ∷ 8 ∷ 0 ∷ 0 ∷ 0
     ∷ 9 ∷ 9 ∷ 9 ∷ 9 ∷ 9
     ∷ 9 ∷ 9 ∷ 9 ∷ 9 ∷ 9 ∷ []
 
-abbrev small : Trie
+abbrev pub small : Trie
 small = trieIn sizes cells 5 2
 
 searched : (searchChildren small 1 72 ≡ Found 4) × (searchChildren small 1 73 ≡ Last 4)

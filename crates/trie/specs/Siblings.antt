@@ -25,15 +25,20 @@ trieIn z cs nodes links = record { at = nodeIn z cs; nodes = nodes; links = link
 abbrev pub sound : Trie → ℕ → Bool
 sound t n = nodeSound (t .nodes) (t .links) n (t .at n)
 
--- from child n of `parent` on: the first sibling with the token, or the last sibling. Each node is judged whole before
--- its token is compared. Siblings rise, so no chain has more steps than there are nodes.
-unfoldable pub searchSiblings : ℕ → Trie → ℕ → ℕ → ℕ → Search
-searchSiblings zero t parent token n = Damaged
-searchSiblings (suc steps) t parent token n =
-    let rest = searchSiblings steps t parent token (t .at n .sibling) in
+-- child n of `parent`, and what the search among the siblings behind it gives. The node is judged whole before its
+-- token is compared.
+abbrev pub atSibling : Trie → ℕ → ℕ → ℕ → Search → Search
+atSibling t parent token n rest =
     pick (sound t n && eqb (t .at n .parent) parent)
     (pick (eqb (t .at n .token) token) (Found n) (pick (eqb (t .at n .sibling) 0) (Last n) rest))
     Damaged
+
+-- from child n of `parent` on: the first sibling with the token, or the last sibling. Siblings rise, so no chain has
+-- more steps than there are nodes.
+unfoldable pub searchSiblings : ℕ → Trie → ℕ → ℕ → ℕ → Search
+searchSiblings zero t parent token n = Damaged
+searchSiblings (suc steps) t parent token n =
+    atSibling t parent token n (searchSiblings steps t parent token (t .at n .sibling))
 
 -- among all children; the last one is 0 where there is none
 unfoldable pub searchChildren : Trie → ℕ → ℕ → Search

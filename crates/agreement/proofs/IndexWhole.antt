@@ -1,0 +1,20 @@
+-- An index beside a space that passes the check.
+use Rattle.space.specs.Layout.{sizesOf}
+use Rattle.plain.specs.Coding.{codingOf}
+use Rattle.agreement.specs.Whole.{tableOf, editionOf}
+use Rattle.agreement.specs.Indexed.{IndexedWhole, BuildWhole}
+use Rattle.agreement.proofs.Holding.{Holds}
+use Rattle.agreement.proofs.IndexSteps.{trace-indexed}
+use Rattle.agreement.proofs.IndexBuilt.{build-held, found-held}
+use Rattle.agreement.proofs.WholeSpaces.{space-holds, whole-known}
+
+pub indexed-whole : IndexedWhole
+indexed-whole cs qs w =
+    let k = whole-known cs w in
+    trace-indexed (editionOf cs) (k .0) (tableOf cs) cs (space-holds (editionOf cs) (k .0) cs (k .1 .0) (k .1 .1) w) qs
+
+pub build-whole : BuildWhole
+build-whole cs index w =
+    let k = whole-known cs w in
+    let held : Holds (sizesOf (editionOf cs)) (codingOf (editionOf cs)) (tableOf cs) cs = space-holds (editionOf cs) (k .0) cs (k .1 .0) (k .1 .1) w in
+    (build-held (editionOf cs) (k .0) (tableOf cs) cs held index, found-held (editionOf cs) (k .0) (tableOf cs) cs held index)
