@@ -171,7 +171,7 @@ fn tries() {
     );
 }
 
-// Source 001, section 3.2 and figures 7 and 9; several terms together.
+// Source 001, section 3.2 and figure 7: lists of integers.
 fn lists() {
     both(
         b"001 fig 7 [1,2,3]",
@@ -193,6 +193,10 @@ fn lists() {
         1,
         1,
     );
+}
+
+// Figure 9: terms and lists inside lists.
+fn nested_lists() {
     both(
         b"001 fig 9 [f(1,2),[],g(a)]",
         &[
@@ -228,6 +232,10 @@ fn lists() {
         1,
         1,
     );
+}
+
+// A list without an end; several terms together, and none.
+fn terms_together() {
     both(b"M6 [1|2]", &[0x50000000, 0x30000001, 0x30000002], 1, 1);
     both(
         b"two terms numbered together: X, f(Y,X)",
@@ -519,6 +527,8 @@ fn main() {
     variables_and_functors();
     tries();
     lists();
+    nested_lists();
+    terms_together();
     malformed_terms();
     other_approaches();
     other_forms();
