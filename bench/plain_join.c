@@ -15,6 +15,7 @@ struct join {
     const uint32_t *space;
     struct head head;
     struct source first, second;
+    struct index index;
     const uint32_t *pairs, *copies;
     size_t pairs_cells, copies_cells;
 };
@@ -208,8 +209,8 @@ struct sums {
 static inline struct sums search(const struct join *join, size_t root, const struct compaction *form)
 {
     struct place place;
-    if (!walk(join->space, join->head.nodes, join->head.answers, root, form->tokens, form->count,
-              &place))
+    if (!walk(join->space, join->head.nodes, join->head.answers, root, join->index, form->tokens,
+              form->count, &place))
         return (struct sums){false, 0, 1};
     if (place.left > 0)
         return (struct sums){true, place.left, 1};
@@ -304,7 +305,7 @@ static size_t enter(uint32_t *space, struct join *join, size_t target, size_t ro
     begin(join, &stand);
     while (advance(join, &stand) == FOUND) {
         struct place place;
-        if (!walk(space, join->head.nodes, join->head.answers, root, stand.form.tokens,
+        if (!walk(space, join->head.nodes, join->head.answers, root, join->index, stand.form.tokens,
                   stand.form.count, &place))
             continue;
         if (place.left > 0)
@@ -368,12 +369,14 @@ static struct source source_of(size_t number, const uint32_t *record)
     return (struct source){number, record[ROOT], record[FIRST], record[VARIABLES]};
 }
 
-uint64_t plain_join(uint32_t *space, size_t space_cells, uint32_t first, uint32_t second,
-                    const uint32_t *pairs, size_t pairs_cells, uint32_t target,
-                    const uint32_t *copies, size_t copies_cells)
+uint64_t plain_join_indexed(uint32_t *space, size_t space_cells, const uint32_t *index,
+                            size_t index_cells, uint32_t first, uint32_t second,
+                            const uint32_t *pairs, size_t pairs_cells, uint32_t target,
+                            const uint32_t *copies, size_t copies_cells)
 {
     struct join join = {.space = space, .pairs = pairs, .copies = copies,
-                        .pairs_cells = pairs_cells, .copies_cells = copies_cells};
+                        .pairs_cells = pairs_cells, .copies_cells = copies_cells,
+                        .index = index_of(index, index_cells)};
     if (!read_head(space, space_cells, &join.head))
         return refuse(BAD_HEADER);
     size_t subgoals = join.head.subgoals;
@@ -389,4 +392,12 @@ uint64_t plain_join(uint32_t *space, size_t space_cells, uint32_t first, uint32_
     if (refusal != ACCEPTED)
         return refuse(refusal);
     return join_ground(space, &join, target);
+}
+
+uint64_t plain_join(uint32_t *space, size_t space_cells, uint32_t first, uint32_t second,
+                    const uint32_t *pairs, size_t pairs_cells, uint32_t target,
+                    const uint32_t *copies, size_t copies_cells)
+{
+    return plain_join_indexed(space, space_cells, NULL, 0, first, second, pairs, pairs_cells, target,
+                              copies, copies_cells);
 }

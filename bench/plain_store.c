@@ -54,7 +54,8 @@ enum refusal {
     OUT_TOO_SHORT = 12,
     SOURCE_OPEN = 14,
     SOURCE_VARIABLE = 15,
-    BAD_NAMES = 16
+    BAD_NAMES = 16,
+    BAD_SLOTS = 17
 };
 
 enum said {
@@ -69,8 +70,12 @@ enum said {
     SAID_COUNTS,
     SAID_NO_MORE,
     SAID_JOINED,
+    SAID_BUILT,
     SAID_REFUSED = 256
 };
+
+/* What is compiled twice, with an index and without, so that neither pays for the other. */
+#define TWICE static inline __attribute__((always_inline))
 
 static inline uint64_t say(uint32_t said, size_t value)
 {
@@ -338,26 +343,107 @@ static inline bool root_is_sound(const uint32_t *space, size_t nodes, size_t lin
     return node_is_sound(record, root, nodes, links) && record[PARENT] == root;
 }
 
+/* Slots lent beside the nodes, by which a child may be found from its parent and its token. */
+struct index {
+    const uint32_t *slots; /* NULL: none */
+    size_t mask;           /* one less than there are; a power of two */
+};
+
+static const struct index no_index = {NULL, 0};
+
+static inline bool is_power_of_two(size_t size)
+{
+    return size != 0 && (size & (size - 1)) == 0;
+}
+
+/* Slots whose number is no power of two are as none. */
+static inline struct index index_of(const uint32_t *slots, size_t size)
+{
+    return is_power_of_two(size) ? (struct index){slots, size - 1} : no_index;
+}
+
+static inline size_t slot_of(size_t mask, size_t parent, uint32_t token)
+{
+    return ((uint32_t)parent + token) & mask;
+}
+
+static inline size_t slot_after(size_t mask, size_t slot)
+{
+    return (slot + 1) & mask;
+}
+
+/* Whether the node that a slot names is the child sought, by its own record. */
+static inline bool is_confirmed(const uint32_t *space, size_t nodes, size_t parent, uint32_t token,
+                                size_t node)
+{
+    return node > parent && node < nodes && node_at(space, node)[PARENT] == parent &&
+           node_at(space, node)[TOKEN] == token;
+}
+
+static inline bool child_is_sound(const uint32_t *record, size_t child, size_t nodes, size_t links,
+                                  size_t parent)
+{
+    return node_is_sound(record, child, nodes, links) && record[PARENT] == parent;
+}
+
+enum search { SEARCH_DAMAGED, SEARCH_FOUND, SEARCH_ON };
+
+/*
+ * Looks for a token in a slot and at a child in turn, until it is found at a
+ * child, or the children are over, or a slot is free: then the search goes on
+ * from a child, which is behind the last.
+ */
+static inline enum search search_in_turn(const uint32_t *space, size_t nodes, size_t links,
+                                         size_t parent, uint32_t token, struct index index,
+                                         size_t *child, size_t *last)
+{
+    size_t slot = slot_of(index.mask, parent, token);
+    for (; *child != 0 && index.slots[slot] != 0; slot = slot_after(index.mask, slot)) {
+        size_t entry = index.slots[slot];
+        if (is_confirmed(space, nodes, parent, token, entry)) {
+            *child = entry;
+            return node_is_sound(node_at(space, entry), entry, nodes, links) ? SEARCH_FOUND
+                                                                             : SEARCH_DAMAGED;
+        }
+        const uint32_t *record = node_at(space, *child);
+        if (!child_is_sound(record, *child, nodes, links, parent))
+            return SEARCH_DAMAGED;
+        if (record[TOKEN] == token)
+            return SEARCH_FOUND;
+        *last = *child;
+        *child = record[SIBLING];
+    }
+    return SEARCH_ON;
+}
+
 /*
  * Walks from a sound root down as many tokens as there are nodes for. Answers
  * whether no damage was met.
  */
-static bool walk(const uint32_t *space, size_t nodes, size_t links, size_t root,
-                 const uint32_t *tokens, size_t count, struct place *place)
+TWICE bool walk(const uint32_t *space, size_t nodes, size_t links, size_t root, struct index index,
+                const uint32_t *tokens, size_t count, struct place *place)
 {
     const uint32_t *end = tokens + count;
     const uint32_t *record = node_at(space, root);
     size_t parent = root;
     while (tokens != end) {
         size_t child = record[CHILD], last = 0;
-        for (; child != 0; child = record[SIBLING]) {
+        enum search search = SEARCH_ON;
+        if (index.slots != NULL)
+            search = search_in_turn(space, nodes, links, parent, *tokens, index, &child, &last);
+        if (search == SEARCH_DAMAGED)
+            return false;
+        if (search == SEARCH_FOUND)
             record = node_at(space, child);
-            if (!node_is_sound(record, child, nodes, links) || record[PARENT] != parent)
-                return false;
-            if (record[TOKEN] == *tokens)
-                break;
-            last = child;
-        }
+        else
+            for (; child != 0; child = record[SIBLING]) {
+                record = node_at(space, child);
+                if (!child_is_sound(record, child, nodes, links, parent))
+                    return false;
+                if (record[TOKEN] == *tokens)
+                    break;
+                last = child;
+            }
         if (child == 0) {
             *place = (struct place){parent, last, (size_t)(end - tokens)};
             return true;
@@ -685,7 +771,8 @@ static uint64_t find_subgoal(const uint32_t *space, const struct head *head, siz
     return say(record[STATE] == 0 ? SAID_OLD_OPEN : SAID_OLD_FINISHED, subgoal);
 }
 
-uint64_t plain_call(uint32_t *space, size_t space_cells, const uint32_t *term, size_t term_cells)
+TWICE uint64_t call_with(uint32_t *space, size_t space_cells, struct index index,
+                         const uint32_t *term, size_t term_cells)
 {
     struct head head;
     struct compaction form;
@@ -698,11 +785,22 @@ uint64_t plain_call(uint32_t *space, size_t space_cells, const uint32_t *term, s
     if (kind(term[0]) != ATOM && kind(term[0]) != FUNCTOR)
         return refuse(NOT_CALLABLE);
     if (!root_is_sound(space, head.nodes, head.subgoals, 0) ||
-        !walk(space, head.nodes, head.subgoals, 0, form.tokens, form.count, &place))
+        !walk(space, head.nodes, head.subgoals, 0, index, form.tokens, form.count, &place))
         return refuse(DAMAGED);
     if (place.left > 0)
         return enter_subgoal(space, &head, &place, &form);
     return find_subgoal(space, &head, place.node);
+}
+
+uint64_t plain_call(uint32_t *space, size_t space_cells, const uint32_t *term, size_t term_cells)
+{
+    return call_with(space, space_cells, no_index, term, term_cells);
+}
+
+uint64_t plain_call_indexed(uint32_t *space, size_t space_cells, const uint32_t *index,
+                            size_t index_cells, const uint32_t *term, size_t term_cells)
+{
+    return call_with(space, space_cells, index_of(index, index_cells), term, term_cells);
 }
 
 /* The answer whose leaf was found; the empty one is new where the answer root has no link. */
@@ -718,8 +816,8 @@ static uint64_t find_answer(uint32_t *space, const struct head *head, size_t sub
     return say(SAID_OLD, answer);
 }
 
-uint64_t plain_answer(uint32_t *space, size_t space_cells, uint32_t subgoal, const uint32_t *terms,
-                      size_t terms_cells)
+TWICE uint64_t answer_with(uint32_t *space, size_t space_cells, struct index index, uint32_t subgoal,
+                           const uint32_t *terms, size_t terms_cells)
 {
     struct head head;
     struct compaction form;
@@ -736,11 +834,24 @@ uint64_t plain_answer(uint32_t *space, size_t space_cells, uint32_t subgoal, con
     enum refusal refusal = compact(&form, &head, terms, terms_cells, record[VARIABLES]);
     if (refusal != ACCEPTED)
         return refuse(refusal);
-    if (!walk(space, head.nodes, head.answers, record[ROOT], form.tokens, form.count, &place))
+    if (!walk(space, head.nodes, head.answers, record[ROOT], index, form.tokens, form.count, &place))
         return refuse(DAMAGED);
     if (place.left > 0)
         return enter_answer(space, &head, subgoal, &place, &form);
     return find_answer(space, &head, subgoal, &place, &form);
+}
+
+uint64_t plain_answer(uint32_t *space, size_t space_cells, uint32_t subgoal, const uint32_t *terms,
+                      size_t terms_cells)
+{
+    return answer_with(space, space_cells, no_index, subgoal, terms, terms_cells);
+}
+
+uint64_t plain_answer_indexed(uint32_t *space, size_t space_cells, const uint32_t *index,
+                              size_t index_cells, uint32_t subgoal, const uint32_t *terms,
+                              size_t terms_cells)
+{
+    return answer_with(space, space_cells, index_of(index, index_cells), subgoal, terms, terms_cells);
 }
 
 uint64_t plain_finish(uint32_t *space, size_t space_cells, uint32_t subgoal)

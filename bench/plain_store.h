@@ -23,10 +23,23 @@ uint64_t plain_instance(const uint32_t *space, size_t space_cells, uint32_t answ
                         size_t out_cells);
 uint64_t plain_counts(const uint32_t *space, size_t space_cells, uint32_t *out, size_t out_cells);
 
+uint64_t plain_call_indexed(uint32_t *space, size_t space_cells, const uint32_t *index,
+                            size_t index_cells, const uint32_t *term, size_t term_cells);
+uint64_t plain_answer_indexed(uint32_t *space, size_t space_cells, const uint32_t *index,
+                              size_t index_cells, uint32_t subgoal, const uint32_t *terms,
+                              size_t terms_cells);
+
 /* In plain_join.c, which contains the store: a program is linked with one of the two. */
 uint64_t plain_join(uint32_t *space, size_t space_cells, uint32_t first, uint32_t second,
                     const uint32_t *pairs, size_t pairs_cells, uint32_t target,
                     const uint32_t *copies, size_t copies_cells);
+uint64_t plain_join_indexed(uint32_t *space, size_t space_cells, const uint32_t *index,
+                            size_t index_cells, uint32_t first, uint32_t second,
+                            const uint32_t *pairs, size_t pairs_cells, uint32_t target,
+                            const uint32_t *copies, size_t copies_cells);
+
+/* In plain_index.c, which contains the join and the store. */
+uint64_t plain_build(const uint32_t *space, size_t space_cells, uint32_t *index, size_t index_cells);
 
 /* In plain_check.c, which contains the store too. */
 uint64_t plain_check(const uint32_t *space, size_t space_cells);

@@ -16,7 +16,7 @@ extern "C" {
  * 1.2.3.
  */
 #define TABLES_VERSION_MAJOR 3
-#define TABLES_VERSION_MINOR 0
+#define TABLES_VERSION_MINOR 1
 #define TABLES_VERSION_PATCH 0
 #define TABLES_VERSION \
     (TABLES_VERSION_MAJOR * 10000 + TABLES_VERSION_MINOR * 100 + TABLES_VERSION_PATCH)
@@ -152,7 +152,7 @@ static inline uint32_t tables_functor_cell(uint64_t edition, uint64_t name, uint
  * (7), the records that the number names (9), a join's target (8), its sources
  * (14, 15) and names (16), length (4), term (3), variables (5), predicate (6), the
  * other records (9), an answer that a finished subgoal lacks (8), nodes (10),
- * records left (11), form (13), out (12).
+ * records left (11), slots (17), form (13), out (12).
  */
 enum tables_refusal {
     TABLES_REFUSED_HEADER = 1,     /* the space has no sound header, or is cut short; from a
@@ -174,9 +174,11 @@ enum tables_refusal {
     TABLES_REFUSED_FORM = 13,      /* no compact form of a legal term; tables_expand alone */
     TABLES_REFUSED_SOURCE_OPEN = 14,     /* a source of a join is open */
     TABLES_REFUSED_SOURCE_VARIABLE = 15, /* an answer of a join's source holds a variable */
-    TABLES_REFUSED_NAMES = 16            /* a variable or side that a join names is out of
+    TABLES_REFUSED_NAMES = 16,           /* a variable or side that a join names is out of
                                             range, its pairs are over 32, or its copies are
                                             not one for each variable of the target */
+    TABLES_REFUSED_SLOTS = 17            /* an index is to be built whose cells are no power of
+                                            two, or fewer than twice the children to enter */
 };
 
 /* A refusal's number in words, for people: a sentence, also for a number that there is not. */
@@ -215,6 +217,8 @@ static inline const char *tables_refusal_text(uint32_t refusal)
         return "An answer of a source of the join holds a variable.";
     case TABLES_REFUSED_NAMES:
         return "The pairs or copies of the join do not fit its subgoals.";
+    case TABLES_REFUSED_SLOTS:
+        return "The cells of the index are no power of two, or too few for the table.";
     default:
         return "There is no refusal of this number.";
     }
@@ -263,11 +267,11 @@ static inline uint32_t tables_edition(const uint32_t *space, size_t space_cells)
  *
  * Threads: there is no state beside the space. Calls on different spaces may
  * run at once. Calls that only read (the space is const: tables_next,
- * tables_load, tables_instance, tables_counts, tables_check) may run at once on one
- * space.
+ * tables_load, tables_instance, tables_counts, tables_check, tables_build) may run at
+ * once on one space.
  * While a call that writes (tables_fresh, tables_call, tables_answer,
- * tables_finish, tables_join) runs, no other call on the same space may run: the caller
- * serialises them.
+ * tables_finish, tables_join, and those with an index) runs, no other call on the
+ * same space may run: the caller serialises them.
  *
  * The use of the stack is bounded, whatever is lent: see below.
  */
@@ -284,14 +288,15 @@ static inline uint32_t tables_edition(const uint32_t *space, size_t space_cells)
  */
 enum tables_stack {
     TABLES_STACK_FRESH = 1024,     /* 56 */
-    TABLES_STACK_CALL = 92160,     /* 73,000 */
-    TABLES_STACK_ANSWER = 92160,   /* 73,144 */
+    TABLES_STACK_CALL = 92160,     /* 73,112; the same bound with an index */
+    TABLES_STACK_ANSWER = 92160,   /* 73,144; so too */
     TABLES_STACK_FINISH = 1024,    /* 16 */
     TABLES_STACK_NEXT = 1024,      /* 40 */
     TABLES_STACK_LOAD = 58368,     /* 45,984 */
     TABLES_STACK_INSTANCE = 62464, /* 49,936 */
     TABLES_STACK_COUNTS = 1024,    /* 16 */
-    TABLES_STACK_JOIN = 72704,     /* 57,392 */
+    TABLES_STACK_JOIN = 72704,     /* 57,600; so too */
+    TABLES_STACK_BUILD = 1024,     /* 88 */
     TABLES_STACK_CHECK = 58368,    /* 46,032 */
     TABLES_STACK_COMPACT = 92160,  /* 73,624 */
     TABLES_STACK_EXPAND = 57344    /* 45,744 */
@@ -355,6 +360,7 @@ enum tables_outcome {
     TABLES_COUNTS = 8,        /* 3, the number of cells written to out */
     TABLES_NO_MORE = 9,       /* value 0; the subgoal is finished */
     TABLES_JOINED = 10,       /* how many answers are new */
+    TABLES_BUILT = 11,        /* how many children were entered into the index */
     TABLES_CALL_REFUSED = 256 /* plus the refusal's number; no value, but see tables_need
                                  and tables_broken_kind */
 };
@@ -514,6 +520,86 @@ TABLES_MUST_CHECK
 uint64_t tables_join(uint32_t *space, size_t space_cells, uint32_t first, uint32_t second,
                      const uint32_t *pairs, size_t pairs_cells, uint32_t target,
                      const uint32_t *copies, size_t copies_cells);
+
+/*
+ * The index
+ *
+ * A search looks through the children of a node one after another, so where one
+ * node has thousands, a call or an answer takes time that grows with them. An
+ * index is a second array of cells, lent by the caller beside the space, through
+ * which a child is found at once.
+ *
+ * tables_build fills it from a space: the children of every node that has more
+ * than 8 of them enter. The calls below that end in _indexed are lent it to read.
+ * Nothing but tables_build writes it, so it finds what stood in the table at the
+ * build; what was entered later is found as without an index, and is there after
+ * the next build. What is new is not made faster: that a term stands nowhere is
+ * known only once all children were looked at.
+ *
+ * When: once a table has grown and is mostly asked, and again when it has doubled.
+ * How large: a power of two, at least twice the children that enter. For n nodes
+ * used, the power of two from 2 * n on always suffices, and fewer cells often do:
+ * tables_build refuses too few by 17 and changes nothing.
+ *
+ *     uint64_t word = tables_build(space, space_cells, index, 65536);
+ *     ...
+ *     word = tables_call_indexed(space, space_cells, index, 65536, term, term_cells);
+ *
+ * An index cannot change what is answered. An entry counts only if the record of
+ * the node that it names confirms it, so with an index of another time, of another
+ * table, of another length, or of any cells whatever, every call on a table made by
+ * calls answers and leaves what it does without one. An index whose cells are no
+ * power of two, or that has none, is as none. On a damaged space a call with an
+ * index may answer otherwise than without: it may reach a child that the siblings
+ * do not lead to, or pass by one that is damaged; and a join that has begun to
+ * enter its answers may find there what it did not find when it counted, and leave
+ * out what has no room. It returns, and stays within what is lent, all the same.
+ *
+ * What it buys: a child is found in one or two steps where one node has thousands
+ * of children, or several have and their tokens are scattered, as atoms mostly are.
+ * Where several nodes with near numbers each have a run of integers, their entries
+ * lie in one long run of cells, and little is gained. A search takes a cell of the
+ * index and a sibling in turn, and ends with whichever is the child first, so that
+ * it never takes many more steps than without an index.
+ *
+ * Index, space and terms must not overlap. An index is read by the calls that are
+ * lent it: tables_build may not run on it meanwhile.
+ */
+
+/*
+ * Fills the index from the space: every cell of it is written. The children enter
+ * by number, each in the cell that the 32-bit sum of its parent's number and its
+ * token, modulo the cells, names, or in the next free one, around; a free cell is
+ * 0. TABLES_BUILT with the number of children entered. Refused by 1, 9, 17; then no
+ * cell of the index is changed.
+ *
+ * Every node is read, and no subgoal or answer. The space is not written. The time
+ * grows with the nodes, but where many nodes with near numbers have many children
+ * each with small integers, their sums crowd, and it grows with the square of these
+ * children: 255 such nodes of 256 children take seconds. On a damaged space it may
+ * grow with the square of the nodes.
+ */
+TABLES_MUST_CHECK
+uint64_t tables_build(const uint32_t *space, size_t space_cells, uint32_t *index,
+                      size_t index_cells);
+
+/* As tables_call, with an index. */
+TABLES_MUST_CHECK
+uint64_t tables_call_indexed(uint32_t *space, size_t space_cells, const uint32_t *index,
+                             size_t index_cells, const uint32_t *term, size_t term_cells);
+
+/* As tables_answer, with an index. */
+TABLES_MUST_CHECK
+uint64_t tables_answer_indexed(uint32_t *space, size_t space_cells, const uint32_t *index,
+                               size_t index_cells, uint32_t subgoal, const uint32_t *terms,
+                               size_t terms_cells);
+
+/* As tables_join, with an index, through which the target is searched. */
+TABLES_MUST_CHECK
+uint64_t tables_join_indexed(uint32_t *space, size_t space_cells, const uint32_t *index,
+                             size_t index_cells, uint32_t first, uint32_t second,
+                             const uint32_t *pairs, size_t pairs_cells, uint32_t target,
+                             const uint32_t *copies, size_t copies_cells);
 
 /*
  * Checks the whole space, whoever wrote it: whether its records are those of some

@@ -2,15 +2,18 @@
  * The calls on the cells of a space, sound or damaged: the tests' second opinion.
  *
  * Written from the request alone and for reading beside it. "01" is the request, "Q-7" the later
- * one on editions, "Q-2" that on joins, "Q-1" that on the end of next and "Q-4" that on finished
- * subgoals, "OP 9" the ninth open point in 01 and "OP2 9" in the later ones; words in quotation
- * marks are theirs. Only the result words (TABLES_...) come from tables.h.
+ * one on editions, "Q-2" that on joins, "Q-1" that on the end of next, "Q-4" that on finished
+ * subgoals and "Q-5" that on the index, "OP 9" the ninth open point in 01 and "OP2 9" in the later
+ * ones; words in quotation marks are theirs. Only the result words (TABLES_...) come from tables.h.
  *
  * Every call reads and judges first, in the order of 01's table of refusals as the later requests
  * change it, and writes only when nothing is left to refuse: so "a refusal changes nothing". The parts, from top to bottom: the
  * numbers of the request; pair form to compact form; compact form to pair form; the header and the
- * records; judging a record; the walk down a trie and the path up; writing; the calls; the join,
- * which alone takes memory of its own for what it has read.
+ * records; judging a record; the index; the walk down a trie and the path up; writing; the calls;
+ * the join, which alone takes memory of its own for what it has read; the build of an index.
+ *
+ * Call, answer and join are written once, with an index: those without one are lent an index of no
+ * cells (OP2 32).
  */
 #include "cells_model.h"
 
@@ -28,14 +31,15 @@ enum kind { VARIABLE = 1, ATOM, INTEGER, FUNCTOR, PAIR, BLIST, ELIST, EPAIR };
 enum { PAYLOAD_BITS = 28, ARITIES_1 = 16, ARITIES_2 = 256 };
 enum { MOST_TERM_CELLS = 256, MOST_VARIABLES = 32, MOST_COMPACT_CELLS = 383 };
 enum { LEAST_NODES = 1, MOST_RECORDS = 1048576 };
-enum { MOST_PAIRS = 32 }; /* Q-2 */
+enum { MOST_PAIRS = 32 };    /* Q-2 */
+enum { MOST_UNINDEXED = 8 }; /* Q-5: "for each node of more than 8 children" */
 
 /* 01, "Where each refusal is checked". 13 is the converters' alone: when loaded it is 9 (OP 21). */
 enum refusal {
     ACCEPTED = 0, BAD_HEADER = 1, BAD_FRESH = 2, BAD_TERM = 3, TOO_LONG = 4,
     TOO_MANY_VARIABLES = 5, BAD_PREDICATE = 6, BAD_NUMBER = 7, FINISHED_ALREADY = 8,
     DAMAGED = 9, NO_NODES_LEFT = 10, NO_RECORD_LEFT = 11, OUT_TOO_SHORT = 12,
-    SOURCE_OPEN = 14, SOURCE_VARIABLE = 15, BAD_NAMES = 16
+    SOURCE_OPEN = 14, SOURCE_VARIABLE = 15, BAD_NAMES = 16, BAD_SLOTS = 17
 };
 
 /* 01, "The space": the fields of the header and of each record, in order, and their number. */
@@ -47,7 +51,7 @@ enum node_field { TOKEN, FIRST_CHILD, NEXT_SIBLING, PARENT, LINK, NODE_CELLS };
 enum subgoal_field { GOAL_LEAF, ANSWER_ROOT, M, STATE, FIRST_ANSWER, LAST_ANSWER, SUBGOAL_CELLS };
 enum answer_field { ANSWER_LEAF, ANSWER_SUBGOAL, NEXT_ANSWER, ANSWER_CELLS };
 
-enum { NONE = 0, SUBGOAL_ROOT = 0, ROOT_TOKEN = 0 };
+enum { NONE = 0, SUBGOAL_ROOT = 0, ROOT_TOKEN = 0, FREE_SLOT = 0 };
 enum state { OPEN = 0, FINISHED = 1 };
 
 #define CELL(kind, payload) ((uint32_t)(kind) << PAYLOAD_BITS | (uint32_t)(payload))
@@ -485,6 +489,85 @@ static bool is_sound_answer_of(const struct space *s, uint32_t answer, uint32_t 
     return is_sound_answer(s, answer) && of_answer(s, answer, ANSWER_SUBGOAL) == subgoal;
 }
 
+/* ---- The index ------------------------------------------------------------------------------ */
+
+/* "A second lent array, ... one cell a slot", as a call reads it. */
+struct index {
+    const uint32_t *slots;
+    size_t count;
+};
+
+static const struct index no_index = {NULL, 0};
+
+struct cells_model_met cells_model_met;
+
+/* "Of power-of-two size"; 0 is none, 1 is one (OP2 38, 41). */
+static bool is_power_of_two(size_t count)
+{
+    while (count > 1 && count % 2 == 0)
+        count /= 2;
+    return count == 1;
+}
+
+/* "The slot is the 32-bit wrapping sum of both modulo the size". */
+static size_t slot_of(uint32_t parent, uint32_t token, size_t slots)
+{
+    return (uint32_t)(parent + token) % slots;
+}
+
+/* "The next .. one around". */
+static size_t slot_after(size_t slot, size_t slots)
+{
+    return slot + 1 == slots ? 0 : slot + 1;
+}
+
+/* "An entry counts only if the node record confirms it": "below the nodes used and above the
+ * parent, and its record has this parent and this token" (OP2 36). */
+static bool is_confirmed(const struct space *s, uint32_t entry, uint32_t parent, uint32_t token)
+{
+    return entry > parent && is_node(s, entry) && of_node(s, entry, PARENT) == parent &&
+           of_node(s, entry, TOKEN) == token;
+}
+
+/* A lookup on its way: the slot that is due, or no more once a free one was met. */
+struct lookup {
+    bool goes_on;
+    size_t slot;
+};
+
+/* "An index of another size goes to the sibling chain", from the start. */
+static struct lookup begin_lookup(const struct index *index, uint32_t parent, uint32_t token)
+{
+    bool goes_on = is_power_of_two(index->count);
+    return (struct lookup){goes_on, goes_on ? slot_of(parent, token, index->count) : 0};
+}
+
+/*
+ * The entry of the slot that is due, if it is the child; else none, and the next slot is due. "A
+ * free slot ends it as a miss; an entry that is not confirmed is passed over" and never judged
+ * (OP2 35, 36).
+ */
+static uint32_t look_up(const struct space *s, const struct index *index, struct lookup *lookup,
+                        uint32_t parent, uint32_t token)
+{
+    if (!lookup->goes_on)
+        return NONE;
+    uint32_t entry = index->slots[lookup->slot];
+    if (entry == FREE_SLOT) {
+        lookup->goes_on = false;
+        cells_model_met.free_slots++;
+        return NONE;
+    }
+    if (is_confirmed(s, entry, parent, token)) {
+        cells_model_met.confirmed++;
+        return entry;
+    }
+    cells_model_met.passed_over++;
+    lookup->slot = slot_after(lookup->slot, index->count);
+    cells_model_met.around += lookup->slot == 0;
+    return NONE;
+}
+
 /* ---- The walk down a trie and the path up --------------------------------------------------- */
 
 /* How far a form is in a trie: its first `matched` tokens lead from the root to `node`. */
@@ -500,14 +583,22 @@ struct walk {
  * with the child found, or with the last sibling." Each child is judged whole before its token is
  * compared (OP 9); the range of its number was judged with the record that it comes from, as the
  * node itself. False: damaged.
+ *
+ * "A search takes a cell of the index and a sibling in turn, and ends with whichever is the child
+ * first" (tables.h): a confirmed entry is a node compared, so judged whole as well. It may be one
+ * that the siblings do not lead to, or stand behind a damaged one (OP2 37).
  */
-static bool find_child(const struct space *s, enum trie trie, uint32_t node, uint32_t token,
-                       uint32_t *found, uint32_t *last)
+static bool find_child(const struct space *s, const struct index *index, enum trie trie,
+                       uint32_t node, uint32_t token, uint32_t *found, uint32_t *last)
 {
+    struct lookup lookup = begin_lookup(index, node, token);
     uint32_t child = of_node(s, node, FIRST_CHILD);
     *found = NONE;
     *last = NONE;
     while (child != NONE) {
+        *found = look_up(s, index, &lookup, node, token);
+        if (*found != NONE)
+            return is_sound_node(s, trie, *found);
         if (!is_sound_node(s, trie, child) || of_node(s, child, PARENT) != node)
             return false;
         if (of_node(s, child, TOKEN) == token) {
@@ -521,13 +612,13 @@ static bool find_child(const struct space *s, enum trie trie, uint32_t node, uin
 }
 
 /* Searches a form from a root that has been judged. False: damaged. */
-static bool walk_down(const struct space *s, enum trie trie, uint32_t root,
-                      const struct form *form, struct walk *walk)
+static bool walk_down(const struct space *s, const struct index *index, enum trie trie,
+                      uint32_t root, const struct form *form, struct walk *walk)
 {
     uint32_t child;
     *walk = (struct walk){.matched = 0, .node = root, .last_child = NONE, .link = NONE};
     while (walk->matched < form->count) {
-        if (!find_child(s, trie, walk->node, form->cells[walk->matched], &child,
+        if (!find_child(s, index, trie, walk->node, form->cells[walk->matched], &child,
                         &walk->last_child))
             return false;
         if (child == NONE)
@@ -719,6 +810,14 @@ uint64_t cells_model_fresh(uint32_t *space, size_t space_cells, uint32_t nodes, 
 uint64_t cells_model_call(uint32_t *space, size_t space_cells, const uint32_t *term,
                           size_t term_cells)
 {
+    return cells_model_call_indexed(space, space_cells, no_index.slots, no_index.count, term,
+                                    term_cells);
+}
+
+uint64_t cells_model_call_indexed(uint32_t *space, size_t space_cells, const uint32_t *index_slots,
+                                  size_t index_cells, const uint32_t *term, size_t term_cells)
+{
+    const struct index index = {index_slots, index_cells};
     struct space s;
     struct form form;
     struct walk walk;
@@ -730,7 +829,7 @@ uint64_t cells_model_call(uint32_t *space, size_t space_cells, const uint32_t *t
     if (kind_of(term[0]) != ATOM && kind_of(term[0]) != FUNCTOR)
         return refused(BAD_PREDICATE);
     if (!is_sound_root(&s, SUBGOAL_TRIE, SUBGOAL_ROOT) ||
-        !walk_down(&s, SUBGOAL_TRIE, SUBGOAL_ROOT, &form, &walk))
+        !walk_down(&s, &index, SUBGOAL_TRIE, SUBGOAL_ROOT, &form, &walk))
         return refused(DAMAGED);
     if (walk.link != NONE) {
         /* "A record found by a link names that leaf." Nothing else, not even m, is compared. */
@@ -768,6 +867,15 @@ static uint64_t new_answer(uint32_t *space, const struct space *s, uint32_t subg
 uint64_t cells_model_answer(uint32_t *space, size_t space_cells, uint32_t subgoal,
                             const uint32_t *terms, size_t terms_cells)
 {
+    return cells_model_answer_indexed(space, space_cells, no_index.slots, no_index.count, subgoal,
+                                      terms, terms_cells);
+}
+
+uint64_t cells_model_answer_indexed(uint32_t *space, size_t space_cells,
+                                    const uint32_t *index_slots, size_t index_cells,
+                                    uint32_t subgoal, const uint32_t *terms, size_t terms_cells)
+{
+    const struct index index = {index_slots, index_cells};
     struct space s;
     struct form form;
     struct walk walk;
@@ -783,7 +891,7 @@ uint64_t cells_model_answer(uint32_t *space, size_t space_cells, uint32_t subgoa
         compact(s.edition, of_subgoal(&s, subgoal, M), terms, terms_cells, &form);
     if (refusal != ACCEPTED)
         return refused(refusal);
-    if (!walk_down(&s, ANSWER_TRIE, root, &form, &walk))
+    if (!walk_down(&s, &index, ANSWER_TRIE, root, &form, &walk))
         return refused(DAMAGED);
     if (walk.link != NONE) {
         /* "A record found by a link names that leaf"; its subgoal is not compared (OP 5). In either
@@ -935,6 +1043,7 @@ struct source {
 
 /* What a join was given and has read. */
 struct join {
+    struct index index;
     struct source side[2];
     const uint32_t *pairs;
     size_t pairs_cells;
@@ -1111,13 +1220,14 @@ static void add_need(const struct forms *forms, size_t at, size_t matched, struc
  * 10), for every combination; an old answer's record; and "where anything is new, the last
  * answer". False: 9.
  */
-static bool search_all(const struct space *s, uint32_t target, const struct forms *forms,
+static bool search_all(const struct space *s, const struct join *join, const struct forms *forms,
                        struct need *need)
 {
+    uint32_t target = join->target, root = of_subgoal(s, target, ANSWER_ROOT);
     *need = (struct need){0, 0};
     for (size_t i = 0; i < forms->count; i++) {
         struct walk walk;
-        if (!walk_down(s, ANSWER_TRIE, of_subgoal(s, target, ANSWER_ROOT), &forms->form[i], &walk))
+        if (!walk_down(s, &join->index, ANSWER_TRIE, root, &forms->form[i], &walk))
             return false;
         if (walk.link == NONE)
             add_need(forms, i, walk.matched, need);
@@ -1130,32 +1240,54 @@ static bool search_all(const struct space *s, uint32_t target, const struct form
            (is_sound_answer_of(s, last, target) && of_answer(s, last, NEXT_ANSWER) == NONE);
 }
 
-/* What was decided on the space as lent must hold while it is written. */
-static void must(bool holds)
+/*
+ * Each combination in order, searched and written in the space as the one before left it; how many
+ * could not be. "As if given by answer" (OP2 20): where a single answer would be refused, nothing is
+ * written and the next one follows.
+ *
+ * That comes on a damaged space with an index only. There a later search may be led into a node that
+ * has the parent and the token of one that was entered just before, which no sibling leads to and
+ * whose entry was out of reach when it was counted: so it may find the answer, or more nodes missing
+ * than were counted, or damage.
+ */
+static uint32_t write_joined(uint32_t *space, size_t space_cells, const struct join *join,
+                             const struct forms *forms)
 {
-    if (!holds) {
+    uint32_t left_out = 0;
+    for (size_t i = 0; i < forms->count; i++) {
+        const struct form *form = &forms->form[i];
+        struct space s;
+        struct walk walk;
+        bool found = read_header(space, space_cells, &s) &&
+                     walk_down(&s, &join->index, ANSWER_TRIE,
+                               of_subgoal(&s, join->target, ANSWER_ROOT), form, &walk);
+        if (found && walk.link != NONE)
+            continue;
+        if (found &&
+            room_for(&s, form->count - walk.matched, s.answers, s.answer_room) == ACCEPTED)
+            write_answer(space, &s, join->target, form, &walk);
+        else
+            left_out++;
+    }
+    return left_out;
+}
+
+/* Enters all that was judged; "the result is how many were appended" (OP2 20), which without an
+ * index is what was counted. */
+static uint32_t enter_joined(uint32_t *space, size_t space_cells, const struct join *join,
+                             const struct forms *forms, const struct need *need)
+{
+    uint32_t nodes = space[NODES_USED], answers = space[ANSWERS_USED];
+    uint32_t left_out = write_joined(space, space_cells, join, forms);
+    bool counted = left_out == 0 && space[NODES_USED] == nodes + need->nodes &&
+                   space[ANSWERS_USED] == answers + need->answers;
+    if (!counted && !is_power_of_two(join->index.count)) {
         fputs("cells model: a join was written otherwise than it was judged\n", stderr);
         abort();
     }
-}
-
-/* Each combination in order, searched and written as a single answer is, in the space as the one
- * before left it. */
-static void write_joined(uint32_t *space, size_t space_cells, uint32_t target,
-                         const struct forms *forms)
-{
-    for (size_t i = 0; i < forms->count; i++) {
-        struct space s;
-        struct walk walk;
-        must(read_header(space, space_cells, &s));
-        must(walk_down(&s, ANSWER_TRIE, of_subgoal(&s, target, ANSWER_ROOT), &forms->form[i],
-                       &walk));
-        if (walk.link != NONE)
-            continue;
-        must(room_for(&s, forms->form[i].count - walk.matched, s.answers, s.answer_room) ==
-             ACCEPTED);
-        write_answer(space, &s, target, &forms->form[i], &walk);
-    }
+    cells_model_met.joins_otherwise += !counted;
+    cells_model_met.joins_left_out += left_out > 0;
+    return space[ANSWERS_USED] - answers;
 }
 
 /*
@@ -1177,7 +1309,7 @@ static enum refusal judge_join(const struct space *s, const struct join *join,
     enum refusal refusal = pair_answers(s->edition, join, forms);
     if (refusal != ACCEPTED)
         return refusal;
-    if (!search_all(s, join->target, forms, need))
+    if (!search_all(s, join, forms, need))
         return DAMAGED;
     if (need->nodes > s->node_room - s->nodes)
         return NO_NODES_LEFT;
@@ -1186,16 +1318,27 @@ static enum refusal judge_join(const struct space *s, const struct join *join,
     return ACCEPTED;
 }
 
-/* 9's first place stands "straight after 7", which looks at all three numbers (OP2 8). */
 uint64_t cells_model_join(uint32_t *space, size_t space_cells, uint32_t first, uint32_t second,
                           const uint32_t *pairs, size_t pairs_cells, uint32_t target,
                           const uint32_t *copies, size_t copies_cells)
 {
+    return cells_model_join_indexed(space, space_cells, no_index.slots, no_index.count, first,
+                                    second, pairs, pairs_cells, target, copies, copies_cells);
+}
+
+/* 9's first place stands "straight after 7", which looks at all three numbers (OP2 8). */
+uint64_t cells_model_join_indexed(uint32_t *space, size_t space_cells, const uint32_t *index_slots,
+                                  size_t index_cells, uint32_t first, uint32_t second,
+                                  const uint32_t *pairs, size_t pairs_cells, uint32_t target,
+                                  const uint32_t *copies, size_t copies_cells)
+{
     struct space s;
-    struct join join = {.pairs = pairs, .pairs_cells = pairs_cells, .target = target,
-                        .copies = copies, .copies_cells = copies_cells};
+    struct join join = {.index = {index_slots, index_cells}, .pairs = pairs,
+                        .pairs_cells = pairs_cells, .target = target, .copies = copies,
+                        .copies_cells = copies_cells};
     struct forms forms = {0, NULL};
     struct need need = {0, 0};
+    uint32_t joined = 0;
     if (!read_header(space, space_cells, &s))
         return refused(BAD_HEADER);
     if (!is_subgoal(&s, first) || !is_subgoal(&s, second) || !is_subgoal(&s, target))
@@ -1204,13 +1347,93 @@ uint64_t cells_model_join(uint32_t *space, size_t space_cells, uint32_t first, u
     if (read_source(&s, first, &join.side[0]) && read_source(&s, second, &join.side[1]) &&
         is_sound_target(&s, target))
         refusal = judge_join(&s, &join, &forms, &need);
-    if (refusal == ACCEPTED) {
-        write_joined(space, space_cells, target, &forms);
-        must(space[NODES_USED] == s.nodes + need.nodes &&
-             space[ANSWERS_USED] == s.answers + need.answers);
-    }
+    if (refusal == ACCEPTED)
+        joined = enter_joined(space, space_cells, &join, &forms, &need);
     free(join.side[0].answers);
     free(join.side[1].answers);
     free(forms.form);
-    return refusal == ACCEPTED ? result(TABLES_JOINED, (uint32_t)need.answers) : refused(refusal);
+    return refusal == ACCEPTED ? result(TABLES_JOINED, joined) : refused(refusal);
+}
+
+/* ---- The build of an index ------------------------------------------------------------------ */
+
+/* "By the root that its parents lead to" (OP2 42), of a node whose parent, as theirs, is not above
+ * it: node 0 is the root of the subgoals, any other root is one of answers. */
+static enum trie trie_of(const struct space *s, uint32_t node)
+{
+    while (of_node(s, node, PARENT) != node)
+        node = of_node(s, node, PARENT);
+    return node == SUBGOAL_ROOT ? SUBGOAL_TRIE : ANSWER_TRIE;
+}
+
+/* "Each judged whole as a node compared or on a path is, including the expected parent of its child
+ * and sibling, since these are read too" (OP2 42). The nodes before it have been judged. */
+static bool is_sound_record(const struct space *s, uint32_t node)
+{
+    uint32_t parent = of_node(s, node, PARENT), child = of_node(s, node, FIRST_CHILD);
+    uint32_t sibling = of_node(s, node, NEXT_SIBLING);
+    return parent <= node && is_sound_node(s, trie_of(s, node), node) &&
+           (child == NONE || of_node(s, child, PARENT) == node) &&
+           (sibling == NONE || of_node(s, sibling, PARENT) == parent);
+}
+
+/* "A build reads every node". */
+static bool are_sound_nodes(const struct space *s)
+{
+    for (uint32_t node = 0; node < s->nodes; node++)
+        if (!is_sound_record(s, node))
+            return false;
+    return true;
+}
+
+/* "Each node of more than 8 children": "those of its sibling chain" (OP2 33). */
+static bool has_many_children(const struct space *s, uint32_t node)
+{
+    size_t children = 0;
+    for (uint32_t child = of_node(s, node, FIRST_CHILD);
+         child != NONE && children <= MOST_UNINDEXED; child = of_node(s, child, NEXT_SIBLING))
+        children++;
+    return children > MOST_UNINDEXED;
+}
+
+/* A root is nobody's child, though it has itself as parent. */
+static bool is_to_enter(const struct space *s, uint32_t node)
+{
+    uint32_t parent = of_node(s, node, PARENT);
+    return parent != node && has_many_children(s, parent);
+}
+
+/* "The slot is ..., else the next free one around". */
+static void enter_child(const struct space *s, uint32_t *slots, size_t count, uint32_t node)
+{
+    size_t slot = slot_of(of_node(s, node, PARENT), of_node(s, node, TOKEN), count);
+    while (slots[slot] != FREE_SLOT)
+        slot = slot_after(slot, count);
+    slots[slot] = node;
+}
+
+/*
+ * "17 when a build has fewer slots than twice the children to enter, or a number of slots that is no
+ * power of two, checked after 9"; "children enter by number", over the whole space, and "every slot
+ * is written, what it held before has no part in it" (OP2 40).
+ */
+uint64_t cells_model_build(const uint32_t *space, size_t space_cells, uint32_t *index,
+                           size_t index_cells)
+{
+    struct space s;
+    uint32_t entered = 0;
+    if (!read_header(space, space_cells, &s))
+        return refused(BAD_HEADER);
+    if (!are_sound_nodes(&s))
+        return refused(DAMAGED);
+    for (uint32_t node = 0; node < s.nodes; node++)
+        entered += is_to_enter(&s, node);
+    if (!is_power_of_two(index_cells) || index_cells < 2 * (size_t)entered)
+        return refused(BAD_SLOTS);
+    for (size_t slot = 0; slot < index_cells; slot++)
+        index[slot] = FREE_SLOT;
+    for (uint32_t node = 0; node < s.nodes; node++)
+        if (is_to_enter(&s, node))
+            enter_child(&s, index, index_cells, node);
+    return result(TABLES_BUILT, entered);
 }

@@ -1,6 +1,8 @@
 /*
  * Makes every call over random damaged spaces of both editions, against guard pages, and compares the word, every cell of the
- * space and every cell of out with another implementation of the calls (cells_model.c).
+ * space and every cell of out with another implementation of the calls (cells_model.c). The calls that search are made without
+ * an index and with one, of any cells or of a build that was made before the damage; and indexes are built of such spaces, where
+ * every cell of the index is compared too.
  */
 #define _DEFAULT_SOURCE
 
@@ -8,7 +10,9 @@
 #include "cells_model.h"
 #include "drawing.h"
 #include "editions.h"
+#include "indexes.h"
 #include "lending.h"
+#include "model_requests.h"
 #include "requests.h"
 #include "tally.h"
 
@@ -25,29 +29,53 @@ static uint64_t seed = 1;
 static unsigned rounds = ROUNDS;
 static unsigned failures;
 
-/* All that may come of each call on any space; each must come. */
+/* All that may come of each call on any space; each must come. With an index it is the same. */
+#define CALL_RESULTS \
+    (RESULT(TABLES_NEW) | RESULT(TABLES_OLD_OPEN) | RESULT(TABLES_OLD_FINISHED) | READER_REFUSALS | \
+     REFUSAL(6) | ROOM_REFUSALS | REFUSAL(1) | REFUSAL(9))
+#define ANSWER_RESULTS \
+    (RESULT(TABLES_NEW) | RESULT(TABLES_OLD) | REFUSAL(7) | REFUSAL(8) | READER_REFUSALS | \
+     ROOM_REFUSALS | REFUSAL(1) | REFUSAL(9))
+#define JOIN_RESULTS \
+    (RESULT(TABLES_JOINED) | RESULT(JOINED_NONE) | REFUSAL(7) | REFUSAL(8) | REFUSAL(14) | \
+     REFUSAL(15) | REFUSAL(16) | REFUSAL(4) | ROOM_REFUSALS | REFUSAL(1) | REFUSAL(9))
+
 static const uint32_t possible[TALLY_ROWS] = {
-    [CALL] = RESULT(TABLES_NEW) | RESULT(TABLES_OLD_OPEN) | RESULT(TABLES_OLD_FINISHED) |
-             READER_REFUSALS | REFUSAL(6) | ROOM_REFUSALS | REFUSAL(1) | REFUSAL(9),
-    [ANSWER] = RESULT(TABLES_NEW) | RESULT(TABLES_OLD) | REFUSAL(7) | REFUSAL(8) | READER_REFUSALS |
-               ROOM_REFUSALS | REFUSAL(1) | REFUSAL(9),
+    [CALL] = CALL_RESULTS,
+    [ANSWER] = ANSWER_RESULTS,
     [FINISH] = RESULT(TABLES_DONE) | REFUSAL(7) | REFUSAL(1) | REFUSAL(9),
-    [JOIN] = RESULT(TABLES_JOINED) | RESULT(JOINED_NONE) | REFUSAL(7) | REFUSAL(8) | REFUSAL(14) |
-             REFUSAL(15) | REFUSAL(16) | REFUSAL(4) | ROOM_REFUSALS | REFUSAL(1) | REFUSAL(9),
+    [JOIN] = JOIN_RESULTS,
     [NEXT] = RESULT(TABLES_AT) | RESULT(TABLES_NONE_YET) | RESULT(TABLES_NO_MORE) | REFUSAL(7) |
              REFUSAL(1) | REFUSAL(9),
     [LOAD] = RESULT(TABLES_CELLS) | REFUSAL(7) | REFUSAL(12) | REFUSAL(1) | REFUSAL(9),
     [INSTANCE] = RESULT(TABLES_CELLS) | REFUSAL(7) | REFUSAL(12) | REFUSAL(1) | REFUSAL(9),
     [COUNTS] = RESULT(TABLES_COUNTS) | REFUSAL(12) | REFUSAL(1),
     [FRESH] = RESULT(TABLES_DONE) | REFUSAL(2),
+    [BUILD] = RESULT(TABLES_BUILT) | RESULT(BUILT_NONE) | REFUSAL(1) | REFUSAL(9) | REFUSAL(17),
+    [INDEXED_CALL] = CALL_RESULTS,
+    [INDEXED_ANSWER] = ANSWER_RESULTS,
+    [INDEXED_JOIN] = JOIN_RESULTS,
 };
+
+/* The calls so far that were compared with the other implementation. */
+static unsigned long compared;
 
 static void fail(unsigned round, const char *call, const char *what, uint64_t word)
 {
     if (++failures > MOST_FAILURES)
         return;
-    printf("failed: seed %" PRIu64 ", round %u, %s: %s; result %#" PRIx64 "\n", seed, round, call,
-           what, word);
+    printf("failed: seed %" PRIu64 ", round %u, %s (call %lu): %s; result %#" PRIx64 "\n", seed, round,
+           call, compared, what, word);
+}
+
+/* Compares a word with the other implementation's. */
+static void compare_word(unsigned round, const char *call, uint64_t word, uint64_t expected)
+{
+    compared++;
+    if (word == expected)
+        return;
+    fail(round, call, "another result than the model's", word);
+    printf("  instead of %#" PRIx64 "\n", expected);
 }
 
 /* Spaces */
@@ -58,7 +86,7 @@ struct image {
     uint32_t cell[SPACE_CELLS];
 };
 
-static struct arena space_arena, term_arena, copy_arena, out_arena;
+static struct arena space_arena, term_arena, copy_arena, out_arena, index_arena;
 static struct drawer drawer;
 static struct known known;
 
@@ -66,19 +94,23 @@ static struct known known;
 static struct plan plan;
 static const struct request *planned;
 
-/* Answers that are in the space before it is damaged, so that they are offered again. */
-enum { MOST_GIVEN = 64 };
+/* Calls and answers that are in the space before it is damaged, so that they are offered again. */
+enum { MOST_GIVEN = 96 };
 
-static struct {
+static struct given {
     size_t count;
     struct request request[MOST_GIVEN];
-} given;
+} given_calls, given_answers;
+
+/* Indexes of the space before it is damaged: of all that is in it, and of what was in it some calls before. */
+static struct index built, stale;
 
 /* For a new space. */
 static void forget(void)
 {
     memset(&known, 0, sizeof known);
-    given.count = 0;
+    given_calls.count = given_answers.count = 0;
+    built.count = stale.count = 0;
 }
 
 /* Makes a request of cells that are lent as they are, and learns from what comes of it. */
@@ -87,9 +119,18 @@ static void enter(const struct request *request, uint32_t *space, size_t space_c
     static uint32_t out[TABLES_INSTANCE_CELLS];
     uint64_t word = make_request(request, space, space_cells, request->argument.cell,
                                  request->copies.cell, out, TABLES_INSTANCE_CELLS);
+    struct given *given = request->kind == CALL ? &given_calls : &given_answers;
     learn_result(&known, request, word);
-    if (request->kind == ANSWER && tables_what(word) == TABLES_NEW && given.count < MOST_GIVEN)
-        given.request[given.count++] = *request;
+    if (tables_what(word) == TABLES_NEW && given->count < MOST_GIVEN)
+        given->request[given->count++] = *request;
+}
+
+/* An index of a sound space with just enough slots, or with some more; none if that is too many. */
+static void build_index(struct index *index, const struct image *image)
+{
+    size_t enough = power_from(2 * children_to_enter(image->cell)), slots = enough << below(4);
+    index->count = slots <= INDEX_CELLS ? slots : enough <= INDEX_CELLS ? enough : 0;
+    (void)cells_model_build(image->cell, image->count, index->cell, index->count);
 }
 
 static void make_fresh(uint32_t *space, size_t space_cells, uint32_t nodes, uint32_t subgoals,
@@ -121,17 +162,17 @@ static uint32_t about(uint32_t records)
 }
 
 /*
- * A sound space made by a plan up to one of its joins, which is still to be made
- * or was made once, with room for it, or with little less or more. False: it
- * would be too large.
+ * A sound space made by a plan, mostly one with many children under some nodes, up to one of its
+ * joins, which is still to be made or was made once, with room for it, or with little less or more.
+ * False: it would be too large.
  */
 static bool draw_for_join(struct image *image)
 {
     static uint32_t roomy[TABLES_SPACE_CELLS(ROOMY_NODES, ROOMY_SUBGOALS, ROOMY_ANSWERS)];
     size_t roomy_cells = sizeof roomy / sizeof *roomy;
     image->edition = draw_edition();
-    draw_plan(image->edition, &plan);
-    size_t join = draw_planned(), made = join + chance(35);
+    (chance(60) ? draw_wide_plan : draw_plan)(image->edition, &plan);
+    size_t join = draw_planned(), made = join + chance(35), half = below(made + 1);
     forget();
     make_fresh(roomy, roomy_cells, ROOMY_NODES, ROOMY_SUBGOALS, ROOMY_ANSWERS, image->edition);
     for (size_t i = 0; i <= join; i++)
@@ -144,8 +185,12 @@ static bool draw_for_join(struct image *image)
     forget();
     open_drawer(&drawer, image->edition, 2, 5, 4);
     make_fresh(image->cell, image->count, nodes, subgoals, answers, image->edition);
-    for (size_t i = 0; i < made; i++)
+    for (size_t i = 0; i < made; i++) {
+        if (i == half)
+            build_index(&stale, image);
         enter(&plan.request[i], image->cell, image->count);
+    }
+    build_index(&built, image);
     planned = &plan.request[join];
     return true;
 }
@@ -384,6 +429,100 @@ static void bend(struct image *image)
     }
 }
 
+static void bend_fields(struct image *image)
+{
+    for (size_t times = chance(60) ? 1 : between(2, 4); times > 0; times--)
+        bend(image);
+}
+
+/* A node in use that is no root, or the root of the planned join's target; node 0 if there is neither. */
+static uint32_t *draw_bent(struct image *image)
+{
+    uint32_t *cells = image->cell;
+    if (planned != NULL && chance(40) && planned->target - 1 < cells[2])
+        return &cells[8 + 5 * (size_t)cells[cells[5] + 6 * (planned->target - 1) + 1]];
+    for (unsigned tries = 0; tries < 8; tries++) {
+        uint32_t *node = draw_record(image, 0);
+        if (node[3] != (uint32_t)(node - cells - 8) / 5)
+            return node;
+    }
+    return &cells[8];
+}
+
+/* A node in use, most likely one with the same parent. */
+static const uint32_t *draw_relative(const struct image *image, const uint32_t *node)
+{
+    const uint32_t *other = &image->cell[8];
+    for (unsigned tries = chance(70) ? 20 : 1; tries > 0; tries--) {
+        other = &image->cell[8 + 5 * below(image->cell[1])];
+        if (other[3] == node[3] && other[0] != node[0])
+            break;
+    }
+    return other;
+}
+
+/* The planned join's target without its answers, which an index still leads to, some of them damaged or with other tokens. */
+static void hide_target(struct image *image)
+{
+    uint32_t *cells = image->cell, target = planned->target;
+    if (target - 1 >= cells[2])
+        return;
+    uint32_t root = cells[cells[5] + 6 * (target - 1) + 1];
+    cells[8 + 5 * (size_t)root + 1] = 0;
+    for (uint32_t node = root + 1; node < cells[1]; node++) {
+        uint32_t *record = &cells[8 + 5 * (size_t)node], parent = record[3];
+        bool below_target = parent < node && cells[8 + 5 * (size_t)parent + 3] == root && parent != root;
+        if (below_target && chance(20))
+            record[chance(50) ? 4 : 0] = UINT32_MAX;
+    }
+}
+
+/*
+ * Nodes bent so that an index leads elsewhere than the siblings do: children that no sibling leads
+ * to, two with one token, a node that has become a child of another's parent, a damaged one before
+ * others that are sound, and children that are not in use any more.
+ */
+static void bend_tries(struct image *image)
+{
+    enum { TOKEN, CHILD, SIBLING, PARENT, LINK };
+    struct image sound = *image;
+    if (planned != NULL && chance(40))
+        hide_target(image);
+    for (size_t times = between(1, 4); times > 0; times--) {
+        uint32_t *node = draw_bent(image), sibling = node[SIBLING];
+        const uint32_t *other = draw_relative(&sound, node);
+        switch (below(8)) {
+        case 0: /* hidden */
+            node[CHILD] = 0;
+            break;
+        case 1:
+            node[SIBLING] = 0;
+            break;
+        case 2: /* one left out */
+            if (sibling < sound.cell[1])
+                node[SIBLING] = sound.cell[8 + 5 * (size_t)sibling + SIBLING];
+            break;
+        case 3: /* a twin, on the siblings or off them */
+            node[TOKEN] = other[TOKEN];
+            if (chance(70))
+                node[PARENT] = other[PARENT];
+            break;
+        case 4:
+            node[PARENT] = other[PARENT];
+            break;
+        case 5:
+            node[LINK] = chance(50) ? UINT32_MAX : draw_used(image, 2);
+            break;
+        case 6:
+            if (image->cell[1] > 8)
+                image->cell[1] -= (uint32_t)between(1, 4);
+            break;
+        default:
+            node[between(CHILD, SIBLING)] = chance(50) ? UINT32_MAX : draw_used(image, 0);
+        }
+    }
+}
+
 /* The kinds of damage; how often a join was made of a space with each. */
 enum damage {
     RANDOM_RECORDS,
@@ -396,6 +535,7 @@ enum damage {
     RANDOM_RECORD,
     FILLED_BEYOND,
     BENT_FIELDS,
+    BENT_TRIES,
     CHANGED_CELLS,
     DAMAGES
 };
@@ -406,16 +546,20 @@ static const char *const damage_names[DAMAGES] = {
     [OTHER_EDITION] = "other edition",       [SOUND] = "sound",
     [EXCHANGED_CELLS] = "exchanged cells",   [RANDOM_RECORD] = "random record",
     [FILLED_BEYOND] = "records beyond the counts filled, half of them with changed cells too",
-    [BENT_FIELDS] = "bent fields",           [CHANGED_CELLS] = "changed cells",
+    [BENT_FIELDS] = "bent fields",           [BENT_TRIES] = "bent tries",
+    [CHANGED_CELLS] = "changed cells",
 };
 
 static uint64_t joins_by_damage[DAMAGES];
 
 static enum damage draw_damage(void)
 {
-    static const enum damage often[] = {EXCHANGED_CELLS, BENT_FIELDS,   BENT_FIELDS,  BENT_FIELDS,
-                                        CHANGED_CELLS,   CHANGED_CELLS, CHANGED_CELLS};
-    size_t drawn = below(DAMAGES + 7);
+    static const enum damage often[] = {EXCHANGED_CELLS, BENT_FIELDS,   BENT_FIELDS,
+                                        BENT_FIELDS,     CHANGED_CELLS, CHANGED_CELLS,
+                                        CHANGED_CELLS,   BENT_TRIES,    BENT_TRIES,
+                                        BENT_TRIES,      BENT_TRIES,    BENT_TRIES};
+    enum { OFTEN = sizeof often / sizeof *often };
+    size_t drawn = below(DAMAGES + OFTEN);
     return drawn < DAMAGES ? (enum damage)drawn : often[drawn - DAMAGES];
 }
 
@@ -449,8 +593,10 @@ static void damage(struct image *image, enum damage kind)
             damage_cells(image);
         break;
     case BENT_FIELDS:
-        for (size_t times = chance(60) ? 1 : between(2, 4); times > 0; times--)
-            bend(image);
+        bend_fields(image);
+        break;
+    case BENT_TRIES:
+        bend_tries(image);
         break;
     case CHANGED_CELLS:
         damage_cells(image);
@@ -462,7 +608,7 @@ static void damage(struct image *image, enum damage kind)
 
 static enum damage draw_damaged(struct image *image)
 {
-    if (!chance(50) || !draw_for_join(image))
+    if (!chance(60) || !draw_for_join(image))
         draw_sound(image);
     enum damage kind = draw_damage();
     damage(image, kind);
@@ -476,12 +622,17 @@ static bool same_cells(const uint32_t *one, const uint32_t *other, size_t count)
     return count == 0 || memcmp(one, other, count * sizeof *one) == 0;
 }
 
-/* The cells lent to one call, and copies of what they held. */
+/* The cells lent to one call, and what they held. */
 struct loan {
+    const char *name; /* of the call */
     const struct image *image;
+    const struct index *index; /* NULL for the call that takes none */
     size_t room;
-    uint32_t *space, *terms, *copies, *out;
+    uint32_t *space, *terms, *copies, *out, *slots;
 };
+
+static const char *const indexed_names[REQUEST_KINDS] = {
+    [CALL] = "call with an index", [ANSWER] = "answer with an index", [JOIN] = "join with an index"};
 
 static uint32_t out_before[OUT_CELLS];
 
@@ -489,7 +640,7 @@ static void check_cells(unsigned round, const struct request *request, const str
                         uint64_t word)
 {
     const struct image *image = loan->image;
-    const char *name = request_names[request->kind];
+    const char *name = loan->name;
     bool refused = tables_refused_by(word) != 0;
     size_t written = 0;
     if (tables_what(word) == TABLES_CELLS || tables_what(word) == TABLES_COUNTS)
@@ -505,19 +656,21 @@ static void check_cells(unsigned round, const struct request *request, const str
         fail(round, name, "the terms or pairs were changed", word);
     if (!same_cells(loan->copies, request->copies.cell, request->copies.count))
         fail(round, name, "the copies were changed", word);
+    if (loan->index != NULL && !same_cells(loan->slots, loan->index->cell, loan->index->count))
+        fail(round, name, "the index was changed", word);
     if (!marks_kept(&space_arena) || !marks_kept(&term_arena) || !marks_kept(&copy_arena) ||
-        !marks_kept(&out_arena))
+        !marks_kept(&out_arena) || !marks_kept(&index_arena))
         fail(round, name, "cells beside those lent were changed", word);
 }
 
 /* A space without a whole header or without an edition: every call is refused by 1. */
-static void check_edition(unsigned round, const struct request *request, const struct image *image,
+static void check_edition(unsigned round, const char *name, const struct image *image,
                           uint64_t word)
 {
     bool has_edition = image->count >= 8 && (image->cell[0] == TABLES_EDITION_1 ||
                                              image->cell[0] == TABLES_EDITION_2);
     if (!has_edition && word != (uint64_t)(TABLES_CALL_REFUSED + TABLES_REFUSED_HEADER) << 32)
-        fail(round, request_names[request->kind], "not refused by 1", word);
+        fail(round, name, "not refused by 1", word);
 }
 
 /*
@@ -528,7 +681,7 @@ static void check_written(unsigned round, const struct request *request, const s
                           uint64_t word)
 {
     const uint32_t *before = loan->image->cell, *after = loan->space;
-    const char *name = request_names[request->kind];
+    const char *name = loan->name;
     if (tables_refused_by(word) != 0 || only_reads(request->kind))
         return;
     size_t end = before[7];
@@ -546,52 +699,25 @@ static void check_written(unsigned round, const struct request *request, const s
         fail(round, name, "old changed the space", word);
 }
 
-/* The same request of the other implementation. */
-static uint64_t ask_model(const struct request *request, uint32_t *space, size_t space_cells,
-                          uint32_t *out, size_t out_cells)
-{
-    const uint32_t *cells = request->argument.cell;
-    size_t count = request->argument.count;
-    switch (request->kind) {
-    case CALL:
-        return cells_model_call(space, space_cells, cells, count);
-    case ANSWER:
-        return cells_model_answer(space, space_cells, request->number, cells, count);
-    case FINISH:
-        return cells_model_finish(space, space_cells, request->number);
-    case JOIN:
-        return cells_model_join(space, space_cells, request->number, request->second, cells, count,
-                                request->target, request->copies.cell, request->copies.count);
-    case NEXT:
-        return cells_model_next(space, space_cells, request->number, request->after);
-    case LOAD:
-        return cells_model_load(space, space_cells, request->number, out, out_cells);
-    case INSTANCE:
-        return cells_model_instance(space, space_cells, request->number, out, out_cells);
-    default:
-        return cells_model_counts(space, space_cells, out, out_cells);
-    }
-}
-
 static uint32_t model_space[SPACE_CELLS], model_out[OUT_CELLS];
-static unsigned long compared;
 
 /* The other implementation answers the same, and leaves the same cells. */
-static void check_model(unsigned round, const struct request *request, const struct loan *loan,
-                        uint64_t word)
+static void check_model(unsigned round, const struct loan *loan, uint64_t word, uint64_t expected)
+{
+    compare_word(round, loan->name, word, expected);
+    if (!same_cells(loan->space, model_space, loan->image->count))
+        fail(round, loan->name, "another space than the model's", word);
+    if (!same_cells(loan->out, model_out, loan->room))
+        fail(round, loan->name, "another out than the model's", word);
+}
+
+/* The other implementation's word; model_space and model_out are what it leaves. */
+static uint64_t make_model(const struct request *request, const struct loan *loan)
 {
     size_t count = loan->image->count;
-    const char *name = request_names[request->kind];
     memcpy(model_space, loan->image->cell, count * sizeof *model_space);
     memcpy(model_out, out_before, loan->room * sizeof *model_out);
-    uint64_t expected = ask_model(request, model_space, count, model_out, loan->room);
-    compared++;
-    if (word != expected)
-        fail(round, name, "another result than the model's", word);
-    if (!same_cells(loan->space, model_space, count))
-        fail(round, name, "another space than the model's", word);
-    if (!same_cells(loan->out, model_out, loan->room))
-        fail(round, name, "another out than the model's", word);
+    return ask_model(request, model_space, count, loan->index, model_out, loan->room);
 }
 
 /* Answers to finished subgoals, and the empty answer to an open one, by what came of them */
@@ -654,41 +780,178 @@ static void check_state(unsigned round, const struct request *request, const str
     size_t place = before[5] + 6 * (size_t)(request->number - 1);
     bool open = before[place + STATE] == 0, is_new = tables_what(word) == TABLES_NEW;
     bool finishes = is_new && before[place + M] == 0;
-    if (before[place + STATE] == 1)
+    if (before[place + STATE] == 1 && loan->index == NULL)
         count_finished(request, loan->image, word);
     finished_met[GROUND_FINISHED] += finishes;
     finished_met[OPEN_GROUND_OLD] +=
         open && tables_what(word) == TABLES_OLD && before[place + M] == 0;
     if (is_new && !open)
-        fail(round, "answer", "new, and its subgoal was finished", word);
+        fail(round, loan->name, "new, and its subgoal was finished", word);
     if (loan->space[place + STATE] != (finishes ? 1 : before[place + STATE]))
-        fail(round, "answer", "another state of its subgoal", word);
+        fail(round, loan->name, "another state of its subgoal", word);
 }
 
-/* Each of the four lies against its upper or its lower guard page, by a bit of `sides`. */
-static void check_request(unsigned round, const struct image *image, const struct request *request,
-                          unsigned sides)
+/* Indexes, by what came of them */
+
+enum index_case {
+    OTHERWISE,       /* another result or space than without an index */
+    REACHED,         /* old with an index, and new, refused or another record without */
+    PASSED_DAMAGE,   /* 9 without an index, and not with it */
+    MET_DAMAGE,      /* 9 with an index, and not without it */
+    OF_NO_POWER,     /* a number of cells that is no power of two */
+    OF_NO_CELLS,
+    JOINED_OTHERWISE, /* the join entered otherwise than it was counted, see write_joined in cells_model.c */
+    JOINED_LESS,      /* and left out what it could not enter */
+    INDEX_CASES
+};
+
+static const char *const index_cases[INDEX_CASES] = {
+    [OTHERWISE] = "otherwise than without", [REACHED] = "another record reached",
+    [PASSED_DAMAGE] = "damage passed by", [MET_DAMAGE] = "damage met",
+    [OF_NO_POWER] = "no power of two", [OF_NO_CELLS] = "no cells",
+    [JOINED_OTHERWISE] = "joined otherwise than counted", [JOINED_LESS] = "with answers left out",
+};
+
+static uint64_t index_met[INDEX_CASES], indexes_lent[INDEX_KINDS];
+
+static bool is_old(uint64_t word)
+{
+    return tables_what(word) >= TABLES_OLD && tables_what(word) <= TABLES_OLD_FINISHED;
+}
+
+/* Compares with the same request without an index, and a table that no damage has touched must answer the same. */
+static void compare_chain(unsigned round, const struct request *request, const struct loan *loan,
+                          uint64_t word, bool sound)
+{
+    static uint32_t chain_space[SPACE_CELLS];
+    size_t count = loan->image->count, slots = loan->index->count;
+    memcpy(chain_space, loan->image->cell, count * sizeof *chain_space);
+    uint64_t without = ask_model(request, chain_space, count, NULL, NULL, 0);
+    bool same = word == without && same_cells(loan->space, chain_space, count);
+    bool damaged = tables_refused_by(word) == TABLES_REFUSED_DAMAGED;
+    bool damaged_without = tables_refused_by(without) == TABLES_REFUSED_DAMAGED;
+    index_met[OTHERWISE] += !same;
+    index_met[REACHED] += word != without && is_old(word) && !damaged_without;
+    index_met[PASSED_DAMAGE] += damaged_without && !damaged;
+    index_met[MET_DAMAGE] += damaged && !damaged_without;
+    index_met[OF_NO_POWER] += slots > 0 && !is_power_of_two(slots);
+    index_met[OF_NO_CELLS] += slots == 0;
+    if (!same && (sound || !is_power_of_two(slots)))
+        fail(round, loan->name, "otherwise than without the index", word);
+}
+
+/* One request */
+
+/* Lends what the request takes, each against its upper or its lower guard page, and makes it. */
+static uint64_t make_lent(const struct request *request, struct loan *loan)
 {
     size_t count = request->argument.count, copy_cells = request->copies.count;
-    struct loan loan = {.image = image, .room = chance(50) ? below(12) : between(100, OUT_CELLS)};
-    loan.space = lend(&space_arena, image->count, (sides & 1) != 0);
-    loan.terms = lend(&term_arena, count, (sides & 2) != 0);
-    loan.out = lend(&out_arena, loan.room, (sides & 4) != 0);
-    loan.copies = lend(&copy_arena, copy_cells, (sides & 8) != 0);
-    memcpy(loan.space, image->cell, image->count * sizeof *loan.space);
-    memcpy(loan.terms, request->argument.cell, count * sizeof *loan.terms);
-    memcpy(loan.copies, request->copies.cell, copy_cells * sizeof *loan.copies);
-    for (size_t i = 0; i < loan.room; i++)
-        loan.out[i] = out_before[i] = (uint32_t)(0x9e3779b9u * (i + 1));
-    uint64_t word =
-        make_request(request, loan.space, image->count, loan.terms, loan.copies, loan.out, loan.room);
-    if (!tally_result(possible, image->edition, request->kind, word))
-        fail(round, request_names[request->kind], "no result of this call", word);
-    check_edition(round, request, image, word);
+    const struct image *image = loan->image;
+    loan->space = lend(&space_arena, image->count, chance(50));
+    loan->terms = lend(&term_arena, count, chance(50));
+    loan->out = lend(&out_arena, loan->room, chance(50));
+    loan->copies = lend(&copy_arena, copy_cells, chance(50));
+    memcpy(loan->space, image->cell, image->count * sizeof *loan->space);
+    memcpy(loan->terms, request->argument.cell, count * sizeof *loan->terms);
+    memcpy(loan->copies, request->copies.cell, copy_cells * sizeof *loan->copies);
+    for (size_t i = 0; i < loan->room; i++)
+        loan->out[i] = out_before[i] = (uint32_t)(0x9e3779b9u * (i + 1));
+    if (loan->index == NULL)
+        return make_request(request, loan->space, image->count, loan->terms, loan->copies, loan->out,
+                            loan->room);
+    size_t slots = loan->index->count;
+    loan->slots = lend(&index_arena, slots, chance(50));
+    memcpy(loan->slots, loan->index->cell, slots * sizeof *loan->slots);
+    return make_indexed_request(request, loan->space, image->count,
+                                slots == 0 && chance(50) ? NULL : loan->slots, slots, loan->terms,
+                                loan->copies, loan->out, loan->room);
+}
+
+static void check_request(unsigned round, const struct image *image, const struct request *request,
+                          const struct index *index, bool sound)
+{
+    bool indexed = index != NULL;
+    struct loan loan = {.name = (indexed ? indexed_names : request_names)[request->kind],
+                        .image = image,
+                        .index = index,
+                        .room = chance(50) ? below(12) : between(100, OUT_CELLS)};
+    uint64_t word = make_lent(request, &loan);
+    uint64_t expected = make_model(request, &loan);
+    if (!tally_result(possible, image->edition, indexed ? indexed_row(request->kind) : request->kind, word))
+        fail(round, loan.name, "no result of this call", word);
+    check_edition(round, loan.name, image, word);
     check_cells(round, request, &loan, word);
     check_written(round, request, &loan, word);
     check_state(round, request, &loan, word);
-    check_model(round, request, &loan, word);
+    check_model(round, &loan, word, expected);
+    if (indexed)
+        compare_chain(round, request, &loan, word, sound);
+}
+
+/* An index for a call on the space: of the nodes as they stand, or of a build before the damage; or of any cells. */
+static void draw_lent_index(const struct image *image, struct index *index, bool any)
+{
+    enum index_kind kind = (enum index_kind)(any ? below(INDEX_KINDS) : between(EVERY_CHILD, STALE));
+    if ((kind == BUILT || kind == STALE) && planned == NULL)
+        kind = EVERY_CHILD;
+    bool of_nodes = (kind == EVERY_CHILD || kind == SPOILT_CHILDREN) && image->count > 8;
+    size_t slots = of_nodes && chance(75) ? power_from(image->count / 5) >> below(4)
+                                          : draw_slots(INDEX_CELLS);
+    if (slots > INDEX_CELLS)
+        slots = INDEX_CELLS;
+    indexes_lent[kind]++;
+    if (kind != BUILT && kind != STALE) {
+        draw_index(index, kind, slots, image->cell, image->count);
+        return;
+    }
+    const struct index *kept = kind == BUILT ? &built : &stale;
+    index->count = kept->count;
+    memcpy(index->cell, kept->cell, kept->count * sizeof *kept->cell);
+    if (chance(12))
+        resize_index(index, slots);
+}
+
+/* Builds */
+
+static uint64_t builds_of_both; /* refused by 9, where 17 would refuse too */
+
+/* A number of slots: around what the space needs, if it can be built at all, or any. */
+static size_t draw_build_slots(const struct image *image)
+{
+    static uint32_t scratch[2 * INDEX_CELLS];
+    uint64_t word = cells_model_build(image->cell, image->count, scratch, 2 * INDEX_CELLS);
+    size_t enough = power_from(2 * (size_t)tables_value(word));
+    size_t around[] = {enough, enough, enough, enough / 2, enough / 2, 2 * enough, enough - 1, enough + 1};
+    size_t drawn = around[below(8)];
+    return tables_what(word) != TABLES_BUILT || drawn > INDEX_CELLS || chance(20) ? draw_slots(INDEX_CELLS)
+                                                                                   : drawn;
+}
+
+/* Builds an index, over one that holds anything, and so does the other implementation. */
+static void check_build(unsigned round, const struct image *image)
+{
+    static uint32_t before[INDEX_CELLS], model_index[INDEX_CELLS];
+    size_t slots = draw_build_slots(image);
+    uint32_t *space = lend(&space_arena, image->count, chance(50));
+    uint32_t *index = lend(&index_arena, slots, chance(50));
+    memcpy(space, image->cell, image->count * sizeof *space);
+    for (size_t i = 0; i < slots; i++)
+        index[i] = before[i] = model_index[i] = draw_old_entry();
+    uint64_t word = tables_build(space, image->count, slots == 0 && chance(50) ? NULL : index, slots);
+    uint64_t expected = cells_model_build(image->cell, image->count, model_index, slots);
+    builds_of_both += tables_refused_by(expected) == TABLES_REFUSED_DAMAGED && !is_power_of_two(slots);
+    if (!tally_result(possible, image->edition, BUILD, word))
+        fail(round, "build", "no result of this call", word);
+    check_edition(round, "build", image, word);
+    compare_word(round, "build", word, expected);
+    if (!same_cells(index, model_index, slots))
+        fail(round, "build", "another index than the model's", word);
+    if (tables_refused_by(word) != 0 && !same_cells(index, before, slots))
+        fail(round, "build", "refused, and the index was changed", word);
+    if (!same_cells(space, image->cell, image->count))
+        fail(round, "build", "the space was changed", word);
+    if (!marks_kept(&space_arena) || !marks_kept(&index_arena))
+        fail(round, "build", "cells beside those lent were changed", word);
 }
 
 /* Fresh asks nothing of what the cells hold; it fits them or it does not, and the edition is one or none. */
@@ -731,13 +994,27 @@ static void draw_join_of(struct request *request)
     }
 }
 
-/* An answer: one that the space held before it was damaged, or another. */
-static void draw_answer_of(struct request *request)
+/* A call or an answer: one that the space held before it was damaged, as it was or with another last cell, or another. */
+static void draw_given(enum request_kind kind, struct request *request, unsigned given_chance)
 {
-    if (given.count > 0 && chance(40))
-        *request = given.request[below(given.count)];
+    const struct given *given = kind == CALL ? &given_calls : &given_answers;
+    if (given->count == 0 || !chance(given_chance)) {
+        draw_request(&drawer, kind, &known, request);
+        return;
+    }
+    *request = given->request[below(given->count)];
+    if (request->argument.count > 1 && chance(15))
+        request->argument.cell[request->argument.count - 1] += 1;
+}
+
+static void draw_for_space(enum request_kind kind, struct request *request, unsigned given_chance)
+{
+    if (kind == JOIN)
+        draw_join_of(request);
+    else if (kind == ANSWER || kind == CALL)
+        draw_given(kind, request, given_chance);
     else
-        draw_request(&drawer, ANSWER, &known, request);
+        draw_request(&drawer, kind, &known, request);
 }
 
 static unsigned times_of(unsigned kind)
@@ -747,24 +1024,39 @@ static unsigned times_of(unsigned kind)
     return kind == JOIN && planned != NULL ? 4 : kind == ANSWER ? 3 : 2;
 }
 
+/* Requests with an index: more of a space whose tries are bent, and of what stood there. */
+static void check_indexed(unsigned round, const struct image *image, enum damage kind_of_damage)
+{
+    static struct request request;
+    static struct index index;
+    bool bent = kind_of_damage == BENT_TRIES;
+    for (unsigned kind = 0; kind < REQUEST_KINDS; kind++) {
+        if (!takes_index((enum request_kind)kind))
+            continue;
+        for (unsigned times = !bent ? 3 : kind == JOIN ? 6 : 10; times > 0; times--) {
+            draw_for_space((enum request_kind)kind, &request, bent ? 90 : 50);
+            draw_lent_index(image, &index, !bent || chance(20));
+            check_request(round, image, &request, &index, kind_of_damage == SOUND);
+        }
+    }
+}
+
 static void check_round(unsigned round)
 {
     static struct image image;
     static struct request request;
     enum damage kind_of_damage = draw_damaged(&image);
     check_fresh(round, &image, round % 2 == 0);
+    for (unsigned times = kind_of_damage == BENT_TRIES ? 3 : 1; times > 0; times--)
+        check_build(round, &image);
     for (unsigned kind = 0; kind < REQUEST_KINDS; kind++) {
         for (unsigned times = times_of(kind); times > 0; times--) {
-            if (kind == JOIN)
-                draw_join_of(&request);
-            else if (kind == ANSWER)
-                draw_answer_of(&request);
-            else
-                draw_request(&drawer, (enum request_kind)kind, &known, &request);
+            draw_for_space((enum request_kind)kind, &request, 40);
             joins_by_damage[kind_of_damage] += kind == JOIN;
-            check_request(round, &image, &request, (unsigned)random_word() % 16);
+            check_request(round, &image, &request, NULL, false);
         }
     }
+    check_indexed(round, &image, kind_of_damage);
 }
 
 /* Joins of spaces with every kind of damage, and 200,000 of damaged ones in 150,000 rounds. */
@@ -798,6 +1090,39 @@ static void check_finished(void)
     }
 }
 
+static void check_often(const char *what, uint64_t times, uint64_t least)
+{
+    if (times >= least)
+        return;
+    failures++;
+    printf("failed: too seldom: %s\n", what);
+}
+
+/* What the searches met in an index, about once a round at least; and what came of it, one round in 400. */
+static void check_indexes(void)
+{
+    const struct cells_model_met *met = &cells_model_met;
+    index_met[JOINED_OTHERWISE] = met->joins_otherwise;
+    index_met[JOINED_LESS] = met->joins_left_out;
+    printf("  indexes lent:");
+    for (unsigned i = 0; i < INDEX_KINDS; i++)
+        printf("%s %s %" PRIu64, i == 0 ? "" : ",", index_names[i], indexes_lent[i]);
+    printf("\n  in them: confirmed %" PRIu64 ", passed over %" PRIu64 ", free %" PRIu64 ", around %" PRIu64
+           "\n  indexed:", met->confirmed, met->passed_over, met->free_slots, met->around);
+    for (unsigned i = 0; i < INDEX_CASES; i++)
+        printf("%s %s %" PRIu64, i == 0 ? "" : ",", index_cases[i], index_met[i]);
+    printf("; builds refused by 9 with 17 due too %" PRIu64 "\n", builds_of_both);
+    for (unsigned i = 0; i < INDEX_KINDS; i++)
+        check_often(index_names[i], indexes_lent[i], rounds / 4);
+    for (unsigned i = 0; i < INDEX_CASES; i++)
+        check_often(index_cases[i], index_met[i], i < JOINED_OTHERWISE ? rounds / 400 : rounds / 30000);
+    check_often("a confirmed entry", met->confirmed, rounds);
+    check_often("an entry passed over", met->passed_over, rounds);
+    check_often("a free slot", met->free_slots, rounds);
+    check_often("a step around", met->around, rounds / 4);
+    check_often("9 before 17", builds_of_both, rounds / 100);
+}
+
 /* Arguments: the seed, and the number of rounds. */
 int main(int argc, char **argv)
 {
@@ -811,6 +1136,7 @@ int main(int argc, char **argv)
     open_arena(&term_arena, ARGUMENT_CELLS);
     open_arena(&copy_arena, ARGUMENT_CELLS);
     open_arena(&out_arena, OUT_CELLS);
+    open_arena(&index_arena, INDEX_CELLS);
     seed_drawing(seed);
     for (unsigned round = 1; round <= rounds && failures < MOST_FAILURES; round++) {
         alarm(SECONDS);
@@ -821,6 +1147,7 @@ int main(int argc, char **argv)
         failures += check_tally(possible, rounds / 4000);
         check_joins();
         check_finished();
+        check_indexes();
     }
     printf("damaged_spaces_test: seed %" PRIu64 ", %u spaces, %lu calls compared, %u failures\n", seed,
            rounds, compared, failures);

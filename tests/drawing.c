@@ -510,12 +510,24 @@ static void draw_names(const struct known *known, struct request *request)
     draw_copies(variables, variables_of(known, request->target), &request->copies);
 }
 
+/* Would a join without pairs have so many combinations that it takes long? */
+static bool has_many_combinations(const struct known *known, const struct request *request)
+{
+    enum { MANY = 200 };
+    return is_known(known, request->number) && is_known(known, request->second) &&
+           known->answered[request->number - 1] * known->answered[request->second - 1] > MANY;
+}
+
 static void draw_join(const struct known *known, struct request *request)
 {
     request->number = draw_joined(known, true);
     request->second = chance(15) ? request->number : draw_joined(known, true);
     request->target = chance(4) ? request->number : draw_joined(known, false);
     draw_names(known, request);
+    if (request->argument.count == 0 && has_many_combinations(known, request)) {
+        request->argument.count = 2;
+        request->argument.cell[0] = request->argument.cell[1] = 0;
+    }
 }
 
 void draw_request(struct drawer *drawer, enum request_kind kind, const struct known *known,
@@ -825,22 +837,163 @@ static void plan_long(struct planning *planning)
     plan_more(planning);
 }
 
+static void open_planning(struct planning *planning, uint32_t edition, struct plan *plan)
+{
+    planning->edition = edition;
+    planning->plan = plan;
+    plan->joined_cells = plan->count = 0;
+    memset(&plan->known, 0, sizeof plan->known);
+    open_drawer(&planning->drawer, edition, 2, 5, 5);
+    draw_stock(planning);
+}
+
 void draw_plan(uint32_t edition, struct plan *plan)
 {
     static struct planning planning;
-    planning.edition = edition;
-    planning.plan = plan;
-    plan->joined_cells = plan->count = 0;
-    memset(&plan->known, 0, sizeof plan->known);
-    open_drawer(&planning.drawer, edition, 2, 5, 5);
-    draw_stock(&planning);
+    open_planning(&planning, edition, plan);
     if (chance(10))
         plan_long(&planning);
     else
         plan_small(&planning, chance(8));
 }
 
+/* Lists of requests that give a node many children */
+
+/* Constants that are all different: from a first payload on, in steps, of one kind or of two. */
+enum { WIDE_CONSTANTS = 30 };
+
+static void draw_constants(uint32_t constant[WIDE_CONSTANTS])
+{
+    static const uint32_t steps[] = {1, 1, 1, 1, 2, 16, 64, 1024};
+    uint32_t step = chance(80) ? steps[below(8)] : (uint32_t)random_word() | 1;
+    uint32_t first = chance(70) ? (uint32_t)below(40) : (uint32_t)random_word();
+    uint32_t kind = chance(50) ? TABLES_ATOM : TABLES_INTEGER;
+    bool both = chance(25); /* each payload as an atom and as an integer */
+    for (uint32_t i = 0; i < WIDE_CONSTANTS; i++) {
+        uint32_t payload = TABLES_PAYLOAD(first + step * (both ? i / 2 : i));
+        uint32_t of_kind = both ? (i % 2 == 0 ? TABLES_ATOM : TABLES_INTEGER) : kind;
+        constant[i] = tables_cell(of_kind, payload);
+    }
+}
+
+/* The families of a wide plan: what is entered once with each of its first so many constants. */
+enum family { PREDICATES, GOALS, FIRST_ANSWERS, SECOND_ANSWERS, TARGET_ANSWERS, FAMILIES };
+
+/*
+ * How many: mostly around the 8 above which children enter an index, and few or none of some families.
+ * A join reads every answer of the second once for each of the first, so there are fewer of these.
+ */
+static size_t draw_width(enum family family, bool sparse)
+{
+    static const unsigned few[FAMILIES] = {20, 20, 20, 70, 60};
+    static const size_t widths[] = {8, 8, 9, 9, 9, 10, 7}, most[FAMILIES] = {16, 16, 24, 12, 28};
+    if (chance(sparse && few[family] < 65 ? 65 : few[family]))
+        return below(3);
+    return chance(60) ? widths[below(7)] : between(9, most[family]);
+}
+
+/* Subgoals 1 and 2 are the sources of the join, 3 is its target. */
+enum { WIDE_FIRST = 1, WIDE_SECOND = 2, WIDE_TARGET = 3, WIDE_NAME = 9 };
+
+/* An answer of a constant, or of g(c) or g(h(c)), for the first variable; a few for the others. */
+static void plan_wide_answer(struct planning *planning, uint32_t subgoal, uint32_t constant,
+                             uint32_t depth)
+{
+    struct argument *answer = &plan_request(planning, ANSWER, subgoal)->argument;
+    for (uint32_t i = 0; i < depth; i++)
+        add_cell(answer, tables_functor_cell(planning->edition, WIDE_NAME + i, 1));
+    add_cell(answer, constant);
+    for (uint32_t i = variables_of(&planning->plan->known, subgoal); i > 1; i--)
+        add_cell(answer, tables_cell(TABLES_ATOM, below(2)));
+    learn_answer(planning);
+}
+
+/* A subgoal without variables: the constant as predicate if it is an atom, else below one; or below one. */
+static void plan_wide_call(struct planning *planning, uint32_t constant, bool predicate)
+{
+    struct argument *goal = &plan_request(planning, CALL, 0)->argument;
+    if (!predicate || TABLES_KIND(constant) != TABLES_ATOM)
+        add_cell(goal, tables_functor_cell(planning->edition, predicate ? WIDE_NAME + 1 : WIDE_NAME, 1));
+    add_cell(goal, constant);
+    plan_result(planning, TABLES_NEW, planning->plan->known.subgoals + 1);
+}
+
+static void plan_member(struct planning *planning, enum family family, uint32_t constant,
+                        uint32_t depth)
+{
+    if (family == PREDICATES || family == GOALS)
+        plan_wide_call(planning, constant, family == PREDICATES);
+    else
+        plan_wide_answer(planning, WIDE_FIRST + (uint32_t)(family - FIRST_ANSWERS), constant, depth);
+}
+
+/* The sources finished and joined: where the terms are equal, or where they are few, every one with every one. */
+static void plan_wide_join(struct planning *planning, bool all)
+{
+    struct request *request;
+    plan_finish(planning, WIDE_FIRST);
+    plan_finish(planning, WIDE_SECOND);
+    request = plan_request(planning, JOIN, WIDE_FIRST);
+    request->second = WIDE_SECOND;
+    request->target = WIDE_TARGET;
+    if (!all)
+        add_cells(&request->argument, (const uint32_t[]){0, 0}, 2);
+    for (uint32_t i = variables_of(&planning->plan->known, WIDE_TARGET); i > 0; i--)
+        add_cells(&request->copies, (const uint32_t[]){i % 2, 0}, 2);
+    plan_result(planning, TABLES_JOINED, 1);
+}
+
+/* What follows the join: the same again, another of the sources, the target finished, and others. */
+static void plan_wide_more(struct planning *planning)
+{
+    struct plan *plan = planning->plan;
+    const struct request *join = &plan->request[plan->count - 1];
+    if (chance(35))
+        plan->request[plan->count++] = *join;
+    if (chance(30))
+        draw_join(&plan->known, plan_request(planning, JOIN, 0));
+    if (chance(20)) {
+        plan_finish(planning, WIDE_TARGET);
+        plan->request[plan->count++] = *join;
+    }
+    for (size_t more = below(4); more > 0; more--) {
+        static const enum request_kind kinds[] = {NEXT, LOAD, INSTANCE, COUNTS, ANSWER, CALL};
+        draw_request(&planning->drawer, kinds[below(6)], &plan->known,
+                     plan_request(planning, COUNTS, 0));
+    }
+}
+
+void draw_wide_plan(uint32_t edition, struct plan *plan)
+{
+    static struct planning planning;
+    uint32_t constant[WIDE_CONSTANTS];
+    size_t entered[FAMILIES] = {0}, due[FAMILIES], left = 0;
+    uint32_t depth = chance(35) ? (uint32_t)between(1, 2) : 0;
+    bool sparse = chance(60);
+    open_planning(&planning, edition, plan);
+    draw_constants(constant);
+    plan_call(&planning, (uint32_t)between(1, 2));
+    plan_call(&planning, (uint32_t)between(1, 2));
+    plan_call(&planning, (uint32_t)between(1, 2));
+    for (unsigned family = 0; family < FAMILIES; family++)
+        left += due[family] = draw_width((enum family)family, sparse);
+    while (left > 0) {
+        unsigned family = (unsigned)below(FAMILIES);
+        if (entered[family] == due[family])
+            continue;
+        plan_member(&planning, (enum family)family, constant[entered[family]++], depth);
+        left--;
+    }
+    plan_wide_join(&planning, due[FIRST_ANSWERS] * due[SECOND_ANSWERS] < 60 && chance(80));
+    plan_wide_more(&planning);
+}
+
 bool only_reads(enum request_kind kind)
 {
     return kind == NEXT || kind == LOAD || kind == INSTANCE || kind == COUNTS;
+}
+
+bool takes_index(enum request_kind kind)
+{
+    return kind == CALL || kind == ANSWER || kind == JOIN;
 }

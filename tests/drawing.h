@@ -82,7 +82,7 @@ void draw_request(struct drawer *drawer, enum request_kind kind, const struct kn
  * many of them match, and joins. In some lists the first join gives an answer of
  * `joined_cells` cells, 255 to 257; in the others that is 0.
  */
-enum { PLAN_REQUESTS = 64 };
+enum { PLAN_REQUESTS = 144 };
 
 struct plan {
     size_t joined_cells;
@@ -93,8 +93,19 @@ struct plan {
 
 void draw_plan(uint32_t edition, struct plan *plan);
 
+/*
+ * The same for a table with many children under some nodes, up to 30, often exactly 8 or 9: calls
+ * and answers of constants in a random order, so that the children of one node are numbered among
+ * those of others, and a join of two such subgoals. Their tokens are close together or far apart, or
+ * differ in the kind alone, so that in an index they begin at the same slots or at neighbours.
+ */
+void draw_wide_plan(uint32_t edition, struct plan *plan);
+
 /* Does the kind of request only read the space? */
 bool only_reads(enum request_kind kind);
+
+/* Does it search, so that it may be lent an index? */
+bool takes_index(enum request_kind kind);
 
 size_t distinct_variables(const struct argument *argument);
 

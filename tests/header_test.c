@@ -4,8 +4,8 @@
 #include <stdio.h>
 #include <string.h>
 
-#if TABLES_VERSION < 10100
-#error "the version is 1.1.0 or later"
+#if TABLES_VERSION < 30100
+#error "the version is 3.1.0 or later"
 #endif
 
 static int checks, failures;
@@ -26,6 +26,9 @@ static const uint32_t constant[] = {
 
 static void test_constants(void)
 {
+    check(TABLES_VERSION_MAJOR == 3 && TABLES_VERSION_MINOR == 1 && TABLES_VERSION_PATCH == 0 &&
+              TABLES_VERSION == 30100,
+          "the version is 3.1.0");
     check(PAIR == 0x50000000, "a pair");
     check(constant[0] == 0x40000128 && constant[1] == 0x20000007, "constants in range");
     check(constant[2] == 0x20000000, "the empty list");
@@ -116,12 +119,22 @@ static void test_ends(void)
     check(tables_broken_kind(word(TABLES_NO_MORE, 0)) == 0, "no more is not refusal 9");
 }
 
+/* The index brought a word, a refusal and a bound, behind those that there were. */
+static void test_index_numbers(void)
+{
+    check(TABLES_JOINED == 10 && TABLES_BUILT == 11 && TABLES_CALL_REFUSED == 256, "the numbers of the words");
+    check(TABLES_REFUSED_NAMES == 16 && TABLES_REFUSED_SLOTS == 17, "the numbers of the refusals");
+    check(tables_value(word(TABLES_BUILT, 9)) == 9, "the children entered");
+    check(tables_refused_by(word(TABLES_BUILT, 17)) == 0, "built is no refusal");
+    check(TABLES_STACK_BUILD > 0, "a bound for the build");
+}
+
 static void test_words(void)
 {
     check(tables_value(word(TABLES_CELLS, 5)) == 5, "a value");
     check(tables_refused_by(word(TABLES_CELLS, 5)) == 0, "not refused");
     check(tables_need(word(TABLES_CELLS, 12)) == 0, "no need of an accepted call");
-    for (uint32_t refusal = 1; refusal <= 16; refusal++) {
+    for (uint32_t refusal = 1; refusal <= 17; refusal++) {
         uint64_t refused = word(TABLES_CALL_REFUSED + refusal, 9);
         check(tables_refused_by(refused) == refusal, "refused by its number");
         check(tables_value(refused) == 0, "no value of a refused call");
@@ -142,16 +155,17 @@ static void test_words(void)
 /* A sentence for each number, none twice, and one for all others. */
 static void test_texts(void)
 {
-    for (uint32_t i = 0; i <= 17; i++) {
+    for (uint32_t i = 0; i <= 18; i++) {
         const char *text = tables_refusal_text(i);
         size_t length = strlen(text);
         check(length > 10 && text[length - 1] == '.', "a sentence");
-        for (uint32_t j = 1; j < i && i <= 16; j++)
+        for (uint32_t j = 1; j < i && i <= 17; j++)
             check(strcmp(text, tables_refusal_text(j)) != 0, "a sentence of its own");
     }
-    check(strcmp(tables_refusal_text(0), tables_refusal_text(17)) == 0, "no refusal");
-    check(strcmp(tables_refusal_text(17), tables_refusal_text(UINT32_MAX)) == 0, "unknown");
-    check(strcmp(tables_refusal_text(16), tables_refusal_text(17)) != 0, "16 is known");
+    check(strcmp(tables_refusal_text(0), tables_refusal_text(18)) == 0, "no refusal");
+    check(strcmp(tables_refusal_text(18), tables_refusal_text(UINT32_MAX)) == 0, "unknown");
+    check(strcmp(tables_refusal_text(17), tables_refusal_text(18)) != 0, "17 is known");
+    check(strstr(tables_refusal_text(TABLES_REFUSED_SLOTS), "index") != NULL, "17 tells of the index");
 }
 
 /* Cells out of range are refused by 3, the need is the need, and a space knows its edition. */
@@ -187,6 +201,30 @@ static void test_space(void)
     check(tables_call(space, SPACE_CELLS, &atom, 1) == word(TABLES_OLD_FINISHED, 2), "finished");
 }
 
+/* An index built of a table, too small and large enough, and calls that are lent it or none. */
+static void test_index(void)
+{
+    enum { CHILDREN = 9, SLOTS = 32, CELLS = TABLES_SPACE_CELLS(30, 10, 1) };
+    static uint32_t space[CELLS], index[SLOTS];
+    uint32_t goal = tables_cell(TABLES_ATOM, 0), taken = 0;
+    check(tables_fresh(space, CELLS, 30, 10, 1, TABLES_EDITION_2) == 0, "fresh for an index");
+    for (uint32_t i = 1; i <= CHILDREN; i++) {
+        goal = tables_cell(TABLES_ATOM, i);
+        check(tables_call_indexed(space, CELLS, NULL, 0, &goal, 1) == word(TABLES_NEW, i), "a call without cells of an index");
+    }
+    check(tables_refused_by(tables_build(space, CELLS, index, SLOTS / 2)) == TABLES_REFUSED_SLOTS, "too few slots");
+    check(tables_build(space, CELLS, index, SLOTS) == word(TABLES_BUILT, CHILDREN), "an index");
+    for (size_t i = 0; i < SLOTS; i++)
+        taken += index[i] != 0;
+    check(taken == CHILDREN, "a slot for each child");
+    check(tables_call_indexed(space, CELLS, index, SLOTS, &goal, 1) == word(TABLES_OLD_OPEN, CHILDREN), "a call with an index");
+    check(tables_answer_indexed(space, CELLS, index, SLOTS, 1, NULL, 0) == word(TABLES_NEW, 1), "an answer with an index");
+    check(tables_answer_indexed(space, CELLS, index, SLOTS, 1, NULL, 0) == word(TABLES_OLD, 1), "and again");
+    check(tables_refused_by(tables_join_indexed(space, CELLS, index, SLOTS, 1, 1, NULL, 0, 2, NULL, 0)) ==
+              TABLES_REFUSED_NO_RECORD,
+          "a join with an index");
+}
+
 int main(void)
 {
     test_constants();
@@ -194,9 +232,11 @@ int main(void)
     test_arguments();
     test_functors();
     test_ends();
+    test_index_numbers();
     test_words();
     test_texts();
     test_space();
+    test_index();
     printf("header_test: %d checks, %d failed\n", checks, failures);
     return failures != 0;
 }

@@ -2,7 +2,7 @@
 import ctypes
 import sys
 
-NEW, OLD, OLD_OPEN, OLD_FINISHED, AT, NONE_YET, CELLS, COUNTS, NO_MORE, JOINED, REFUSED = *range(1, 11), 256
+NEW, OLD, OLD_OPEN, OLD_FINISHED, AT, NONE_YET, CELLS, COUNTS, NO_MORE, JOINED, BUILT, REFUSED = *range(1, 12), 256
 EDITION_2 = 2
 F2, G2, X, Y, A, B = 0x40000102, 0x40000202, 0x10000007, 0x10000009, 0x20000001, 0x20000002
 PAIR, EMPTY = 0x50000000, 0x20000000
@@ -21,6 +21,10 @@ ARGUMENTS = {
     "instance": SPACE + [CELL] + SPACE,
     "counts": SPACE + SPACE,
     "join": SPACE + [CELL, CELL] + SPACE + [CELL] + SPACE,
+    "build": SPACE + SPACE,
+    "call_indexed": SPACE + SPACE + SPACE,
+    "answer_indexed": SPACE + SPACE + [CELL] + SPACE,
+    "join_indexed": SPACE + SPACE + [CELL, CELL] + SPACE + [CELL] + SPACE,
     "check": SPACE,
     "compact": BYTES + BYTES + [CELL],
     "expand": BYTES + BYTES + [CELL],
@@ -28,7 +32,7 @@ ARGUMENTS = {
 
 
 def exports(path):
-    """The twelve exports by their names."""
+    """The sixteen exports by their names."""
     library = ctypes.CDLL(path)
     found = {}
     for name, arguments in ARGUMENTS.items():
@@ -117,6 +121,31 @@ def try_join(call):
     expect("joined", list(out[0]), [B, B])
 
 
+def try_index(call):
+    """p(X) with nine constants as answers: node 3 is their root, 4 to 12 are they; from slot 3 + 1 on."""
+    space, index = cells([0] * (8 + 5 * 40 + 6 * 3 + 3 * 20)), cells([7] * 32)
+    p, q = 0x40000301, 0x40000401
+
+    def said(what, name, value, *arguments):
+        expect(name, divmod(call[name](*space, *arguments), 2**32), (what, value))
+
+    said(0, "fresh", 0, 40, 3, 20, EDITION_2)
+    said(NEW, "call_indexed", 1, *index, *cells([p, X]))
+    for number in range(1, 10):
+        said(NEW, "answer_indexed", number, *index, 1, *cells([EMPTY + number]))
+    said(REFUSED + 17, "build", 0, index[0], 16)
+    expect("a refused build", list(index[0]), [7] * 32)
+    said(BUILT, "build", 9, *index)
+    expect("built", list(index[0]), [0] * 4 + list(range(4, 13)) + [0] * 19)
+    said(OLD, "answer_indexed", 9, *index, 1, *cells([EMPTY + 9]))
+    said(OLD_OPEN, "call_indexed", 1, *index, *cells([p, Y]))
+    said(NEW, "call_indexed", 2, *index, *cells([q, Y]))
+    said(0, "finish", 0, 1)
+    said(JOINED, "join_indexed", 9, *index, 1, 1, *cells([0, 0]), 2, *cells([1, 0]))
+    said(JOINED, "join_indexed", 0, *index, 1, 1, *cells([0, 0]), 2, *cells([1, 0]))
+    said(0, "check", 0)
+
+
 def try_converters(call):
     """[A, B] to its compact form and back."""
     term, form, out = [PAIR, A, PAIR, B, EMPTY], [BLIST, A, ELIST, B], data([0] * 8)
@@ -132,6 +161,7 @@ def main():
     call = exports(sys.argv[1])
     try_table(call)
     try_join(call)
+    try_index(call)
     try_converters(call)
     print("shared_test: as expected")
 

@@ -3,7 +3,8 @@
  *
  * Each call is made on a stack of its own that was painted before; the paint that is gone afterwards is what was used.
  * The worst input is searched for: every sequence of up to UNIT_CELLS cells of an alphabet, repeated, as a term, a form
- * or a path, at the lengths at which the readers change their buffers; and lists nested as deep as legal terms allow.
+ * or a path, at the lengths at which the readers change their buffers; and lists nested as deep as legal terms allow. What
+ * takes an index is measured with one that leads to the children and with one that leads nowhere.
  */
 #define _DEFAULT_SOURCE
 
@@ -32,7 +33,25 @@ enum { STACK_BYTES = 1 << 20, UNIT_CELLS = 3, FORM_CELLS = 383, LONGEST_LISTS = 
 
 /* Exports */
 
-enum export { FRESH, CALL, ANSWER, FINISH, NEXT, LOAD, INSTANCE, COUNTS, JOIN, CHECK, COMPACT, EXPAND, EXPORTS };
+enum export {
+    FRESH,
+    CALL,
+    ANSWER,
+    FINISH,
+    NEXT,
+    LOAD,
+    INSTANCE,
+    COUNTS,
+    JOIN,
+    BUILD,
+    CALL_INDEXED,
+    ANSWER_INDEXED,
+    JOIN_INDEXED,
+    CHECK,
+    COMPACT,
+    EXPAND,
+    EXPORTS
+};
 
 static const struct {
     const char *name;
@@ -42,7 +61,9 @@ static const struct {
     {"tables_answer", TABLES_STACK_ANSWER},     {"tables_finish", TABLES_STACK_FINISH},
     {"tables_next", TABLES_STACK_NEXT},         {"tables_load", TABLES_STACK_LOAD},
     {"tables_instance", TABLES_STACK_INSTANCE}, {"tables_counts", TABLES_STACK_COUNTS},
-    {"tables_join", TABLES_STACK_JOIN},         {"tables_check", TABLES_STACK_CHECK},
+    {"tables_join", TABLES_STACK_JOIN},         {"tables_build", TABLES_STACK_BUILD},
+    {"tables_call_indexed", TABLES_STACK_CALL}, {"tables_answer_indexed", TABLES_STACK_ANSWER},
+    {"tables_join_indexed", TABLES_STACK_JOIN}, {"tables_check", TABLES_STACK_CHECK},
     {"tables_compact", TABLES_STACK_COMPACT},   {"tables_expand", TABLES_STACK_EXPAND},
 };
 
@@ -54,8 +75,28 @@ static size_t space_cells = sizeof space / sizeof space[0];
 static uint32_t nodes = 2000;
 static const uint32_t pairs[2] = {0, 0}, copies[2] = {0, 0};
 static size_t pair_cells;
+static uint32_t slots[4096];
+static size_t slot_count = 64;
 static uint32_t out[TABLES_INSTANCE_CELLS];
 static uint64_t word;
+
+/* The calls that take an index, and the build of one. */
+static void make_indexed(enum export export)
+{
+    switch (export) {
+    case BUILD:
+        word = tables_build(space, space_cells, slots, slot_count);
+        break;
+    case CALL_INDEXED:
+        word = tables_call_indexed(space, space_cells, slots, slot_count, cells, cell_count);
+        break;
+    case ANSWER_INDEXED:
+        word = tables_answer_indexed(space, space_cells, slots, slot_count, 1, cells, cell_count);
+        break;
+    default:
+        word = tables_join_indexed(space, space_cells, slots, slot_count, 1, 2, pairs, pair_cells, 3, copies, 2);
+    }
+}
 
 static void make(enum export export)
 {
@@ -99,8 +140,8 @@ static void make(enum export export)
     case EXPAND:
         word = tables_expand(in, 4 * cell_count, out_bytes, sizeof out, TABLES_EDITION_1);
         break;
-    case EXPORTS:
-        break;
+    default:
+        make_indexed(export);
     }
 }
 
@@ -143,12 +184,12 @@ static size_t used_by(enum export export)
     there.uc_link = &here;
     makecontext(&there, on_stack, 0);
     swapcontext(&here, &there);
-    size_t first = 0;
-    while (first < stack_words && stack[first] == paint)
+    uint64_t *first = stack, *end = stack + stack_words;
+    while (first < end && *first == paint)
         first++;
-    for (size_t i = first; i < stack_words; i++)
-        stack[i] = paint;
-    return (size_t)(called_from - (stack + first)) * sizeof(uint64_t);
+    for (uint64_t *used = first; used < end; used++)
+        *used = paint;
+    return (size_t)(called_from - first) * sizeof(uint64_t);
 }
 
 /* The worst so far of each export, and its input */
@@ -360,9 +401,16 @@ static void long_answer(void)
     answer_path();
 }
 
-static void measure_term(void)
+/* An index in which no entry is one of the space's children, or in which every slot names the same node. */
+static void fill_slots(uint32_t entry)
 {
-    measure(COMPACT, input_name);
+    for (size_t i = 0; i < slot_count; i++)
+        slots[i] = entry;
+}
+
+/* The cells as an answer and as a subgoal, new and old. */
+static void measure_entered(enum export answer, enum export call)
+{
     begin_space(1);
     uint32_t kept[MOST_LEN];
     size_t kept_count = cell_count;
@@ -370,15 +418,27 @@ static void measure_term(void)
     called_p();
     memcpy(cells, kept, sizeof kept);
     cell_count = kept_count;
-    measure(ANSWER, input_name);
-    measure(ANSWER, input_name);
+    measure(answer, input_name);
+    fill_slots(space[1] - 1);
+    measure(answer, input_name);
     if (cell_count < TABLES_TERM_CELLS) {
         memmove(cells + 1, cells, cell_count * sizeof *cells);
         cells[0] = F1;
         cell_count++;
     }
-    measure(CALL, input_name);
-    measure(CALL, input_name);
+    measure(call, input_name);
+    fill_slots(space[1] - 2);
+    measure(call, input_name);
+    memcpy(cells, kept, sizeof kept);
+    cell_count = kept_count;
+}
+
+static void measure_term(void)
+{
+    measure(COMPACT, input_name);
+    measure_entered(ANSWER, CALL);
+    fill_slots(UINT32_MAX);
+    measure_entered(ANSWER_INDEXED, CALL_INDEXED);
 }
 
 /* Any path as an answer of either source; the pair names it. */
@@ -396,7 +456,9 @@ static void measure_sources(void)
     source_answer(1, cells, cell_count);
     source_answer(2, cells, cell_count);
     measure(JOIN, input_name);
+    fill_slots(space[1] - 1);
     measure(JOIN, input_name);
+    measure(JOIN_INDEXED, input_name);
 }
 
 /* A check that gets as far as the paths: the nodes are whole. */
@@ -451,10 +513,11 @@ static void begin_twice(uint32_t room)
     source_answer(2, &seconds[1], 1);
 }
 
-/* A join that must give this word. */
-static void measure_join(uint32_t what, uint32_t value)
+/* A join, with an index or without, that must give this word. */
+static void measure_join(enum export join, uint32_t what, uint32_t value)
 {
-    measure(JOIN, input_name);
+    fill_slots(space[1] - 1);
+    measure(join, input_name);
     if (word != ((uint64_t)what << 32 | value)) {
         printf("stack: the join of %s gave %" PRIx64 "\n", input_name, word);
         exit(1);
@@ -465,21 +528,59 @@ static void measure_join(uint32_t what, uint32_t value)
  * A legal form that a join gives twice, so that the sum over both is above what they need: with room for the sum; with
  * just enough, which is found by comparing the forms with each other; with a node less; and old forms.
  */
-static void measure_room(void)
+static void measure_room(enum export join)
 {
     pair_cells = 0;
     begin_twice(2000);
     uint32_t enough = space[1] + (uint32_t)cell_count;
-    measure_join(TABLES_JOINED, 1);
-    measure_join(TABLES_JOINED, 0);
+    measure_join(join, TABLES_JOINED, 1);
+    measure_join(join, TABLES_JOINED, 0);
     begin_twice(enough);
-    measure_join(TABLES_JOINED, 1);
+    measure_join(join, TABLES_JOINED, 1);
     begin_twice(enough - 1);
-    measure_join(TABLES_CALL_REFUSED + TABLES_REFUSED_NO_NODE, 0);
+    measure_join(join, TABLES_CALL_REFUSED + TABLES_REFUSED_NO_NODE, 0);
+    measure(BUILD, input_name);
+}
+
+/* A build that must give this word. */
+static void measure_build(const char *input, uint32_t what, uint32_t value)
+{
+    measure(BUILD, input);
+    if (word != ((uint64_t)what << 32 | value)) {
+        printf("stack: the build of %s gave %" PRIx64 "\n", input, word);
+        exit(1);
+    }
+}
+
+/* A parent as long a way off as there are nodes; and all nodes under one, with slots enough and with too few. */
+static void measure_builds(void)
+{
+    make(FRESH);
+    space[1] = 2000;
+    for (uint32_t i = 1; i < 2000; i++) {
+        uint32_t record[5] = {A, i == 1999 ? 0 : i + 1, 0, i - 1, 0};
+        memcpy(node(i), record, sizeof record);
+    }
+    node(0)[1] = 1;
+    measure_build("a path of all nodes", TABLES_BUILT, 0);
+    node(1999)[4] = 1;
+    measure_build("a path of all nodes, the last damaged", TABLES_CALL_REFUSED + TABLES_REFUSED_DAMAGED, 0);
+    make(FRESH);
+    space[1] = 2000;
+    for (uint32_t i = 1; i < 2000; i++) {
+        uint32_t record[5] = {TABLES_CELL(TABLES_ATOM, i / 2), 0, i == 1999 ? 0 : i + 1, 0, 0};
+        memcpy(node(i), record, sizeof record);
+    }
+    node(0)[1] = 1;
+    measure_build("1999 children and too few slots", TABLES_CALL_REFUSED + TABLES_REFUSED_SLOTS, 0);
+    slot_count = 4096;
+    measure_build("1999 children", TABLES_BUILT, 1999);
+    slot_count = 64;
 }
 
 static void measure_all(void)
 {
+    measure_builds();
     for (unsigned unit = 0; repeat_unit(unit, 1, false); unit++)
         for (size_t i = 0; i < TERM_LENGTHS; i++) {
             repeat_unit(unit, term_lengths[i], false);
@@ -495,11 +596,13 @@ static void measure_all(void)
         measure_term();
         nest(lists, true);
         measure_form();
-        measure_room();
+        measure_room(JOIN);
+        measure_room(JOIN_INDEXED);
     }
     longest_form();
     measure_form();
-    measure_room();
+    measure_room(JOIN);
+    measure_room(JOIN_INDEXED);
     begin_space(1);
     called_p();
     long_answer();
@@ -513,11 +616,11 @@ int main(void)
     open_stack();
     measure_all();
     unsigned failures = 0;
-    printf("export           bytes   bound  worst input\n");
+    printf("export                 bytes   bound  worst input\n");
     for (unsigned i = 0; i < EXPORTS; i++) {
         bool fits = worst[i].used <= exports[i].bound;
         failures += !fits;
-        printf("%-15s %6zu  %6zu  %s%s\n", exports[i].name, worst[i].used, exports[i].bound,
+        printf("%-21s %6zu  %6zu  %s%s\n", exports[i].name, worst[i].used, exports[i].bound,
                worst[i].input, fits ? "" : ": FAILED");
     }
     printf("stack: %s\n", failures == 0 ? "within the bounds" : "FAILED");

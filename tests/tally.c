@@ -11,7 +11,13 @@ static uint64_t came[EDITIONS][TALLY_ROWS][RESULTS];
 
 static const char *row_name(unsigned row)
 {
-    return row == FRESH ? "fresh" : request_names[row];
+    static const char *const others[TALLY_ROWS - REQUEST_KINDS] = {"fresh", "build", "call+", "answer+", "join+"};
+    return row < REQUEST_KINDS ? request_names[row] : others[row - REQUEST_KINDS];
+}
+
+unsigned indexed_row(enum request_kind kind)
+{
+    return kind == CALL ? INDEXED_CALL : kind == ANSWER ? INDEXED_ANSWER : INDEXED_JOIN;
 }
 
 bool tally_result(const uint32_t possible[TALLY_ROWS], uint32_t edition, unsigned row,
@@ -19,10 +25,10 @@ bool tally_result(const uint32_t possible[TALLY_ROWS], uint32_t edition, unsigne
 {
     uint32_t refusal = tables_refused_by(word);
     uint32_t result = refusal > 0 ? RESULT_WHATS + refusal - 1 : tables_what(word);
-    if ((refusal == 0 && result > TABLES_JOINED) || result >= RESULTS)
+    if ((refusal == 0 && result > TABLES_BUILT) || result >= RESULTS)
         return false;
-    if (refusal == 0 && result == TABLES_JOINED && tables_value(word) == 0)
-        result = JOINED_NONE;
+    if (refusal == 0 && result >= TABLES_JOINED && tables_value(word) == 0)
+        result = result == TABLES_JOINED ? JOINED_NONE : BUILT_NONE;
     came[edition - 1][row][result]++;
     return (possible[row] >> result & 1) != 0;
 }
@@ -30,8 +36,8 @@ bool tally_result(const uint32_t possible[TALLY_ROWS], uint32_t edition, unsigne
 static void print_row(uint32_t edition, unsigned row)
 {
     static const char *const whats[RESULT_WHATS] = {
-        "done",  "new",    "old",     "open",   "finished",    "at", "none yet",
-        "cells", "counts", "no more", "joined", "joined none",
+        "done",   "new",     "old",    "open",  "finished",    "at",         "none yet", "cells",
+        "counts", "no more", "joined", "built", "joined none", "built none",
     };
     printf("  %-8s", row_name(row));
     for (unsigned result = 0; result < RESULTS; result++) {

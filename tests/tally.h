@@ -6,10 +6,10 @@
 #include "drawing.h"
 
 /*
- * A result's place in a set: the whats from TABLES_DONE to TABLES_JOINED, a join with no new answer by
- * itself, then the refusals 1 to 16.
+ * A result's place in a set: the whats from TABLES_DONE to TABLES_BUILT, a join with no new answer and
+ * a build with no child by themselves, then the refusals 1 to 17.
  */
-enum { JOINED_NONE = TABLES_JOINED + 1, RESULT_WHATS, RESULTS = RESULT_WHATS + 16 };
+enum { JOINED_NONE = TABLES_BUILT + 1, BUILT_NONE, RESULT_WHATS, RESULTS = RESULT_WHATS + 17 };
 
 #define RESULT(what) (UINT32_C(1) << (what))
 #define REFUSAL(number) (UINT32_C(1) << (RESULT_WHATS + (number) - 1))
@@ -18,8 +18,11 @@ enum { JOINED_NONE = TABLES_JOINED + 1, RESULT_WHATS, RESULTS = RESULT_WHATS + 1
 #define READER_REFUSALS (REFUSAL(3) | REFUSAL(4) | REFUSAL(5))
 #define ROOM_REFUSALS (REFUSAL(10) | REFUSAL(11))
 
-/* Rows are the kinds of request; fresh stands behind them. */
-enum { FRESH = REQUEST_KINDS, TALLY_ROWS };
+/* Rows are the kinds of request; behind them stand fresh, build, and the requests that are lent an index. */
+enum { FRESH = REQUEST_KINDS, BUILD, INDEXED_CALL, INDEXED_ANSWER, INDEXED_JOIN, TALLY_ROWS };
+
+/* The row of a kind of request that takes an index and is lent one. */
+unsigned indexed_row(enum request_kind kind);
 
 /* Counts one result, of a table of an edition. Is it among the possible ones of its row? */
 bool tally_result(const uint32_t possible[TALLY_ROWS], uint32_t edition, unsigned row,

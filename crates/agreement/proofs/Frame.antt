@@ -21,7 +21,7 @@ use Rattle.space.specs.declared.Head.{Head}
 use Rattle.space.specs.declared.Header.{Header}
 use Rattle.space.specs.declared.Header.the-variants as header
 use Rattle.space.specs.declared.Subgoal.{Subgoal}
-use Rattle.trie.specs.Siblings.{Trie}
+use Rattle.trie.specs.Siblings.{Trie, searchChildren}
 use Rattle.trie.specs.Walks.{Walk, whole, stopped, damaged, onward, Finding, rootSound, walkFromBy, walkBy}
 use Rattle.trie.specs.Append.{newNode, leadCell, appendNode, appendPath, withPath}
 use Rattle.trie.specs.declared.Search.{Search}
@@ -211,7 +211,7 @@ module _ {find : Finding} (finds : Finds find) (e s : ℕ) (known : knownEdition
       let d : Decision = answeredAt v s w x in
       let l = decision-leaves finds v s low high root last w in
       let c = cells-change (sizesOf e) (sizes-wide e) cs h d sound (l .0) in
-      let is : change (sizesOf e) cs h d ≡ answerGiven (sizesOf e) cs h d = given-written (sizesOf e) cs h s w x in
+      let is : change (sizesOf e) cs h d ≡ answerGiven (sizesOf e) cs h d = given-written searchChildren (sizesOf e) cs h s w x in
       let cs′ : List ℕ = answerGiven (sizesOf e) cs h d in
       let h′ : Head = c .0 in
       let sound′ : headerOf (sizesOf e) cs′ ≡ header.Sound h′ = subst (λ (ds : List ℕ). headerOf (sizesOf e) ds ≡ header.Sound h′) is (c .1) in

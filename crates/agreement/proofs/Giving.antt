@@ -26,6 +26,7 @@ use Rattle.space.specs.Heading.{headerOf}
 use Rattle.space.specs.declared.Head.{Head}
 use Rattle.trie.specs.Walks.{Walk, whole, Finding}
 use Rattle.trie.proofs.IndexLaws.{AsChains}
+use Rattle.trie.specs.Siblings.{searchChildren}
 use Rattle.store.specs.Views.{View, viewOf}
 use Rattle.store.specs.Decisions as decisions
 use Rattle.store.specs.Decisions.{Decision, answeredAt, walkTo, metSound, allSound, allSoundBy, lacking, missing, nodesNeeded, nodesNeededBy, answersNeeded, answersNeededBy}
@@ -131,7 +132,7 @@ module _ (z : Sizes) (c : Coding) (cells : Cells z) (laws : CodingLaws c) (s : �
       let a : Agrees c (viewOf z cs h) [] (table.answered t s (accepted w n)) d = unfold decisions.answeredBy in answered-read c laws t (viewOf z cs h) (k .same) s low high ks (accepted w n) e in
       let g = taken t s low high w n (taking-open t s w ready (ground-empty c laws (subgoalAt t s .m) ks w n e)) room free in
       let b = agrees-answers z c cells cs h (k .sound) a in
-      rw (k .sound) (subst (λ (u : Table). Holds z c u (answerGiven z cs h d)) g (subst (Holds z c (table.answered t s (accepted w n) .state)) (given-written z cs h s w x) (b .holds)))
+      rw (k .sound) (subst (λ (u : Table). Holds z c u (answerGiven z cs h d)) g (subst (Holds z c (table.answered t s (accepted w n) .state)) (given-written searchChildren z cs h s w x) (b .holds)))
 
   -- all of them, where there is room at the end
   pub forms-hold : (ws : List Word) (t : Table) (cs : List ℕ) → Holds z c t cs → s ≤ length (t .subgoals) → Taking t s → Readable c (subgoalAt t s .m) ws

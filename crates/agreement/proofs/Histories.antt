@@ -1,11 +1,20 @@
--- A history shows the trace of its calls, and so the plain table's.
+-- A history shows the trace of its calls, and so the plain table's: on cells that hold a table, a call with any index is
+-- the call without.
 use Prim.Native.Nat.{ℕ}
+use mathlib.Core.Bool.{true}
 use mathlib.Core.List.{List, [], _∷_, map}
-use mathlib.Core.Path.{_≡_, refl, ap, _∙_}
-use Rattle.plain.specs.Requests.{Request, Reply, Seen, trace}
-use Rattle.store.specs.Calls.{spaceStep, Answers, countedCells}
-use Rattle.agreement.specs.History.{Made, History, asked, seenOf, Histories, Lived}
-use Rattle.agreement.proofs.Theorem.{promise}
+use mathlib.Core.Path.{_≡_, refl, sym, ap, _∙_, subst}
+use Rattle.basis.specs.Editions.{knownEdition}
+use Rattle.plain.specs.Coding.{codingOf}
+use Rattle.plain.specs.Requests.{Request, Reply, Result, Seen, trace}
+use Rattle.plain.specs.Table.{Table, fresh, step}
+use Rattle.space.specs.Layout.{sizesOf}
+use Rattle.space.specs.Fresh.{freshSpace}
+use Rattle.store.specs.Calls.{spaceStep, spaceStepBy, Answers, countedCells}
+use Rattle.agreement.specs.History.{Beside, alone, index, wayOf, Lent, Made, Meets, History, asked, seenOf, Histories, Lived}
+use Rattle.agreement.proofs.Holding.{Holds}
+use Rattle.agreement.proofs.IndexSteps.{step-indexed, state-holds, fresh-held}
+use Rattle.agreement.proofs.Theorem.{fresh-in, promise}
 
 abbrev shows : List ℕ → List Request → List Seen
 shows cs qs = trace spaceStep countedCells cs qs
@@ -17,21 +26,41 @@ made-shown : (cs : List ℕ) (q : Request) (r : Reply) (out after : List ℕ) (q
 unfolding trace
 made-shown cs q r out after qs seen k e = rw (e, k .0, k .1, k .2) refl
 
-history-shown : (cs : List ℕ) (ms : List Made) → History cs ms → map seenOf ms ≡ shows cs (asked ms)
-unfolding History
-history-shown cs [] h = unfold trace in refl
-history-shown cs (m ∷ ms) h =
-    made-shown cs (m .request) (m .reply) (m .out) (m .after) (asked ms) (map seenOf ms) (h .0) (history-shown (m .after) ms (h .1))
+module _ (e : ℕ) (known : knownEdition e ≡ true) where
+  -- whatever the call was lent
+  way-same : (t : Table) (cs : List ℕ) → Holds (sizesOf e) (codingOf e) t cs → (b : Beside) (q : Request) → spaceStepBy (wayOf b) cs q ≡ spaceStep cs q
+  way-same t cs k alone q = refl
+  way-same t cs k (index xs) q = step-indexed e known t cs k xs q
+
+  meets-alone : (t : Table) (cs : List ℕ) → Holds (sizesOf e) (codingOf e) t cs → (m : Made) → Meets cs m → Answers cs (m .request) (m .reply) (m .out) (m .after)
+  meets-alone t cs k m a =
+      let w = way-same t cs k (m .beside) (m .request) in (
+        a .0 ∙ ap (λ (x : Result (List ℕ)). x .reply) w,
+        a .1 ∙ ap (λ (x : Result (List ℕ)). x .out) w,
+        a .2 ∙ ap (λ (x : Result (List ℕ)). x .state) w,
+      )
+
+  history-shown : (t : Table) (cs : List ℕ) (ms : List Made) → Holds (sizesOf e) (codingOf e) t cs → History cs ms → map seenOf ms ≡ shows cs (asked ms)
+  unfolding History
+  history-shown t cs [] k h = unfold trace in refl
+  history-shown t cs (m ∷ ms) k h =
+      let a = meets-alone t cs k m (h .0) in
+      let l = subst (Holds (sizesOf e) (codingOf e) (step (codingOf e) t (m .request) .state)) (sym (a .2)) (state-holds e known t cs (m .request) k) in
+      made-shown cs (m .request) (m .reply) (m .out) (m .after) (asked ms) (map seenOf ms) a (history-shown (step (codingOf e) t (m .request) .state) (m .after) ms l (h .1))
 
 pub histories : Histories
-histories e n f a s ms d h = history-shown _ ms h ∙ promise e n f a s (asked ms) d
+histories e n f a s ms d h =
+    let k = fresh-in e n f a s d in
+    let first : History (freshSpace (sizesOf e) n f a s) ms = subst (λ (cs : List ℕ). History cs ms) (k .2) h in
+    rw (k .2) (history-shown e (k .0) (fresh n f a) (freshSpace (sizesOf e) n f a s) ms (fresh-held e (k .0) n f a s (k .1)) first)
+    ∙ promise e n f a s (asked ms) d
 
 -- the calls of the library itself
 pub lived : Lived
 unfolding History
 lived cs [] = ([], tt, refl)
 lived cs (q ∷ qs) =
-    let r = spaceStep cs q in
-    let m : Made = record { request = q; reply = r .reply; out = r .out; after = r .state } in
+    let r = spaceStepBy (wayOf (q .beside)) cs (q .request) in
+    let m : Made = record { request = q .request; beside = q .beside; reply = r .reply; out = r .out; after = r .state } in
     let l = lived (r .state) qs in
-    (m ∷ l .0, ((refl, refl, refl), l .1), ap (λ (ps : List Request). q ∷ ps) (l .2))
+    (m ∷ l .0, ((refl, refl, refl), l .1), ap (λ (ps : List Lent). q ∷ ps) (l .2))

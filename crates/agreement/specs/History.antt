@@ -1,5 +1,6 @@
--- What the contracts of the calls come to together: calls made one after another, each meeting its contract, show
--- what the plain table shows. A reader of the code needs nothing else of `spaceStep`.
+-- What the contracts of the calls come to together: calls made one after another, each meeting its contract, with an
+-- index of any cells or without, show what the plain table shows. A reader of the code needs nothing else of
+-- `spaceStep`.
 use Prim.Native.Nat.{ℕ}
 use mathlib.Core.List.{List, [], _∷_, map}
 use mathlib.Core.Path.{_≡_}
@@ -7,19 +8,41 @@ use Rattle.plain.specs.Requests.{Request, Reply, Seen}
 use Rattle.plain.specs.Table.{editionTrace}
 use Rattle.space.specs.Fresh.{freshAnswerIn, freshSpaceIn}
 use Rattle.space.specs.declared.FreshAnswer.the-variants.{Done}
-use Rattle.store.specs.Calls.{Answers, countedCells}
+use Rattle.trie.specs.Siblings.{searchChildren}
+use Rattle.trie.specs.Walks.{Finding}
+use Rattle.trie.specs.Index.{searchIndexed}
+use Rattle.store.specs.Calls.{AnswersBy, countedCells}
 
--- a call that was made: what it answered, what it left in out, and the cells after it
+-- what a call that searches is lent beside the space: nothing, or an index, of any cells
+pub data Beside : Type 0 where
+  alone : Beside
+  index : List ℕ → Beside
+
+abbrev pub wayOf : Beside → Finding
+wayOf alone = searchChildren
+wayOf (index cs) = searchIndexed cs
+
+-- a call and what it is lent
+pub record Lent : Type 0 where
+  pub request : Request
+  pub beside : Beside
+
+-- a call that was made: what it was lent, what it answered, what it left in out, and the cells after it
 pub record Made : Type 0 where
   pub request : Request
+  pub beside : Beside
   pub reply : Reply
   pub out : List ℕ
   pub after : List ℕ
 
--- each call meets its contract, on the cells that the one before it left
+-- a call on the cells `before` meets its contract
+abbrev pub Meets : List ℕ → Made → Type 0
+Meets before m = AnswersBy (wayOf (m .beside)) before (m .request) (m .reply) (m .out) (m .after)
+
+-- each does, on the cells that the one before it left
 unfoldable pub History : List ℕ → List Made → Type 0
 History before [] = Unit {0}
-History before (m ∷ ms) = Answers before (m .request) (m .reply) (m .out) (m .after) × History (m .after) ms
+History before (m ∷ ms) = Meets before m × History (m .after) ms
 
 -- what was asked, and what is seen of it
 abbrev pub asked : List Made → List Request
@@ -34,6 +57,7 @@ Histories =
     (e n f a : ℕ) (s : List ℕ) (ms : List Made) → freshAnswerIn e n f a s ≡ Done → History (freshSpaceIn e n f a s) ms
     → map seenOf ms ≡ editionTrace e n f a (asked ms)
 
--- and every list of calls has one
+-- and every list of calls has one, whatever each is lent
 abbrev pub Lived : Type 0
-Lived = (before : List ℕ) (qs : List Request) → (ms : List Made) × History before ms × (asked ms ≡ qs)
+Lived = (before : List ℕ) (qs : List Lent)
+    → (ms : List Made) × History before ms × (map (λ m. record { request = m .request; beside = m .beside }) ms ≡ qs)

@@ -33,3 +33,5 @@ pub const SOURCE_VARIABLE: u32 = 15;
 // A variable or side that a join names is out of range, its pairs are too many, or its copies are not one for each
 // variable of the target.
 pub const NAMES: u32 = 16;
+// The cells of an index that is to be built are no power of two, or fewer than twice the children to enter.
+pub const SLOTS: u32 = 17;

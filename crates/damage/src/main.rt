@@ -319,7 +319,10 @@ fn walks_of(space: &[u32], nodes: usize, links: usize, tokens: &[u32], start: Ta
     let mut t = start;
     let mut root = 0;
     while root < nodes {
-        t = with_walk(t, walk_tokens(space, nodes, links, root, tokens));
+        t = with_walk(
+            t,
+            walk_tokens(space, nodes, links, root, tokens, &tokens[..0]),
+        );
         root += 1;
     }
     t

@@ -1,9 +1,11 @@
-// Fresh, the eight calls and the check as C functions over the machine's own cells, each with one result word.
+// Fresh, the eight calls, those of them that search with an index, the check and the build of an index as C functions
+// over the machine's own cells, each with one result word.
 use basis::refusals::OUT;
 use store::CountsAnswer;
 use words::COUNTS;
 use words::REFUSED;
 use words::answer_word;
+use words::build_word;
 use words::call_word;
 use words::cells_word;
 use words::check_word;
@@ -15,7 +17,8 @@ use words::refusal_word;
 use words::result_word;
 ghost use mathlib.Core.List.{[]};
 ghost use Rattle.plain.specs.Requests as request;
-ghost use Rattle.words.specs.Words.{ReturnsFresh, Returns, ReturnsCounts, ReturnsCheck};
+ghost use Rattle.words.specs.Words.{ReturnsFresh, Returns, ReturnsIndexed, ReturnsCounts, ReturnsCheck};
+ghost use Rattle.words.specs.Words.{ReturnsBuild};
 
 // ---- fresh, and the calls that write
 
@@ -76,6 +79,54 @@ pub extern "C" fn tables_join(
     join_word(join::joins::join(space, first, second, pairs, target, copies))
 }
 
+// ---- the calls that search, with an index
+
+// As `tables_call`.
+#[no_mangle]
+pub extern "C" fn tables_call_indexed(space: &mut [u32], index: &[u32], term: &[u32]) -> u64
+    ensures { λ w. ⌜
+        ReturnsIndexed (now (index .entry)) (now (space .entry)) (request.call (now (term .entry))) w []
+        (now (space .exit))
+        ⌝ }
+{
+    call_word(store::calls::call_indexed(space, term, index))
+}
+
+// As `tables_answer`.
+#[no_mangle]
+pub extern "C" fn tables_answer_indexed(
+    space: &mut [u32],
+    index: &[u32],
+    subgoal: u32,
+    terms: &[u32],
+) -> u64
+    ensures { λ w. ⌜
+        ReturnsIndexed (now (index .entry)) (now (space .entry)) (request.answer subgoal (now (terms .entry))) w []
+        (now (space .exit))
+        ⌝ }
+{
+    answer_word(store::calls::answer_indexed(space, subgoal, terms, index))
+}
+
+// As `tables_join`; the target is searched with the index.
+#[no_mangle]
+pub extern "C" fn tables_join_indexed(
+    space: &mut [u32],
+    index: &[u32],
+    first: u32,
+    second: u32,
+    pairs: &[u32],
+    target: u32,
+    copies: &[u32],
+) -> u64
+    ensures { λ w. ⌜
+        ReturnsIndexed (now (index .entry)) (now (space .entry))
+        (request.join first second (now (pairs .entry)) target (now (copies .entry))) w [] (now (space .exit))
+        ⌝ }
+{
+    join_word(join::joins::join_indexed(space, first, second, pairs, target, copies, index))
+}
+
 // ---- the calls that only read the space
 
 // The subgoal's answer after a given one; after 0 its first.
@@ -131,4 +182,12 @@ pub extern "C" fn tables_check(space: &[u32]) -> u64
     ensures { λ w. ⌜ ReturnsCheck (now (space .entry)) w ⌝ }
 {
     check_word(integrity::check(space))
+}
+
+// Fills an index from the nodes of a space; refused, the index stays as it was.
+#[no_mangle]
+pub extern "C" fn tables_build(space: &[u32], index: &mut [u32]) -> u64
+    ensures { λ w. ⌜ ReturnsBuild (now (space .entry)) (now (index .entry)) w (now (index .exit)) ⌝ }
+{
+    build_word(indexing::build(space, index))
 }

@@ -1,10 +1,10 @@
 -- A law for each case of testing a node.
 use Prim.Native.Nat.{ℕ, _+_, _-_, _<_, _≤_}
-use mathlib.Core.Path.{_≡_, refl, sym, ap, _∙_}
-use mathlib.Core.Bool.{Bool, true, false, not, _&&_, _||_}
+use mathlib.Core.Path.{_≡_, refl, ap, _∙_}
+use mathlib.Core.Bool.{true, false, not, _&&_, _||_}
 use mathlib.Core.List.{List}
 use native.Mathlib.Omega.{arith}
-use lib.Dec.{eqb, leb, ltb}
+use lib.Dec.{eqb}
 use borrow.Author.Tests.{eq-eqb, ne-eqb, lt-ltb, le-ltb, le-leb, lt-leb}
 use Rattle.basis.specs.Choice.{pick}
 use Rattle.plain.specs.Coding.{Coding, codingOf}
@@ -18,23 +18,14 @@ use Rattle.space.specs.declared.Answer.{Answer}
 use Rattle.space.specs.declared.NodeRead.{NodeRead}
 use Rattle.space.specs.declared.NodeRead.the-variants as read
 use Rattle.space.proofs.JudgingLaws.{node-bounds, node-sound, follows-within, read-node-sound, read-node-damaged}
-use Rattle.trie.specs.Siblings.{sound, searchChildren}
+use Rattle.trie.specs.Siblings.{sound, searchChildren, parentIs}
 use Rattle.trie.specs.declared.Search.{Search}
 use Rattle.trie.specs.declared.Search.the-variants.{Found, Last, Damaged}
 use Rattle.store.specs.Views.{View}
 use Rattle.store.specs.Contracts.{viewIn}
 use Rattle.agreement.specs.Whole.{endsAt, allNodes, rootWhole, childWhole, linkWhole, nodeWhole}
 use Rattle.agreement.proofs.WholeTests.{node-local, every-below}
-use Rattle.integrity.specs.Tests.{parentIs, subgoalEnds, answerEnds, leadsBack, rootNamed, nodeTest, NodesWhole, NodeOfNumber, ChildOfNumber, triesIn}
-
-module _ (at : ℕ → Node) (n p : ℕ) where
-  pub parent-none : n ≡ 0 → true ≡ parentIs at n p
-  unfolding parentIs
-  parent-none z = simp (eq-eqb _ _ z)
-
-  pub parent-of : (n ≡ 0 → ⊥) → (y : Node) → y ≡ at n → eqb (y .parent) p ≡ parentIs at n p
-  unfolding parentIs
-  parent-of z y e = ap (λ (x : Node). eqb (x .parent) p) e ∙ simp (ne-eqb _ _ z)
+use Rattle.integrity.specs.Tests.{subgoalEnds, answerEnds, leadsBack, rootNamed, nodeTest, NodesWhole, NodeOfNumber, ChildOfNumber, triesIn}
 
 module _ (v : View) (k i : ℕ) where
   pub subgoal-above : v .subgoals < k → false ≡ subgoalEnds v k i

@@ -1,6 +1,6 @@
 -- The tests of agreement's Whole.antt by parts, a part to a function; and what a function may take as tested.
 use Prim.Native.Nat.{ℕ, suc, _+_, _<_, _≤_}
-use mathlib.Core.Bool.{Bool, true, false, _&&_, _||_}
+use mathlib.Core.Bool.{Bool, true, _&&_, _||_}
 use mathlib.Core.List.{List, []}
 use mathlib.Core.Path.{_≡_}
 use lib.Dec.{eqb, leb, ltb}
@@ -44,10 +44,6 @@ unfoldable pub formWhole : (ℕ → ℕ) → Bool → ℕ → Word → Bool
 formWhole arity called m w = pick called (calledForm arity m w) (legalForm arity m w)
 
 -- ---- a node
-
--- none, or one with this parent
-unfoldable pub parentIs : (ℕ → Node) → ℕ → ℕ → Bool
-parentIs at n p = pick (eqb n 0) true (eqb (at n .parent) p)
 
 module _ (v : View) where
   -- the form of subgoal k, or of answer k, ends at node i

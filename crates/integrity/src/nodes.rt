@@ -8,31 +8,19 @@ use space::records::node_in;
 use space::records::read_node;
 use space::records::subgoal_in;
 use trie::Search;
+use trie::siblings::parent_is;
 use trie::siblings::search_children;
 ghost use mathlib.Core.Path.{_≡_};
 ghost use mathlib.Core.Bool.{true};
 ghost use Prim.Native.Nat.{_+_, _<_, _≤_};
 ghost use Rattle.plain.specs.Coding.{codingOf};
-ghost use Rattle.space.specs.Layout.{sizes, nodeIn};
 ghost use Rattle.space.specs.Sound.{Bounds, NodeOf};
-ghost use Rattle.trie.specs.Siblings.{sound, searchChildren};
+ghost use Rattle.trie.specs.Siblings.{searchChildren};
 ghost use Rattle.store.specs.Contracts.{viewIn};
 ghost use Rattle.agreement.specs.Whole.{endsAt, rootWhole, childWhole};
 ghost use Rattle.agreement.specs.Faults.{nodeBroken};
-ghost use Rattle.integrity.specs.Tests.{parentIs, subgoalEnds, answerEnds, leadsBack, rootNamed};
+ghost use Rattle.integrity.specs.Tests.{subgoalEnds, answerEnds, leadsBack, rootNamed};
 ghost use Rattle.integrity.specs.Tests.{triesIn, nodeTest, NodesWhole, NodeOfNumber, ChildOfNumber};
-
-// Is there no node n, or one with this parent?
-fn parent_is(space: &[u32], nodes: usize, n: usize, parent: usize) -> bool
-    requires { ⌜ NodeOf (now space) nodes n ⌝ }
-    ensures { λ r. ⌜ r ≡ parentIs (nodeIn sizes (now (space .entry))) n parent ⌝ }
-{
-    if n == 0 {
-        return true;
-    }
-    let y = node_in(space, nodes, n);
-    y.parent == parent
-}
 
 // Is k a subgoal whose form ends at node i?
 fn subgoal_ends(space: &[u32], h: Head, k: usize, i: usize) -> bool

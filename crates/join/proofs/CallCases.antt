@@ -25,11 +25,11 @@ use Rattle.space.specs.declared.Subgoal.{Subgoal}
 use Rattle.space.specs.declared.SubgoalRead.the-variants as subgoal-read
 use Rattle.space.proofs.HeaderLaws.{header-bounds}
 use Rattle.space.proofs.JudgingLaws.{read-node-sound, read-node-damaged, read-subgoal-sound, subgoal-bounds}
-use Rattle.trie.specs.Walks.{rootSound}
-use Rattle.trie.proofs.SearchLaws.{chains-find}
+use Rattle.trie.specs.Walks.{Finding, rootSound}
+use Rattle.trie.proofs.SearchLaws.{Finds}
 use Rattle.store.specs.Views.{answerTrie}
-use Rattle.store.specs.Decisions.{soundLast, allSound, nodesNeeded, answersNeeded}
-use Rattle.store.specs.Calls.{usedAnswers, Answers}
+use Rattle.store.specs.Decisions.{soundLast, allSoundBy, nodesNeededBy, answersNeededBy}
+use Rattle.store.specs.Calls.{usedAnswers, AnswersBy}
 use Rattle.store.specs.Contracts.{viewIn, Held, AnswersUnder}
 use Rattle.store.proofs.CallsCases.{steps-refused, steps-sound}
 use Rattle.store.proofs.CallsRecords.{read-subgoal-damaged}
@@ -91,40 +91,40 @@ module _ (cs : List ℕ) (h : Head) (s : ℕ) where
         let l = subgoal-bounds (h .nodes) (h .answers) g read-sound in
         (header-bounds cs h e, b .0, b .1, subgoal-is, l .last-most, l .root-below)
 
-module _ (cs : List ℕ) (h : Head) (f g : ℕ) (ps : List ℕ) (s : ℕ) (ks : List ℕ) where
-  pub first-none : isNumber (h .subgoals) f ≡ false → AnswersUnder cs h (join f g ps s ks) (refused 7) cs
-  first-none e = join-refused cs h f g ps s ks 7 (first-unknown (codingOf (h .edition)) (viewIn cs h) f g ps s ks e)
+module _ (find : Finding) (cs : List ℕ) (h : Head) (f g : ℕ) (ps : List ℕ) (s : ℕ) (ks : List ℕ) where
+  pub first-none : isNumber (h .subgoals) f ≡ false → AnswersUnder find cs h (join f g ps s ks) (refused 7) cs
+  first-none e = join-refused find cs h f g ps s ks 7 (first-unknown find (codingOf (h .edition)) (viewIn cs h) f g ps s ks e)
 
   module _ (i : isNumber (h .subgoals) f ≡ true) where
-    pub second-none : isNumber (h .subgoals) g ≡ false → AnswersUnder cs h (join f g ps s ks) (refused 7) cs
-    second-none e = join-refused cs h f g ps s ks 7 (second-unknown (codingOf (h .edition)) (viewIn cs h) f g ps s ks i e)
+    pub second-none : isNumber (h .subgoals) g ≡ false → AnswersUnder find cs h (join f g ps s ks) (refused 7) cs
+    second-none e = join-refused find cs h f g ps s ks 7 (second-unknown find (codingOf (h .edition)) (viewIn cs h) f g ps s ks i e)
 
-    pub target-none : isNumber (h .subgoals) g ≡ true → isNumber (h .subgoals) s ≡ false → AnswersUnder cs h (join f g ps s ks) (refused 7) cs
-    target-none j e = join-refused cs h f g ps s ks 7 (target-unknown (codingOf (h .edition)) (viewIn cs h) f g ps s ks i j e)
+    pub target-none : isNumber (h .subgoals) g ≡ true → isNumber (h .subgoals) s ≡ false → AnswersUnder find cs h (join f g ps s ks) (refused 7) cs
+    target-none j e = join-refused find cs h f g ps s ks 7 (target-unknown find (codingOf (h .edition)) (viewIn cs h) f g ps s ks i j e)
 
-  module _ (n : Numbered cs h f g s) where
-    pub first-unread : subgoal-read.Damaged ≡ readSubgoal (h .nodes) (h .answers) (subgoalUnder cs h) f → AnswersUnder cs h (join f g ps s ks) (refused 9) cs
+  module _ (n : Numbered cs h (record { first = f; second = g; target = s })) where
+    pub first-unread : subgoal-read.Damaged ≡ readSubgoal (h .nodes) (h .answers) (subgoalUnder cs h) f → AnswersUnder find cs h (join f g ps s ks) (refused 9) cs
     first-unread e =
-        join-refused cs h f g ps s ks 9
-        (first-damaged (codingOf (h .edition)) (viewIn cs h) f g ps s ks (n .1) (n .2) (n .3) (read-subgoal-damaged (h .nodes) (h .answers) (subgoalUnder cs h) f e))
+        join-refused find cs h f g ps s ks 9
+        (first-damaged find (codingOf (h .edition)) (viewIn cs h) f g ps s ks (n .1) (n .2) (n .3) (read-subgoal-damaged (h .nodes) (h .answers) (subgoalUnder cs h) f e))
 
     module _ (x : Subgoal) (a : subgoal-read.Sound x ≡ readSubgoal (h .nodes) (h .answers) (subgoalUnder cs h) f) where
-      pub second-unread : subgoal-read.Damaged ≡ readSubgoal (h .nodes) (h .answers) (subgoalUnder cs h) g → AnswersUnder cs h (join f g ps s ks) (refused 9) cs
+      pub second-unread : subgoal-read.Damaged ≡ readSubgoal (h .nodes) (h .answers) (subgoalUnder cs h) g → AnswersUnder find cs h (join f g ps s ks) (refused 9) cs
       second-unread e =
-          join-refused cs h f g ps s ks 9
-          (second-damaged (codingOf (h .edition)) (viewIn cs h) f g ps s ks (n .1) (n .2) (n .3) (subgoal-whole cs h f x a) (read-subgoal-damaged (h .nodes) (h .answers) (subgoalUnder cs h) g e))
+          join-refused find cs h f g ps s ks 9
+          (second-damaged find (codingOf (h .edition)) (viewIn cs h) f g ps s ks (n .1) (n .2) (n .3) (subgoal-whole cs h f x a) (read-subgoal-damaged (h .nodes) (h .answers) (subgoalUnder cs h) g e))
 
       module _ (y : Subgoal) (b : subgoal-read.Sound y ≡ readSubgoal (h .nodes) (h .answers) (subgoalUnder cs h) g) where
-        pub target-unread : subgoal-read.Damaged ≡ readSubgoal (h .nodes) (h .answers) (subgoalUnder cs h) s → AnswersUnder cs h (join f g ps s ks) (refused 9) cs
+        pub target-unread : subgoal-read.Damaged ≡ readSubgoal (h .nodes) (h .answers) (subgoalUnder cs h) s → AnswersUnder find cs h (join f g ps s ks) (refused 9) cs
         target-unread e =
-            join-refused cs h f g ps s ks 9
-            (target-damaged (codingOf (h .edition)) (viewIn cs h) f g ps s ks (n .1) (n .2) (n .3) (subgoal-whole cs h f x a) (subgoal-whole cs h g y b) (read-subgoal-damaged (h .nodes) (h .answers) (subgoalUnder cs h) s e))
+            join-refused find cs h f g ps s ks 9
+            (target-damaged find (codingOf (h .edition)) (viewIn cs h) f g ps s ks (n .1) (n .2) (n .3) (subgoal-whole cs h f x a) (subgoal-whole cs h g y b) (read-subgoal-damaged (h .nodes) (h .answers) (subgoalUnder cs h) s e))
 
         module _ (t : Subgoal) (d : subgoal-read.Sound t ≡ readSubgoal (h .nodes) (h .answers) (subgoalUnder cs h) s) where
-          pub root-unread : rootSound (answerTrie (viewIn cs h)) (t .root) ≡ false → AnswersUnder cs h (join f g ps s ks) (refused 9) cs
+          pub root-unread : rootSound (answerTrie (viewIn cs h)) (t .root) ≡ false → AnswersUnder find cs h (join f g ps s ks) (refused 9) cs
           root-unread e =
-              join-refused cs h f g ps s ks 9
-              (root-damaged (codingOf (h .edition)) (viewIn cs h) f g ps s ks (n .1) (n .2) (n .3) (subgoal-whole cs h f x a) (subgoal-whole cs h g y b) (subgoal-whole cs h s t d)
+              join-refused find cs h f g ps s ks 9
+              (root-damaged find (codingOf (h .edition)) (viewIn cs h) f g ps s ks (n .1) (n .2) (n .3) (subgoal-whole cs h f x a) (subgoal-whole cs h g y b) (subgoal-whole cs h s t d)
               (subst (λ (q : Subgoal). rootSound (answerTrie (viewIn cs h)) (q .root) ≡ false) (subgoal-is cs h s t d) e))
 
           pub parties-in : rootSound (answerTrie (viewIn cs h)) (t .root) ≡ true → PartiesIn cs h (record { first = f; f = x; second = g; g = y; target = s; t = t })
@@ -141,23 +141,23 @@ module _ (cs : List ℕ) (h : Head) (f g : ℕ) (ps : List ℕ) (s : ℕ) (ks : 
 
 -- ---- the public call
 
-module _ (cs : List ℕ) (f g : ℕ) (ps : List ℕ) (s : ℕ) (ks : List ℕ) where
-  pub join-header : (r : ℕ) → header.Refused r ≡ spaceHeader cs → Answers cs (join f g ps s ks) (refused r) [] cs
+module _ (find : Finding) (cs : List ℕ) (f g : ℕ) (ps : List ℕ) (s : ℕ) (ks : List ℕ) where
+  pub join-header : (r : ℕ) → header.Refused r ≡ spaceHeader cs → AnswersBy find cs (join f g ps s ks) (refused r) [] cs
   unfolding lent
   join-header r e =
-      let k = steps-refused cs (join f g ps s ks) r e in
-      (k .0, step-none cs (join f g ps s ks) refl, k .1)
+      let k = steps-refused find cs (join f g ps s ks) r e in
+      (k .0, step-none find cs (join f g ps s ks) refl, k .1)
 
   -- the numbers came as cells
   pub join-cells : (h : Head) (r : Reply) (cs′ : List ℕ) (f′ g′ s′ : ℕ) → f′ ≡ f → g′ ≡ g → s′ ≡ s → header.Sound h ≡ spaceHeader cs
-      → AnswersUnder cs h (join f′ g′ ps s′ ks) r cs′ → Answers cs (join f g ps s ks) r [] cs′
+      → AnswersUnder find cs h (join f′ g′ ps s′ ks) r cs′ → AnswersBy find cs (join f g ps s ks) r [] cs′
   unfolding lent
   join-cells h r cs′ f′ g′ s′ i j l e u =
-      let k = steps-sound cs h (join f g ps s ks) r cs′ e
-      (subst (λ (q : ℕ). AnswersUnder cs h (join f g ps q ks) r cs′) l
-      (subst (λ (q : ℕ). AnswersUnder cs h (join f q ps s′ ks) r cs′) j
-      (subst (λ (q : ℕ). AnswersUnder cs h (join q g′ ps s′ ks) r cs′) i u))) in
-      (k .0, step-none cs (join f g ps s ks) refl, k .1)
+      let k = steps-sound find cs h (join f g ps s ks) r cs′ e
+      (subst (λ (q : ℕ). AnswersUnder find cs h (join f g ps q ks) r cs′) l
+      (subst (λ (q : ℕ). AnswersUnder find cs h (join f q ps s′ ks) r cs′) j
+      (subst (λ (q : ℕ). AnswersUnder find cs h (join q g′ ps s′ ks) r cs′) i u))) in
+      (k .0, step-none find cs (join f g ps s ks) refl, k .1)
 
 -- ---- sources that the rule lets through
 
@@ -181,49 +181,49 @@ module _ (cs : List ℕ) (h : Head) (y : Parties) (ps ks : List ℕ) (g : Ground
   pub may-count : Ready cs x ps ks × (y .t .root < x .h .nodes)
   may-count = subst (λ (z : Sides). Ready cs z ps ks × (y .t .root < z .h .nodes)) (sym i) (ready cs h y ps ks g, root-within cs h y ps ks g)
 
-  module _ (r : Counted) (n : Counts cs x (y .t .root) ps ks r) where
-    counted-of : CountedOf (viewIn cs h) (y .target) (arityOf (h .edition)) (allForms cs (sidesOf h y) ps ks) r
-    counted-of = subst (λ (z : Sides). Counts cs z (y .t .root) ps ks r) i n (y .target) (target-root cs h y ps ks g)
+  module _ (find : Finding) (r : Counted) (n : Counts find cs x (y .t .root) ps ks r) where
+    counted-of : CountedOf find (viewIn cs h) (y .target) (arityOf (h .edition)) (allForms cs (sidesOf h y) ps ks) r
+    counted-of = subst (λ (z : Sides). Counts find cs z (y .t .root) ps ks r) i n (y .target) (target-root cs h y ps ks g)
 
-    pub ground-long : r ≡ counted.TooLong → AnswersUnder cs h (asked y ps ks) (refused 4) cs
+    pub ground-long : r ≡ counted.TooLong → AnswersUnder find cs h (asked y ps ks) (refused 4) cs
     ground-long e =
-        too-long cs h y ps ks g
-        (subst (CountedOf (viewIn cs h) (y .target) (arityOf (h .edition)) (allForms cs (sidesOf h y) ps ks)) e counted-of)
+        too-long find cs h y ps ks g
+        (subst (CountedOf find (viewIn cs h) (y .target) (arityOf (h .edition)) (allForms cs (sidesOf h y) ps ks)) e counted-of)
 
     module _ (sums : Sums) (e : r ≡ counted.Sums sums) where
-      summed-of : CountedOf (viewIn cs h) (y .target) (arityOf (h .edition)) (allForms cs (sidesOf h y) ps ks) (counted.Sums sums)
-      summed-of = subst (CountedOf (viewIn cs h) (y .target) (arityOf (h .edition)) (allForms cs (sidesOf h y) ps ks)) e counted-of
+      summed-of : CountedOf find (viewIn cs h) (y .target) (arityOf (h .edition)) (allForms cs (sidesOf h y) ps ks) (counted.Sums sums)
+      summed-of = subst (CountedOf find (viewIn cs h) (y .target) (arityOf (h .edition)) (allForms cs (sidesOf h y) ps ks)) e counted-of
 
-      pub ground-unsound : sums .sound ≡ false → AnswersUnder cs h (asked y ps ks) (refused 9) cs
-      ground-unsound d = forms-unsound cs h y ps ks g (summed-of .0) (sym (summed-of .1) ∙ d)
+      pub ground-unsound : sums .sound ≡ false → AnswersUnder find cs h (asked y ps ks) (refused 9) cs
+      ground-unsound d = forms-unsound find cs h y ps ks g (summed-of .0) (sym (summed-of .1) ∙ d)
 
       module _ (d : sums .sound ≡ true) where
-        pub ground-none : sums .lacking ≡ 0 → AnswersUnder cs h (asked y ps ks) (joined 0) cs
+        pub ground-none : sums .lacking ≡ 0 → AnswersUnder find cs h (asked y ps ks) (joined 0) cs
         ground-none z =
             let b = parties-bounds cs h y (g .parties) in
-            none-new cs h y ps ks g (summed-of .0) (sym (summed-of .1) ∙ d) (sym (summed-of .3) ∙ z) (b .nodes-within) (b .answers-within) (b .answers-cell)
+            none-new find cs h y ps ks g (summed-of .0) (sym (summed-of .1) ∙ d) (sym (summed-of .3) ∙ z) (b .nodes-within) (b .answers-within) (b .answers-cell)
 
-        pub ground-some : (sums .lacking ≡ 0 → ⊥) → SomeNew cs h y ps ks sums
+        pub ground-some : (sums .lacking ≡ 0 → ⊥) → SomeNew find cs h y ps ks sums
         ground-some z = record { grounded = g; summed = summed-of; sound = d; some = z }
 
 -- ---- forms of which some are new
 
-module _ (cs : List ℕ) (x : Sides) (root : ℕ) (ps ks : List ℕ) (y : Needs) (n : NeedsOf cs x root ps ks y) where
-  pub fills-nodes : x .h .«node_capacity» - x .h .nodes < y .nodes → Fills cs x root ps ks 10
+module _ (find : Finding) (cs : List ℕ) (x : Sides) (root : ℕ) (ps ks : List ℕ) (y : Needs) (n : NeedsOf find cs x root ps ks y) where
+  pub fills-nodes : x .h .«node_capacity» - x .h .nodes < y .nodes → Fills find cs x root ps ks 10
   fills-nodes l s e =
-      room-nodes (x .h) (nodesNeeded (viewIn cs (x .h)) s [] (allForms cs x ps ks)) (answersNeeded (viewIn cs (x .h)) s [] (allForms cs x ps ks))
+      room-nodes (x .h) (nodesNeededBy find (viewIn cs (x .h)) s [] (allForms cs x ps ks)) (answersNeededBy find (viewIn cs (x .h)) s [] (allForms cs x ps ks))
       (subst (λ (k : ℕ). x .h .«node_capacity» - x .h .nodes < k) (n s e .0) l)
 
   module _ (k : y .nodes ≤ x .h .«node_capacity» - x .h .nodes) where
-    pub fills-answers : x .h .«answer_capacity» - x .h .answers < y .answers → Fills cs x root ps ks 11
+    pub fills-answers : x .h .«answer_capacity» - x .h .answers < y .answers → Fills find cs x root ps ks 11
     fills-answers l s e =
-        room-answers (x .h) (nodesNeeded (viewIn cs (x .h)) s [] (allForms cs x ps ks)) (answersNeeded (viewIn cs (x .h)) s [] (allForms cs x ps ks))
+        room-answers (x .h) (nodesNeededBy find (viewIn cs (x .h)) s [] (allForms cs x ps ks)) (answersNeededBy find (viewIn cs (x .h)) s [] (allForms cs x ps ks))
         (subst (λ (i : ℕ). i ≤ x .h .«node_capacity» - x .h .nodes) (n s e .0) k)
         (subst (λ (i : ℕ). x .h .«answer_capacity» - x .h .answers < i) (n s e .1) l)
 
-    pub fills-none : y .answers ≤ x .h .«answer_capacity» - x .h .answers → Fills cs x root ps ks 0
+    pub fills-none : y .answers ≤ x .h .«answer_capacity» - x .h .answers → Fills find cs x root ps ks 0
     fills-none l s e =
-        room-enough (x .h) (nodesNeeded (viewIn cs (x .h)) s [] (allForms cs x ps ks)) (answersNeeded (viewIn cs (x .h)) s [] (allForms cs x ps ks))
+        room-enough (x .h) (nodesNeededBy find (viewIn cs (x .h)) s [] (allForms cs x ps ks)) (answersNeededBy find (viewIn cs (x .h)) s [] (allForms cs x ps ks))
         (subst (λ (i : ℕ). i ≤ x .h .«node_capacity» - x .h .nodes) (n s e .0) k)
         (subst (λ (i : ℕ). i ≤ x .h .«answer_capacity» - x .h .answers) (n s e .1) l)
 
@@ -241,15 +241,15 @@ room-parts h nodes answers e =
     let m : nodes ≤ h .«node_capacity» - h .nodes = at-most nodes (h .«node_capacity» - h .nodes) (λ l. let q : _≡_ {A = ℕ} 0 10 = e ∙ sym (room-nodes h nodes answers l) in omega arith) in
     (m, at-most answers (h .«answer_capacity» - h .answers) (λ l. let q : _≡_ {A = ℕ} 0 11 = e ∙ sym (room-answers h nodes answers m l) in omega arith))
 
-module _ (cs : List ℕ) (h : Head) (y : Parties) (ps ks : List ℕ) (sums : Sums) (n : SomeNew cs h y ps ks sums) where
+module _ (find : Finding) (cs : List ℕ) (h : Head) (y : Parties) (ps ks : List ℕ) (sums : Sums) (n : SomeNew find cs h y ps ks sums) where
   pub new-bounds : Bounds cs h
   new-bounds = parties-bounds cs h y (n .grounded .parties)
 
-  all-sound : allSound (viewIn cs h) (y .target) (allForms cs (sidesOf h y) ps ks) ≡ true
+  all-sound : allSoundBy find (viewIn cs h) (y .target) (allForms cs (sidesOf h y) ps ks) ≡ true
   all-sound = sym (n .summed .1) ∙ n .sound
 
-  pub new-last : soundLast (viewIn cs h) (y .target) ≡ false → AnswersUnder cs h (asked y ps ks) (refused 9) cs
-  new-last e = last-damaged cs h y ps ks (n .grounded) (n .summed .0) all-sound (λ q. n .some (n .summed .3 ∙ q)) e
+  pub new-last : soundLast (viewIn cs h) (y .target) ≡ false → AnswersUnder find cs h (asked y ps ks) (refused 9) cs
+  new-last e = last-damaged find cs h y ps ks (n .grounded) (n .summed .0) all-sound (λ q. n .some (n .summed .3 ∙ q)) e
 
   module _ (x : Sides) (i : x ≡ sidesOf h y) where
     pub may-enter : Enterable cs x (y .target) ps ks
@@ -267,61 +267,61 @@ module _ (cs : List ℕ) (h : Head) (y : Parties) (ps ks : List ℕ) (sums : Sum
     may-need-root = may-count cs h y ps ks (n .grounded) x i .1
 
     module _ (l : soundLast (viewIn cs h) (y .target) ≡ true) where
-      entered-all : h .nodes + nodesNeeded (viewIn cs h) (y .target) [] (allForms cs (sidesOf h y) ps ks) ≤ h .«node_capacity»
-          → h .answers + answersNeeded (viewIn cs h) (y .target) [] (allForms cs (sidesOf h y) ps ks) ≤ h .«answer_capacity»
-          → (r : JoinAnswer) (cs′ : List ℕ) → EntersAll cs x (y .target) ps ks r cs′ → JoinsUnder cs h y ps ks r cs′
+      entered-all : h .nodes + nodesNeededBy find (viewIn cs h) (y .target) [] (allForms cs (sidesOf h y) ps ks) ≤ h .«node_capacity»
+          → h .answers + answersNeededBy find (viewIn cs h) (y .target) [] (allForms cs (sidesOf h y) ps ks) ≤ h .«answer_capacity»
+          → (r : JoinAnswer) (cs′ : List ℕ) → EntersAll find cs x (y .target) ps ks r cs′ → JoinsUnder find cs h y ps ks r cs′
       entered-all a b r cs′ e =
-          let d : EntersAll cs (sidesOf h y) (y .target) ps ks r cs′ = subst (λ (z : Sides). EntersAll cs z (y .target) ps ks r cs′) i e in
-          subst (λ (q : Reply). AnswersUnder cs h (asked y ps ks) q cs′) (sym (d .1))
-          (all-entered cs h y ps ks (n .grounded) (n .summed .0) all-sound l a b (usedAnswers cs′ - h .answers) cs′ (d .0) refl)
+          let d : EntersAll find cs (sidesOf h y) (y .target) ps ks r cs′ = subst (λ (z : Sides). EntersAll find cs z (y .target) ps ks r cs′) i e in
+          subst (λ (q : Reply). AnswersUnder find cs h (asked y ps ks) q cs′) (sym (d .1))
+          (all-entered find cs h y ps ks (n .grounded) (n .summed .0) all-sound l a b (usedAnswers cs′ - h .answers) cs′ (d .0) refl)
 
-      pub new-by-sums : sumsFit h sums ≡ true → (r : JoinAnswer) (cs′ : List ℕ) → EntersAll cs x (y .target) ps ks r cs′ → JoinsUnder cs h y ps ks r cs′
+      pub new-by-sums : sumsFit h sums ≡ true → (r : JoinAnswer) (cs′ : List ℕ) → EntersAll find cs x (y .target) ps ks r cs′ → JoinsUnder find cs h y ps ks r cs′
       new-by-sums e =
           let f = fit-parts h sums e in
           let b = new-bounds in
-          let m = sums-suffice cs h y ps ks (n .grounded) (n .summed .0) all-sound l
+          let m = sums-suffice find cs h y ps ks (n .grounded) (n .summed .0) all-sound l
           (subst (λ (k : ℕ). k ≤ h .«node_capacity» - h .nodes) (n .summed .2) (f .0))
           (subst (λ (k : ℕ). k ≤ h .«answer_capacity» - h .answers) (n .summed .3) (f .1))
           (b .nodes-within) (b .answers-within) in
           entered-all (m .0) (m .1)
 
-      module _ (k : ℕ) (w : Fills cs x (y .t .root) ps ks k) where
-        room-is : k ≡ roomFor h (nodesNeeded (viewIn cs h) (y .target) [] (allForms cs (sidesOf h y) ps ks)) (answersNeeded (viewIn cs h) (y .target) [] (allForms cs (sidesOf h y) ps ks))
-        room-is = subst (λ (z : Sides). Fills cs z (y .t .root) ps ks k) i w (y .target) (target-root cs h y ps ks (n .grounded))
+      module _ (k : ℕ) (w : Fills find cs x (y .t .root) ps ks k) where
+        room-is : k ≡ roomFor h (nodesNeededBy find (viewIn cs h) (y .target) [] (allForms cs (sidesOf h y) ps ks)) (answersNeededBy find (viewIn cs h) (y .target) [] (allForms cs (sidesOf h y) ps ks))
+        room-is = subst (λ (z : Sides). Fills find cs z (y .t .root) ps ks k) i w (y .target) (target-root cs h y ps ks (n .grounded))
 
-        pub new-exactly : k ≡ 0 → (r : JoinAnswer) (cs′ : List ℕ) → EntersAll cs x (y .target) ps ks r cs′ → JoinsUnder cs h y ps ks r cs′
+        pub new-exactly : k ≡ 0 → (r : JoinAnswer) (cs′ : List ℕ) → EntersAll find cs x (y .target) ps ks r cs′ → JoinsUnder find cs h y ps ks r cs′
         new-exactly z =
-            let m = room-parts h (nodesNeeded (viewIn cs h) (y .target) [] (allForms cs (sidesOf h y) ps ks)) (answersNeeded (viewIn cs h) (y .target) [] (allForms cs (sidesOf h y) ps ks)) (sym z ∙ room-is) in
+            let m = room-parts h (nodesNeededBy find (viewIn cs h) (y .target) [] (allForms cs (sidesOf h y) ps ks)) (answersNeededBy find (viewIn cs h) (y .target) [] (allForms cs (sidesOf h y) ps ks)) (sym z ∙ room-is) in
             let b = new-bounds in
             entered-all (omega (arith, m .0, b .nodes-within)) (omega (arith, m .1, b .answers-within))
 
-        refused-at : (j : ℕ) → k ≡ j → AnswersUnder cs h (asked y ps ks) (refused j) cs → AnswersUnder cs h (asked y ps ks) (refused k) cs
-        refused-at j e u = subst (λ (q : ℕ). AnswersUnder cs h (asked y ps ks) (refused q) cs) (sym e) u
+        refused-at : (j : ℕ) → k ≡ j → AnswersUnder find cs h (asked y ps ks) (refused j) cs → AnswersUnder find cs h (asked y ps ks) (refused k) cs
+        refused-at j e u = subst (λ (q : ℕ). AnswersUnder find cs h (asked y ps ks) (refused q) cs) (sym e) u
 
-        pub new-full : (k ≡ 0 → ⊥) → AnswersUnder cs h (asked y ps ks) (refused k) cs
+        pub new-full : (k ≡ 0 → ⊥) → AnswersUnder find cs h (asked y ps ks) (refused k) cs
         new-full z =
             let b = new-bounds in
-            by-cases (leb (nodesNeeded (viewIn cs h) (y .target) [] (allForms cs (sidesOf h y) ps ks)) (h .«node_capacity» - h .nodes))
+            by-cases (leb (nodesNeededBy find (viewIn cs h) (y .target) [] (allForms cs (sidesOf h y) ps ks)) (h .«node_capacity» - h .nodes))
             (λ t.
-            let m : nodesNeeded (viewIn cs h) (y .target) [] (allForms cs (sidesOf h y) ps ks) ≤ h .«node_capacity» - h .nodes = leb-true _ _ t in
-            by-cases (leb (answersNeeded (viewIn cs h) (y .target) [] (allForms cs (sidesOf h y) ps ks)) (h .«answer_capacity» - h .answers))
+            let m : nodesNeededBy find (viewIn cs h) (y .target) [] (allForms cs (sidesOf h y) ps ks) ≤ h .«node_capacity» - h .nodes = leb-true _ _ t in
+            by-cases (leb (answersNeededBy find (viewIn cs h) (y .target) [] (allForms cs (sidesOf h y) ps ks)) (h .«answer_capacity» - h .answers))
             (λ u. absurd (z (room-is ∙ sym (room-enough h _ _ m (leb-true _ _ u)))))
             (λ u.
-            let o : h .«answer_capacity» - h .answers < answersNeeded (viewIn cs h) (y .target) [] (allForms cs (sidesOf h y) ps ks) = leb-false _ _ u in
+            let o : h .«answer_capacity» - h .answers < answersNeededBy find (viewIn cs h) (y .target) [] (allForms cs (sidesOf h y) ps ks) = leb-false _ _ u in
             refused-at 11 (room-is ∙ sym (room-answers h _ _ m o))
-            (no-records cs h y ps ks (n .grounded) (n .summed .0) all-sound l (omega (arith, m, b .nodes-within)) (omega (arith, o, b .answers-within)))))
+            (no-records find cs h y ps ks (n .grounded) (n .summed .0) all-sound l (omega (arith, m, b .nodes-within)) (omega (arith, o, b .answers-within)))))
             (λ t.
-            let o : h .«node_capacity» - h .nodes < nodesNeeded (viewIn cs h) (y .target) [] (allForms cs (sidesOf h y) ps ks) = leb-false _ _ t in
+            let o : h .«node_capacity» - h .nodes < nodesNeededBy find (viewIn cs h) (y .target) [] (allForms cs (sidesOf h y) ps ks) = leb-false _ _ t in
             refused-at 10 (room-is ∙ sym (room-nodes h _ _ o))
-            (no-nodes cs h y ps ks (n .grounded) (n .summed .0) all-sound l (omega (arith, o, b .nodes-within))))
+            (no-nodes find cs h y ps ks (n .grounded) (n .summed .0) all-sound l (omega (arith, o, b .nodes-within))))
 
 -- ---- all forms were entered
 
-module _ (cs : List ℕ) (x : Sides) (s : ℕ) (ps ks : List ℕ) (n : Enterable cs x s ps ks) (cs′ : List ℕ) (e : Enters cs x s ps ks cs′) where
+module _ {find : Finding} (finds : Finds find) (cs : List ℕ) (x : Sides) (s : ℕ) (ps ks : List ℕ) (n : Enterable cs x s ps ks) (cs′ : List ℕ) (e : Enters find cs x s ps ks cs′) where
   framed : Framed (x .h .edition) s cs (x .h) cs′
   framed =
       subst (Framed (x .h .edition) s cs (x .h)) (sym e)
-      (forms-framed chains-find cs (x .h) (n .space) s (n .target .low) (n .target .high) (n .target .root-in) (n .target .last-in) (allForms cs x ps ks))
+      (forms-framed finds cs (x .h) (n .space) s (n .target .low) (n .target .high) (n .target .root-in) (n .target .last-in) (allForms cs x ps ks))
 
   pub entered-unsound : (r : ℕ) → header.Refused r ≡ spaceHeader cs′ → ⊥
   entered-unsound r d = let q : header.Refused r ≡ header.Sound (framed .head) = d ∙ framed .space in let z : _≡_ {A = ℕ} 0 1 = cc in omega arith
@@ -335,5 +335,5 @@ module _ (cs : List ℕ) (x : Sides) (s : ℕ) (ps ks : List ℕ) (n : Enterable
         let is : framed .head ≡ h′ = sound-is (sym (framed .space) ∙ sym d) in
         subst (λ (k : Head). x .h .answers ≤ k .answers) is (framed .view .answers-grow)
 
-    pub entered-said : EntersAll cs x s ps ks (join-answer.Joined (h′ .answers - x .h .answers)) cs′
+    pub entered-said : EntersAll find cs x s ps ks (join-answer.Joined (h′ .answers - x .h .answers)) cs′
     entered-said = (e, ap (λ (k : ℕ). joined (k - x .h .answers)) (entered-bounds .answers-cell))

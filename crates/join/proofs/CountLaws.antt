@@ -1,15 +1,12 @@
 -- The passes over all forms of a join that count: what is summed up so far, and what is still to come.
 use mathlib.Core.Path.{_≡_, refl, sym, ap, _∙_, subst}
-use mathlib.Core.Bool.{Bool, true, false, _&&_, _||_, true≢false, false≢true}
+use mathlib.Core.Bool.{Bool, true, false, _&&_, true≢false}
 use mathlib.Core.List.{List, [], _∷_, _++_, map}
-use Prim.Native.Nat.{ℕ, zero, suc, _+_, _-_, _*_, _^_, _≤_, _<_, min, max}
+use Prim.Native.Nat.{ℕ, suc, _+_, _-_, _*_, _^_, _≤_, _<_}
 use native.Mathlib.Omega.{arith}
-use lib.Dec.{eqb, leb}
-use lib.ListN.{length, take, drop, length-take, length-append}
-use lib.Seq.{take-at}
+use lib.ListN.{length, take}
 use borrow.Author.Tests.{le-leb, lt-leb}
 use Rattle.basis.specs.Choice.{pick}
-use Rattle.basis.proofs.Cases.{by-cases}
 use Rattle.forms.specs.Cells.{arityOf}
 use Rattle.forms.specs.Compact.{pairForm}
 use Rattle.plain.specs.Words.{Word, most, has}
@@ -17,30 +14,26 @@ use Rattle.plain.specs.Coding.{codingOf}
 use Rattle.space.specs.Sound.{Bounds, subgoalUnder}
 use Rattle.space.specs.declared.Head.{Head}
 use Rattle.trie.specs.Siblings.{Trie}
-use Rattle.trie.specs.Walks.{Walk, whole, stopped, damaged, walk}
+use Rattle.trie.specs.Walks.{Walk, whole, stopped, damaged, Finding, walkBy}
 use Rattle.store.specs.Views.{View, answerTrie}
-use Rattle.store.specs.Decisions.{unbroken, chainFrom, walkTo, metSound, lacking, missing, allSound, allSoundBy, nodesNeeded, answersNeeded}
+use Rattle.store.specs.Decisions.{unbroken, walkToBy, metSound, lacking, missing, allSoundBy}
 use Rattle.store.specs.Contracts.{viewIn}
 use Rattle.parts.specs.Parts.{parts, AllGround, allFit}
 use Rattle.sides.specs.Counts.{sumMissing, sumLacking}
 use Rattle.sides.specs.Searches.{Searched}
 use Rattle.sides.specs.declared.Met.{Met}
 use Rattle.sides.proofs.CountLaws.{combined-length, chain-length}
-use Rattle.trie.proofs.SearchLaws.{chains-find}
+use Rattle.trie.proofs.SearchLaws.{Finds}
 use Rattle.store.proofs.CallsWalks.{walk-stopped}
 use native.Mathlib.Nat.{mul-le-mul-left}
 use Rattle.join.specs.declared.Source.{Source}
 use Rattle.join.specs.declared.Sides.{Sides}
 use Rattle.join.specs.declared.Cursor.{Cursor}
-use Rattle.join.specs.declared.Match.{Match}
 use Rattle.join.specs.declared.Match.the-variants as match
 use Rattle.join.specs.declared.Sums.{Sums}
-use Rattle.join.specs.declared.Counted.{Counted}
 use Rattle.join.specs.declared.Counted.the-variants as counted
-use Rattle.join.specs.declared.Needs.{Needs}
-use Rattle.join.specs.declared.Earlier.{Earlier}
-use Rattle.join.specs.Pairing.{formsFrom, Remains, twoHands, mostTokens, Known, Compared, Stands, partsFrom, alongHand, toCome, FormLeft, FirstTooLong, Advances}
-use Rattle.join.specs.Counting.{beginning, allForms, Ready, Fitting, oneMore, added, CountedOf, Counts, backwards, EarlierOf, needsMore, NeedsOf}
+use Rattle.join.specs.Pairing.{formsFrom, Remains, twoHands, mostTokens, Stands, partsFrom, toCome, FirstTooLong, Advances}
+use Rattle.join.specs.Counting.{beginning, allForms, Ready, oneMore, added, Counts}
 use Rattle.agreement.proofs.ChainSteps.{chain-ends}
 use Rattle.join.proofs.RemainsLaws.{forms-none}
 use Rattle.join.proofs.FindLaws.{along-end}
@@ -79,132 +72,135 @@ unfit-cons arity w ws l = ap (λ (b : Bool). pick b (allFit arity ws) false) (lt
 pub not-long : (edition : ℕ) (ws : List Word) → allFit (arityOf edition) ws ≡ true → FirstTooLong edition ws → ⊥
 not-long edition ws f t = true≢false (sym f ∙ ap (allFit (arityOf edition)) (t .2) ∙ unfit-cons (arityOf edition) (t .0) (t .1) (t .3))
 
-sound-cons : (v : View) (s : ℕ) (w : Word) (ws : List Word) → allSound v s (w ∷ ws) ≡ (metSound v w (walkTo v s w) && allSound v s ws)
-unfolding allSoundBy
-sound-cons v s w ws = refl
-
-and-assoc : (a b d : Bool) → ((a && b) && d) ≡ (a && (b && d))
-and-assoc true b d = refl
-and-assoc false b d = refl
-
-missing-cons : (v : View) (s : ℕ) (w : Word) (ws : List Word) → sumMissing v s (w ∷ ws) ≡ missing (walkTo v s w) + sumMissing v s ws
-unfolding sumMissing
-missing-cons v s w ws = refl
-
-lacking-cons : (v : View) (s : ℕ) (w : Word) (ws : List Word) → sumLacking v s (w ∷ ws) ≡ pick (lacking v (walkTo v s w)) 1 0 + sumLacking v s ws
-unfolding sumLacking
-lacking-cons v s w ws = refl
-
--- what a search tells of a form is told of it among the answers to the target
-module _ (cs : List ℕ) (x : Sides) (root : ℕ) (w : Word) (m : Met) (q : Searched cs (x .h) root w m) where
-  pub met-walk : (s : ℕ) → root ≡ subgoalUnder cs (x .h) s .root
-      → (m .sound ≡ metSound (viewIn cs (x .h)) w (walkTo (viewIn cs (x .h)) s w)) × (m .lacking ≡ lacking (viewIn cs (x .h)) (walkTo (viewIn cs (x .h)) s w)) × (m .missing ≡ missing (walkTo (viewIn cs (x .h)) s w))
-  met-walk s p = subst (λ (r : ℕ). (m .sound ≡ metSound (viewIn cs (x .h)) w (walk (answerTrie (viewIn cs (x .h))) r w)) × (m .lacking ≡ lacking (viewIn cs (x .h)) (walk (answerTrie (viewIn cs (x .h))) r w)) × (m .missing ≡ missing (walk (answerTrie (viewIn cs (x .h))) r w))) p q
-
-one-more : (b : Bool) → oneMore b ≡ pick b 1 0
-unfolding oneMore
-one-more b = refl
-
-one-more-most : (b : Bool) → oneMore b ≤ 1
-unfolding oneMore
-one-more-most true = omega arith
-one-more-most false = omega arith
-
--- ---- the pass that counts by searches
-
--- the sums so far, with those of the forms to come, are those of all
-pub record Counting (cs : List ℕ) (x : Sides) (root : ℕ) (ps ks : List ℕ) (at : Cursor) (hands form : List ℕ) (y : Sums) : Type 0 where
-  pub stands : Stands cs x at hands form
-  pub fit : allFit (arityOf (x .h .edition)) (allForms cs x ps ks) ≡ allFit (arityOf (x .h .edition)) (toCome cs x ps ks at hands)
-  pub sound : (s : ℕ) → root ≡ subgoalUnder cs (x .h) s .root
-      → (y .sound && allSound (viewIn cs (x .h)) s (toCome cs x ps ks at hands)) ≡ allSound (viewIn cs (x .h)) s (allForms cs x ps ks)
-  pub missing : (s : ℕ) → root ≡ subgoalUnder cs (x .h) s .root
-      → y .missing + sumMissing (viewIn cs (x .h)) s (toCome cs x ps ks at hands) ≡ sumMissing (viewIn cs (x .h)) s (allForms cs x ps ks)
-  pub lacking : (s : ℕ) → root ≡ subgoalUnder cs (x .h) s .root
-      → y .lacking + sumLacking (viewIn cs (x .h)) s (toCome cs x ps ks at hands) ≡ sumLacking (viewIn cs (x .h)) s (allForms cs x ps ks)
-  pub missing-most : y .missing + 383 * length (toCome cs x ps ks at hands) ≤ 383 * length (allForms cs x ps ks)
-  pub lacking-most : y .lacking + length (toCome cs x ps ks at hands) ≤ length (allForms cs x ps ks)
-
 abbrev pub noSums : Sums
 noSums = record { sound = true; missing = 0; lacking = 0 }
 
-module _ (cs : List ℕ) (x : Sides) (root : ℕ) (ps ks : List ℕ) where
-  pub counting-begun : Ready cs x ps ks → (hands form : List ℕ) → length hands ≡ twoHands → length form ≡ mostTokens → Counting cs x root ps ks (beginning x) hands form noSums
-  counting-begun r hands form lh lf =
-      let e = all-come cs x ps ks hands in
-      record {
-        stands = begins cs x ps ks r hands form lh lf;
-        fit = ap (allFit (arityOf (x .h .edition))) e;
-        sound = λ s p. sym (ap (allSound (viewIn cs (x .h)) s) e);
-        missing = λ s p. omega (arith, ap (sumMissing (viewIn cs (x .h)) s) e);
-        lacking = λ s p. omega (arith, ap (sumLacking (viewIn cs (x .h)) s) e);
-        missing-most = omega (arith, ap length e);
-        lacking-most = omega (arith, ap length e);
-      }
+-- by any way of finding a child
+module _ (find : Finding) where
+  sound-cons : (v : View) (s : ℕ) (w : Word) (ws : List Word) → allSoundBy find v s (w ∷ ws) ≡ (metSound v w (walkToBy find v s w) && allSoundBy find v s ws)
+  unfolding allSoundBy
+  sound-cons v s w ws = refl
 
-  module _ (at : Cursor) (hands form : List ℕ) (y : Sums) (c : Counting cs x root ps ks at hands form y) (hands′ form′ : List ℕ) where
-    pub counted-end : Advances cs x ps ks at hands hands′ form′ match.End → Counts cs x root ps ks (counted.Sums y)
-    unfolding allFit allSoundBy sumMissing sumLacking
-    counted-end e s p = (
-      c .fit ∙ ap (allFit (arityOf (x .h .edition))) e,
-      sym (and-true (y .sound)) ∙ ap (λ (ws : List Word). y .sound && allSound (viewIn cs (x .h)) s ws) (sym e) ∙ c .sound s p,
-      omega (arith, c .missing s p, ap (sumMissing (viewIn cs (x .h)) s) e),
-      omega (arith, c .lacking s p, ap (sumLacking (viewIn cs (x .h)) s) e),
-    )
-      where
-        and-true : (b : Bool) → (b && true) ≡ b
-        and-true true = refl
-        and-true false = refl
+  and-assoc : (a b d : Bool) → ((a && b) && d) ≡ (a && (b && d))
+  and-assoc true b d = refl
+  and-assoc false b d = refl
 
-    pub counted-long : Advances cs x ps ks at hands hands′ form′ match.TooLong → Counts cs x root ps ks counted.TooLong
-    counted-long e s p = c .fit ∙ ap (allFit (arityOf (x .h .edition))) (e .2) ∙ unfit-cons (arityOf (x .h .edition)) (e .0) (e .1) (e .3)
+  missing-cons : (v : View) (s : ℕ) (w : Word) (ws : List Word) → sumMissing find v s (w ∷ ws) ≡ missing (walkToBy find v s w) + sumMissing find v s ws
+  unfolding sumMissing
+  missing-cons v s w ws = refl
 
-    module _ (next : Cursor) (n : ℕ) (a : Advances cs x ps ks at hands hands′ form′ (match.At next n)) (m : Met) (q : Searched cs (x .h) root (take n form′) m) where
-      abbrev w : Word
-      w = take n form′
+  lacking-cons : (v : View) (s : ℕ) (w : Word) (ws : List Word) → sumLacking find v s (w ∷ ws) ≡ pick (lacking v (walkToBy find v s w)) 1 0 + sumLacking find v s ws
+  unfolding sumLacking
+  lacking-cons v s w ws = refl
 
-      short : m .missing ≤ n → n ≤ 383
-      short l = omega (arith, a .1 .0, a .0 .inner .form-room)
+  -- what a search tells of a form is told of it among the answers to the target
+  module _ (cs : List ℕ) (x : Sides) (root : ℕ) (w : Word) (m : Met) (q : Searched find cs (x .h) root w m) where
+    pub met-walk : (s : ℕ) → root ≡ subgoalUnder cs (x .h) s .root
+        → (m .sound ≡ metSound (viewIn cs (x .h)) w (walkToBy find (viewIn cs (x .h)) s w)) × (m .lacking ≡ lacking (viewIn cs (x .h)) (walkToBy find (viewIn cs (x .h)) s w)) × (m .missing ≡ missing (walkToBy find (viewIn cs (x .h)) s w))
+    met-walk s p = subst (λ (r : ℕ). (m .sound ≡ metSound (viewIn cs (x .h)) w (walkBy find (answerTrie (viewIn cs (x .h))) r w)) × (m .lacking ≡ lacking (viewIn cs (x .h)) (walkBy find (answerTrie (viewIn cs (x .h))) r w)) × (m .missing ≡ missing (walkBy find (answerTrie (viewIn cs (x .h))) r w))) p q
 
-      fewer : length (toCome cs x ps ks at hands) ≡ suc (length (toCome cs x ps ks next hands′))
-      fewer = ap length (a .1 .1)
+  one-more : (b : Bool) → oneMore b ≡ pick b 1 0
+  unfolding oneMore
+  one-more b = refl
 
-      -- no sum wraps
-      pub sums-small : length (allForms cs x ps ks) ≤ 2 ^ 40 → m .missing ≤ n → (y .missing + m .missing < 2 ^ 64) × (y .lacking + 1 < 2 ^ 64)
-      sums-small few l = (omega (arith, c .missing-most, fewer, short l), omega (arith, c .lacking-most, fewer))
+  one-more-most : (b : Bool) → oneMore b ≤ 1
+  unfolding oneMore
+  one-more-most true = omega arith
+  one-more-most false = omega arith
 
-      pub counting-on : m .missing ≤ n → Counting cs x root ps ks next hands′ form′ (added y m)
-      counting-on l =
-          let v : View = viewIn cs (x .h) in
-          let rest : List Word = toCome cs x ps ks next hands′ in
-          record {
-            stands = a .0;
-            fit = c .fit ∙ ap (allFit (arityOf (x .h .edition))) (a .1 .1) ∙ fit-cons (arityOf (x .h .edition)) (take n form′) (toCome cs x ps ks next hands′) (a .1 .2);
-            sound = λ s p.
-                and-assoc (y .sound) (m .sound) (allSound (viewIn cs (x .h)) s (toCome cs x ps ks next hands′))
-                ∙ ap (λ (b : Bool). y .sound && (b && allSound (viewIn cs (x .h)) s (toCome cs x ps ks next hands′))) (met-walk cs x root (take n form′) m q s p .0)
-                ∙ ap (λ (b : Bool). y .sound && b) (sym (sound-cons (viewIn cs (x .h)) s (take n form′) (toCome cs x ps ks next hands′)) ∙ ap (allSound (viewIn cs (x .h)) s) (sym (a .1 .1)))
-                ∙ c .sound s p;
-            missing = λ s p. omega (arith, c .missing s p, ap (sumMissing (viewIn cs (x .h)) s) (a .1 .1), missing-cons (viewIn cs (x .h)) s (take n form′) (toCome cs x ps ks next hands′), met-walk cs x root (take n form′) m q s p .2);
-            lacking = λ s p. omega (arith, c .lacking s p, ap (sumLacking (viewIn cs (x .h)) s) (a .1 .1), lacking-cons (viewIn cs (x .h)) s (take n form′) (toCome cs x ps ks next hands′), ap {B = ℕ} (λ (b : Bool). pick b 1 0) (met-walk cs x root (take n form′) m q s p .1), one-more (m .lacking));
-            missing-most = omega (arith, c .missing-most, fewer, short l);
-            lacking-most = lack (m .lacking);
-          }
+  -- ---- the pass that counts by searches
+
+  -- the sums so far, with those of the forms to come, are those of all
+  pub record Counting (cs : List ℕ) (x : Sides) (root : ℕ) (ps ks : List ℕ) (at : Cursor) (hands form : List ℕ) (y : Sums) : Type 0 where
+    pub stands : Stands cs x at hands form
+    pub fit : allFit (arityOf (x .h .edition)) (allForms cs x ps ks) ≡ allFit (arityOf (x .h .edition)) (toCome cs x ps ks at hands)
+    pub sound : (s : ℕ) → root ≡ subgoalUnder cs (x .h) s .root
+        → (y .sound && allSoundBy find (viewIn cs (x .h)) s (toCome cs x ps ks at hands)) ≡ allSoundBy find (viewIn cs (x .h)) s (allForms cs x ps ks)
+    pub missing : (s : ℕ) → root ≡ subgoalUnder cs (x .h) s .root
+        → y .missing + sumMissing find (viewIn cs (x .h)) s (toCome cs x ps ks at hands) ≡ sumMissing find (viewIn cs (x .h)) s (allForms cs x ps ks)
+    pub lacking : (s : ℕ) → root ≡ subgoalUnder cs (x .h) s .root
+        → y .lacking + sumLacking find (viewIn cs (x .h)) s (toCome cs x ps ks at hands) ≡ sumLacking find (viewIn cs (x .h)) s (allForms cs x ps ks)
+    pub missing-most : y .missing + 383 * length (toCome cs x ps ks at hands) ≤ 383 * length (allForms cs x ps ks)
+    pub lacking-most : y .lacking + length (toCome cs x ps ks at hands) ≤ length (allForms cs x ps ks)
+
+  module _ (cs : List ℕ) (x : Sides) (root : ℕ) (ps ks : List ℕ) where
+    pub counting-begun : Ready cs x ps ks → (hands form : List ℕ) → length hands ≡ twoHands → length form ≡ mostTokens → Counting cs x root ps ks (beginning x) hands form noSums
+    counting-begun r hands form lh lf =
+        let e = all-come cs x ps ks hands in
+        record {
+          stands = begins cs x ps ks r hands form lh lf;
+          fit = ap (allFit (arityOf (x .h .edition))) e;
+          sound = λ s p. sym (ap (allSoundBy find (viewIn cs (x .h)) s) e);
+          missing = λ s p. omega (arith, ap (sumMissing find (viewIn cs (x .h)) s) e);
+          lacking = λ s p. omega (arith, ap (sumLacking find (viewIn cs (x .h)) s) e);
+          missing-most = omega (arith, ap length e);
+          lacking-most = omega (arith, ap length e);
+        }
+
+    module _ (at : Cursor) (hands form : List ℕ) (y : Sums) (c : Counting cs x root ps ks at hands form y) (hands′ form′ : List ℕ) where
+      pub counted-end : Advances cs x ps ks at hands hands′ form′ match.End → Counts find cs x root ps ks (counted.Sums y)
+      unfolding allFit allSoundBy sumMissing sumLacking
+      counted-end e s p = (
+        c .fit ∙ ap (allFit (arityOf (x .h .edition))) e,
+        sym (and-true (y .sound)) ∙ ap (λ (ws : List Word). y .sound && allSoundBy find (viewIn cs (x .h)) s ws) (sym e) ∙ c .sound s p,
+        omega (arith, c .missing s p, ap (sumMissing find (viewIn cs (x .h)) s) e),
+        omega (arith, c .lacking s p, ap (sumLacking find (viewIn cs (x .h)) s) e),
+      )
         where
-          lack : (b : Bool) → y .lacking + oneMore b + length (toCome cs x ps ks next hands′) ≤ length (allForms cs x ps ks)
-          lack b = omega (arith, c .lacking-most, fewer, one-more-most b)
+          and-true : (b : Bool) → (b && true) ≡ b
+          and-true true = refl
+          and-true false = refl
+
+      pub counted-long : Advances cs x ps ks at hands hands′ form′ match.TooLong → Counts find cs x root ps ks counted.TooLong
+      counted-long e s p = c .fit ∙ ap (allFit (arityOf (x .h .edition))) (e .2) ∙ unfit-cons (arityOf (x .h .edition)) (e .0) (e .1) (e .3)
+
+      module _ (next : Cursor) (n : ℕ) (a : Advances cs x ps ks at hands hands′ form′ (match.At next n)) (m : Met) (q : Searched find cs (x .h) root (take n form′) m) where
+        abbrev w : Word
+        w = take n form′
+
+        short : m .missing ≤ n → n ≤ 383
+        short l = omega (arith, a .1 .0, a .0 .inner .form-room)
+
+        fewer : length (toCome cs x ps ks at hands) ≡ suc (length (toCome cs x ps ks next hands′))
+        fewer = ap length (a .1 .1)
+
+        -- no sum wraps
+        pub sums-small : length (allForms cs x ps ks) ≤ 2 ^ 40 → m .missing ≤ n → (y .missing + m .missing < 2 ^ 64) × (y .lacking + 1 < 2 ^ 64)
+        sums-small few l = (omega (arith, c .missing-most, fewer, short l), omega (arith, c .lacking-most, fewer))
+
+        pub counting-on : m .missing ≤ n → Counting cs x root ps ks next hands′ form′ (added y m)
+        counting-on l =
+            let v : View = viewIn cs (x .h) in
+            let rest : List Word = toCome cs x ps ks next hands′ in
+            record {
+              stands = a .0;
+              fit = c .fit ∙ ap (allFit (arityOf (x .h .edition))) (a .1 .1) ∙ fit-cons (arityOf (x .h .edition)) (take n form′) (toCome cs x ps ks next hands′) (a .1 .2);
+              sound = λ s p.
+                  and-assoc (y .sound) (m .sound) (allSoundBy find (viewIn cs (x .h)) s (toCome cs x ps ks next hands′))
+                  ∙ ap (λ (b : Bool). y .sound && (b && allSoundBy find (viewIn cs (x .h)) s (toCome cs x ps ks next hands′))) (met-walk cs x root (take n form′) m q s p .0)
+                  ∙ ap (λ (b : Bool). y .sound && b) (sym (sound-cons (viewIn cs (x .h)) s (take n form′) (toCome cs x ps ks next hands′)) ∙ ap (allSoundBy find (viewIn cs (x .h)) s) (sym (a .1 .1)))
+                  ∙ c .sound s p;
+              missing = λ s p. omega (arith, c .missing s p, ap (sumMissing find (viewIn cs (x .h)) s) (a .1 .1), missing-cons (viewIn cs (x .h)) s (take n form′) (toCome cs x ps ks next hands′), met-walk cs x root (take n form′) m q s p .2);
+              lacking = λ s p. omega (arith, c .lacking s p, ap (sumLacking find (viewIn cs (x .h)) s) (a .1 .1), lacking-cons (viewIn cs (x .h)) s (take n form′) (toCome cs x ps ks next hands′), ap {B = ℕ} (λ (b : Bool). pick b 1 0) (met-walk cs x root (take n form′) m q s p .1), one-more (m .lacking));
+              missing-most = omega (arith, c .missing-most, fewer, short l);
+              lacking-most = lack (m .lacking);
+            }
+          where
+            lack : (b : Bool) → y .lacking + oneMore b + length (toCome cs x ps ks next hands′) ≤ length (allForms cs x ps ks)
+            lack b = omega (arith, c .lacking-most, fewer, one-more-most b)
 
 -- ---- bounds
 
-missing-of : (t : Trie) (root : ℕ) (w : Word) (x : Walk) → root < t .nodes → walk t root w ≡ x → missing x ≤ length w
-unfolding missing
-missing-of t root w (whole n) l e = omega arith
-missing-of t root w (stopped p k left) l e = walk-stopped chains-find t root p k w left l e .fewer
-missing-of t root w damaged l e = omega arith
+module _ {find : Finding} (finds : Finds find) where
+  missing-of : (t : Trie) (root : ℕ) (w : Word) (x : Walk) → root < t .nodes → walkBy find t root w ≡ x → missing x ≤ length w
+  unfolding missing
+  missing-of t root w (whole n) l e = omega arith
+  missing-of t root w (stopped p k left) l e = walk-stopped finds t root p k w left l e .fewer
+  missing-of t root w damaged l e = omega arith
 
--- no more tokens are missing than a form has
-pub missing-most : (cs : List ℕ) (x : Sides) (root : ℕ) (w : Word) (m : Met) → root < x .h .nodes → Searched cs (x .h) root w m → m .missing ≤ length w
-missing-most cs x root w m l q = omega (arith, q .2, missing-of (answerTrie (viewIn cs (x .h))) root w (walk (answerTrie (viewIn cs (x .h))) root w) l refl)
+  -- no more tokens are missing than a form has
+  pub missing-most : (cs : List ℕ) (x : Sides) (root : ℕ) (w : Word) (m : Met) → root < x .h .nodes → Searched find cs (x .h) root w m → m .missing ≤ length w
+  missing-most cs x root w m l q = omega (arith, q .2, missing-of (answerTrie (viewIn cs (x .h))) root w (walkBy find (answerTrie (viewIn cs (x .h))) root w) l refl)
 
 parts-length : (arity : ℕ → ℕ) (ws : List Word) → length (map (parts arity) ws) ≡ length ws
 parts-length arity [] = refl

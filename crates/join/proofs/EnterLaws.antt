@@ -1,28 +1,29 @@
 -- The pass over all forms of a join that enters them: what is known of the sources stays known as the target's cells
 -- change, and the forms that are still to come stay the same.
 use mathlib.Core.Path.{_≡_, refl, sym, ap, _∙_, subst}
-use mathlib.Core.Bool.{Bool, true, false}
-use mathlib.Core.List.{List, [], _∷_, _++_, map}
-use Prim.Native.Nat.{ℕ, suc, _+_, _≤_, _<_}
+use mathlib.Core.Bool.{true}
+use mathlib.Core.List.{List, map}
+use Prim.Native.Nat.{ℕ, _≤_, _<_}
 use native.Mathlib.Omega.{arith}
 use lib.ListN.{length, take}
 use Rattle.forms.specs.Cells.{arityOf}
 use Rattle.plain.specs.Words.{Word}
-use Rattle.plain.specs.Coding.{Coding, codingOf}
-use Rattle.plain.specs.Joins.{along, combined}
+use Rattle.plain.specs.Coding.{codingOf}
 use Rattle.space.specs.Layout.{sizesOf}
-use Rattle.space.specs.Heading.{headerOf, spaceHeader}
+use Rattle.space.specs.Heading.{spaceHeader}
 use Rattle.space.specs.Sound.{Bounds, subgoalUnder}
 use Rattle.space.specs.declared.Head.{Head}
 use Rattle.space.specs.declared.Header.{Header}
 use Rattle.space.specs.declared.Header.the-variants as header
 use Rattle.space.specs.declared.Subgoal.{Subgoal}
 use Rattle.space.proofs.HeaderLaws.{header-bounds}
-use Rattle.trie.proofs.SearchLaws.{chains-find}
-use Rattle.store.specs.Views.{View, viewOf}
+use Rattle.trie.specs.Siblings.{searchChildren}
+use Rattle.trie.specs.Walks.{Finding}
+use Rattle.trie.proofs.SearchLaws.{Finds}
+use Rattle.store.specs.Views.{viewOf}
 use Rattle.plain.specs.Requests.{Reply}
-use Rattle.store.specs.Decisions.{unbroken, chainFrom, walkTo}
-use Rattle.store.specs.Changes.{change, formGiven, formGivenBy, formsGiven, formsGivenBy}
+use Rattle.store.specs.Decisions.{unbroken, chainFrom, walkToBy}
+use Rattle.store.specs.Changes.{change, formGivenBy, formsGivenBy}
 use Rattle.store.proofs.JoinCases.{given-written}
 use Rattle.store.specs.Contracts.{viewIn, Does, Held, answeredFrom}
 use Rattle.agreement.proofs.ChainSteps.{chain-longer}
@@ -34,7 +35,7 @@ use Rattle.join.specs.declared.Sides.{Sides}
 use Rattle.join.specs.declared.Cursor.{Cursor}
 use Rattle.join.specs.declared.Match.{Match}
 use Rattle.join.specs.declared.Match.the-variants as match
-use Rattle.join.specs.Pairing.{formsFrom, SourceIn, Remains, twoHands, mostTokens, formIn, Known, Compared, Stands, partsFrom, alongHand, toCome, Advances}
+use Rattle.join.specs.Pairing.{formsFrom, SourceIn, Remains, twoHands, mostTokens, formIn, Known, Stands, partsFrom, toCome, Advances}
 use Rattle.join.specs.Counting.{beginning, allForms, Ready, Fitting, underHead, Target, Givable, Enters}
 use Rattle.join.proofs.RemainsLaws.{forms-are}
 use Rattle.join.proofs.CountLaws.{begins, all-come, fit-cons, not-long}
@@ -149,98 +150,100 @@ module _ (cs : List ℕ) (x : Sides) (s : ℕ) (ps ks : List ℕ) (k : Known cs 
 
 -- ---- the loop
 
-pub record Entering (cs0 : List ℕ) (x0 : Sides) (s : ℕ) (ps ks cs : List ℕ) (x : Sides) (at : Cursor) (hands form : List ℕ) : Type 0 where
-  pub space : spaceHeader cs ≡ header.Sound (x .h)
-  pub known : Known cs x ps ks
-  pub target : Target cs x s
-  pub stands : Stands cs x at hands form
-  pub fit : allFit (arityOf (x .h .edition)) (toCome cs x ps ks at hands) ≡ true
-  pub left : formsGiven (sizesOf (x .h .edition)) cs s (toCome cs x ps ks at hands) ≡ formsGiven (sizesOf (x0 .h .edition)) cs0 s (allForms cs0 x0 ps ks)
+module _ (find : Finding) where
+  pub record Entering (cs0 : List ℕ) (x0 : Sides) (s : ℕ) (ps ks cs : List ℕ) (x : Sides) (at : Cursor) (hands form : List ℕ) : Type 0 where
+    pub space : spaceHeader cs ≡ header.Sound (x .h)
+    pub known : Known cs x ps ks
+    pub target : Target cs x s
+    pub stands : Stands cs x at hands form
+    pub fit : allFit (arityOf (x .h .edition)) (toCome cs x ps ks at hands) ≡ true
+    pub left : formsGivenBy find (sizesOf (x .h .edition)) cs s (toCome cs x ps ks at hands) ≡ formsGivenBy find (sizesOf (x0 .h .edition)) cs0 s (allForms cs0 x0 ps ks)
 
-module _ (cs0 : List ℕ) (x0 : Sides) (s : ℕ) (ps ks : List ℕ) where
-  pub entering-begun : spaceHeader cs0 ≡ header.Sound (x0 .h) → Ready cs0 x0 ps ks → Fitting cs0 x0 ps ks → Target cs0 x0 s → (hands form : List ℕ) → length hands ≡ twoHands → length form ≡ mostTokens
-      → Entering cs0 x0 s ps ks cs0 x0 (beginning x0) hands form
-  entering-begun e r f t hands form lh lf = record {
-    space = e;
-    known = r .known;
-    target = t;
-    stands = begins cs0 x0 ps ks r hands form lh lf;
-    fit = subst (λ (ws : List Word). allFit (arityOf (x0 .h .edition)) ws ≡ true) (all-come cs0 x0 ps ks hands) f;
-    left = ap (formsGiven (sizesOf (x0 .h .edition)) cs0 s) (sym (all-come cs0 x0 ps ks hands));
-  }
+module _ {find : Finding} (finds : Finds find) where
+  module _ (cs0 : List ℕ) (x0 : Sides) (s : ℕ) (ps ks : List ℕ) where
+    pub entering-begun : spaceHeader cs0 ≡ header.Sound (x0 .h) → Ready cs0 x0 ps ks → Fitting cs0 x0 ps ks → Target cs0 x0 s → (hands form : List ℕ) → length hands ≡ twoHands → length form ≡ mostTokens
+        → Entering find cs0 x0 s ps ks cs0 x0 (beginning x0) hands form
+    entering-begun e r f t hands form lh lf = record {
+      space = e;
+      known = r .known;
+      target = t;
+      stands = begins cs0 x0 ps ks r hands form lh lf;
+      fit = subst (λ (ws : List Word). allFit (arityOf (x0 .h .edition)) ws ≡ true) (all-come cs0 x0 ps ks hands) f;
+      left = ap (formsGivenBy find (sizesOf (x0 .h .edition)) cs0 s) (sym (all-come cs0 x0 ps ks hands));
+    }
 
-  module _ (cs : List ℕ) (x : Sides) (at : Cursor) (hands form : List ℕ) (n : Entering cs0 x0 s ps ks cs x at hands form) (hands′ form′ : List ℕ) where
-    entered-end : Advances cs x ps ks at hands hands′ form′ match.End → Enters cs0 x0 s ps ks cs
-    unfolding formsGivenBy
-    entered-end e = sym (ap (formsGiven (sizesOf (x .h .edition)) cs s) e) ∙ n .left
-
-    -- nothing more matches
-    pub entered-other : (r : Match) → Advances cs x ps ks at hands hands′ form′ r → ((next : Cursor) (m : ℕ) → r ≡ match.At next m → ⊥) → Enters cs0 x0 s ps ks cs
-    entered-other (match.At next m) a z = absurd (z next m refl)
-    entered-other match.TooLong a z = absurd (not-long (x .h .edition) (toCome cs x ps ks at hands) (n .fit) a)
-    entered-other match.End a z = entered-end a
-
-    module _ (next : Cursor) (m : ℕ) (a : Advances cs x ps ks at hands hands′ form′ (match.At next m)) (cs′ : List ℕ) (g : cs′ ≡ formGiven (sizesOf (x .h .edition)) cs s (take m form′) (header.Sound (x .h))) where
-      framed : Framed (x .h .edition) s cs (x .h) cs′
-      framed = subst (Framed (x .h .edition) s cs (x .h)) (sym g) (form-framed chains-find cs (x .h) (n .space) s (n .target .low) (n .target .high) (n .target .root-in) (n .target .last-in) (take m form′))
-
-      given : formsGiven (sizesOf (x .h .edition)) cs s (toCome cs x ps ks at hands) ≡ formsGiven (sizesOf (x .h .edition)) cs′ s (toCome cs x ps ks next hands′)
+    module _ (cs : List ℕ) (x : Sides) (at : Cursor) (hands form : List ℕ) (n : Entering find cs0 x0 s ps ks cs x at hands form) (hands′ form′ : List ℕ) where
+      entered-end : Advances cs x ps ks at hands hands′ form′ match.End → Enters find cs0 x0 s ps ks cs
       unfolding formsGivenBy
-      given =
-          ap (formsGiven (sizesOf (x .h .edition)) cs s) (a .1 .1)
-          ∙ ap (λ (y : Header). formsGiven (sizesOf (x .h .edition)) (formGiven (sizesOf (x .h .edition)) cs s (take m form′) y) s (toCome cs x ps ks next hands′)) (space-read cs (x .h) (n .space) .1)
-          ∙ ap (λ (ds : List ℕ). formsGiven (sizesOf (x .h .edition)) ds s (toCome cs x ps ks next hands′)) (sym g)
+      entered-end e = sym (ap (formsGivenBy find (sizesOf (x .h .edition)) cs s) e) ∙ n .left
 
-      pub entering-size : length cs′ ≡ length cs
-      entering-size = framed .size
+      -- nothing more matches
+      pub entered-other : (r : Match) → Advances cs x ps ks at hands hands′ form′ r → ((next : Cursor) (m : ℕ) → r ≡ match.At next m → ⊥) → Enters find cs0 x0 s ps ks cs
+      entered-other (match.At next m) a z = absurd (z next m refl)
+      entered-other match.TooLong a z = absurd (not-long (x .h .edition) (toCome cs x ps ks at hands) (n .fit) a)
+      entered-other match.End a z = entered-end a
 
-      pub still-sound : (r : ℕ) → header.Refused r ≡ spaceHeader cs′ → ⊥
-      still-sound r e = refused-sound (e ∙ framed .space)
-        where
-          Is-refused : Header → Type 0
-          Is-refused (header.Refused q) = Unit {0}
-          Is-refused (header.Sound q) = ⊥
+      module _ (next : Cursor) (m : ℕ) (a : Advances cs x ps ks at hands hands′ form′ (match.At next m)) (cs′ : List ℕ) (g : cs′ ≡ formGivenBy find (sizesOf (x .h .edition)) cs s (take m form′) (header.Sound (x .h))) where
+        framed : Framed (x .h .edition) s cs (x .h) cs′
+        framed = subst (Framed (x .h .edition) s cs (x .h)) (sym g) (form-framed finds cs (x .h) (n .space) s (n .target .low) (n .target .high) (n .target .root-in) (n .target .last-in) (take m form′))
 
-          refused-sound : {q : ℕ} {y : Head} → header.Refused q ≡ header.Sound y → ⊥
-          refused-sound w = subst Is-refused w tt
+        given : formsGivenBy find (sizesOf (x .h .edition)) cs s (toCome cs x ps ks at hands) ≡ formsGivenBy find (sizesOf (x .h .edition)) cs′ s (toCome cs x ps ks next hands′)
+        unfolding formsGivenBy
+        given =
+            ap (formsGivenBy find (sizesOf (x .h .edition)) cs s) (a .1 .1)
+            ∙ ap (λ (y : Header). formsGivenBy find (sizesOf (x .h .edition)) (formGivenBy find (sizesOf (x .h .edition)) cs s (take m form′) y) s (toCome cs x ps ks next hands′)) (space-read cs (x .h) (n .space) .1)
+            ∙ ap (λ (ds : List ℕ). formsGivenBy find (sizesOf (x .h .edition)) ds s (toCome cs x ps ks next hands′)) (sym g)
 
-      pub entering-on : (h′ : Head) → header.Sound h′ ≡ spaceHeader cs′ → Entering cs0 x0 s ps ks cs′ (underHead x h′) next hands′ form′
-      entering-on h′ e =
-          let is : framed .head ≡ h′ = sound-is (sym (framed .space) ∙ sym e) in
-          let come = come-kept cs x s ps ks (n .known) (n .target) cs′ framed h′ is next hands′ form′ (a .0) in
-          let ed = edition-kept cs (x .h) s cs′ framed h′ is in
-          record {
-            space = sym e;
-            known = known-kept cs x s ps ks (n .known) (n .target) cs′ framed h′ is;
-            target = target-kept cs x s ps ks (n .known) (n .target) cs′ framed h′ is;
-            stands = stands-kept cs x s ps ks (n .known) (n .target) cs′ framed h′ is next hands′ form′ (a .0);
-            fit = subst (λ (ws : List Word). allFit (arityOf (h′ .edition)) ws ≡ true) (sym come)
-                (subst (λ (d : ℕ). allFit (arityOf d) (toCome cs x ps ks next hands′) ≡ true) (sym ed)
-                (sym (fit-cons (arityOf (x .h .edition)) (take m form′) (toCome cs x ps ks next hands′) (a .1 .2)) ∙ ap (allFit (arityOf (x .h .edition))) (sym (a .1 .1)) ∙ n .fit));
-            left = ap (λ (d : ℕ). formsGiven (sizesOf d) cs′ s (toCome cs′ (underHead x h′) ps ks next hands′)) ed
-                ∙ ap (formsGiven (sizesOf (x .h .edition)) cs′ s) come
-                ∙ sym given
-                ∙ n .left;
-          }
+        pub entering-size : length cs′ ≡ length cs
+        entering-size = framed .size
 
-    -- there are fewer to come
-    pub entering-less : (next : Cursor) (m : ℕ) (a : Advances cs x ps ks at hands hands′ form′ (match.At next m)) (cs′ : List ℕ) (g : cs′ ≡ formGiven (sizesOf (x .h .edition)) cs s (take m form′) (header.Sound (x .h)))
-        (h′ : Head) → header.Sound h′ ≡ spaceHeader cs′ → length (toCome cs′ (underHead x h′) ps ks next hands′) < length (toCome cs x ps ks at hands)
-    entering-less next m a cs′ g h′ e =
-        let F = framed next m a cs′ g in
-        let is : F .head ≡ h′ = sound-is (sym (F .space) ∙ sym e) in
-        let come = come-kept cs x s ps ks (n .known) (n .target) cs′ F h′ is next hands′ form′ (a .0) in
-        omega (arith, ap length come, ap length (a .1 .1))
+        pub still-sound : (r : ℕ) → header.Refused r ≡ spaceHeader cs′ → ⊥
+        still-sound r e = refused-sound (e ∙ framed .space)
+          where
+            Is-refused : Header → Type 0
+            Is-refused (header.Refused q) = Unit {0}
+            Is-refused (header.Sound q) = ⊥
+
+            refused-sound : {q : ℕ} {y : Head} → header.Refused q ≡ header.Sound y → ⊥
+            refused-sound w = subst Is-refused w tt
+
+        pub entering-on : (h′ : Head) → header.Sound h′ ≡ spaceHeader cs′ → Entering find cs0 x0 s ps ks cs′ (underHead x h′) next hands′ form′
+        entering-on h′ e =
+            let is : framed .head ≡ h′ = sound-is (sym (framed .space) ∙ sym e) in
+            let come = come-kept cs x s ps ks (n .known) (n .target) cs′ framed h′ is next hands′ form′ (a .0) in
+            let ed = edition-kept cs (x .h) s cs′ framed h′ is in
+            record {
+              space = sym e;
+              known = known-kept cs x s ps ks (n .known) (n .target) cs′ framed h′ is;
+              target = target-kept cs x s ps ks (n .known) (n .target) cs′ framed h′ is;
+              stands = stands-kept cs x s ps ks (n .known) (n .target) cs′ framed h′ is next hands′ form′ (a .0);
+              fit = subst (λ (ws : List Word). allFit (arityOf (h′ .edition)) ws ≡ true) (sym come)
+                  (subst (λ (d : ℕ). allFit (arityOf d) (toCome cs x ps ks next hands′) ≡ true) (sym ed)
+                  (sym (fit-cons (arityOf (x .h .edition)) (take m form′) (toCome cs x ps ks next hands′) (a .1 .2)) ∙ ap (allFit (arityOf (x .h .edition))) (sym (a .1 .1)) ∙ n .fit));
+              left = ap (λ (d : ℕ). formsGivenBy find (sizesOf d) cs′ s (toCome cs′ (underHead x h′) ps ks next hands′)) ed
+                  ∙ ap (formsGivenBy find (sizesOf (x .h .edition)) cs′ s) come
+                  ∙ sym given
+                  ∙ n .left;
+            }
+
+      -- there are fewer to come
+      pub entering-less : (next : Cursor) (m : ℕ) (a : Advances cs x ps ks at hands hands′ form′ (match.At next m)) (cs′ : List ℕ) (g : cs′ ≡ formGivenBy find (sizesOf (x .h .edition)) cs s (take m form′) (header.Sound (x .h)))
+          (h′ : Head) → header.Sound h′ ≡ spaceHeader cs′ → length (toCome cs′ (underHead x h′) ps ks next hands′) < length (toCome cs x ps ks at hands)
+      entering-less next m a cs′ g h′ e =
+          let F = framed next m a cs′ g in
+          let is : F .head ≡ h′ = sound-is (sym (F .space) ∙ sym e) in
+          let come = come-kept cs x s ps ks (n .known) (n .target) cs′ F h′ is next hands′ form′ (a .0) in
+          omega (arith, ap length come, ap length (a .1 .1))
 
 -- ---- one form
 
 -- a form given as a single answer is
-pub given-by : (cs : List ℕ) (h : Head) (s : ℕ) (w : Word) (g : Subgoal) (r : Reply) (cs′ : List ℕ) → g ≡ subgoalUnder cs h s → Does cs h (answeredFrom s (g .root) w) r cs′ → cs′ ≡ formGiven (sizesOf (h .edition)) cs s w (header.Sound h)
+pub given-by : (find : Finding) (cs : List ℕ) (h : Head) (s : ℕ) (w : Word) (g : Subgoal) (r : Reply) (cs′ : List ℕ) → g ≡ subgoalUnder cs h s → Does cs h (answeredFrom find s (g .root) w) r cs′ → cs′ ≡ formGivenBy find (sizesOf (h .edition)) cs s w (header.Sound h)
 unfolding formGivenBy
-given-by cs h s w g r cs′ e d =
+given-by find cs h s w g r cs′ e d =
     d .1
-    ∙ ap (λ (q : Subgoal). change (sizesOf (h .edition)) cs h (answeredFrom s (q .root) w (viewIn cs h))) e
-    ∙ given-written (sizesOf (h .edition)) cs h s w (walkTo (viewIn cs h) s w)
+    ∙ ap (λ (q : Subgoal). change (sizesOf (h .edition)) cs h (answeredFrom find s (q .root) w (viewIn cs h))) e
+    ∙ given-written searchChildren (sizesOf (h .edition)) cs h s w (walkToBy find (viewIn cs h) s w)
 
 pub givable-held : (cs : List ℕ) (h : Head) (s : ℕ) (g : Subgoal) → Givable cs h s → g ≡ subgoalUnder cs h s → Held cs h s g
 givable-held cs h s g p e =

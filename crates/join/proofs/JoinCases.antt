@@ -2,56 +2,52 @@
 use mathlib.Core.Path.{_≡_, refl, sym, ap, _∙_, subst}
 use mathlib.Core.Bool.{Bool, true, false, _&&_, true≢false, false≢true}
 use mathlib.Core.List.{List, [], _∷_, map}
-use Prim.Native.Nat.{ℕ, zero, suc, _+_, _-_, _*_, _^_, _≤_, _<_}
+use Prim.Native.Nat.{ℕ, suc, _-_, _*_, _≤_, _<_}
 use native.Mathlib.Omega.{arith}
 use lib.Dec.{eqb, leb, ltb}
 use lib.ListN.{length}
-use borrow.Author.Tests.{eq-eqb, ne-eqb, lt-ltb, le-ltb, le-leb, lt-leb, eqb-true, eqb-false}
+use borrow.Author.Tests.{eq-eqb, ne-eqb, lt-ltb, le-leb, eqb-true, eqb-false}
 use Rattle.basis.specs.Choice.{pick}
 use Rattle.basis.proofs.Cases.{by-cases}
 use Rattle.forms.specs.Cells.{arityOf}
 use Rattle.forms.specs.Numbering.{met}
 use Rattle.plain.specs.Words.{Word}
 use Rattle.plain.specs.Coding.{Coding, codingOf}
-use Rattle.plain.specs.Joins.{Forms, declined, formed, Side, pairsNamed, copiesNamed, named, ground, isOpen, allRead, combined, joinOf}
-use Rattle.plain.specs.Requests.{State, Open, Finished, Request, join, lent, Reply, joined, refused}
-use Rattle.space.specs.Judging.{subgoalSound, readSubgoal, readNode}
-use Rattle.space.specs.Sound.{Bounds, subgoalUnder}
+use Rattle.plain.specs.Joins.{Forms, declined, pairsNamed, copiesNamed, named, ground, allRead, combined, joinOf}
+use Rattle.plain.specs.Requests.{join, lent, joined, refused}
+use Rattle.space.specs.Judging.{subgoalSound}
+use Rattle.space.specs.Sound.{subgoalUnder}
 use Rattle.space.specs.declared.Head.{Head}
 use Rattle.space.specs.declared.Subgoal.{Subgoal}
 use Rattle.space.proofs.JudgingLaws.{subgoal-bounds}
-use Rattle.trie.specs.Walks.{rootSound}
+use Rattle.trie.specs.Walks.{Finding, rootSound}
 use Rattle.store.specs.Views.{View, answerTrie}
 use Rattle.store.specs.Decisions as decisions
-use Rattle.store.specs.Decisions.{Decision, says, refuses, known, sound, stateOf, soundSubgoal, soundTarget, soundLast, Chain, broken, unbroken, chainFrom, chainOf, onChains, sideIn, allSound, nodesNeeded, answersNeeded, joining, joiningBy, entersAnswers, decide, decideBy}
-use Rattle.store.specs.Changes.{formsGiven, changeBy}
+use Rattle.store.specs.Decisions.{Decision, says, refuses, known, sound, stateOf, soundSubgoal, soundTarget, broken, unbroken, chainFrom, chainOf, onChains, sideIn, joiningBy, entersAnswers, decideBy}
+use Rattle.store.specs.Changes.{formsGivenBy, changeBy}
 use Rattle.store.specs.Calls.{usedAnswers, reply}
 use Rattle.store.specs.Contracts.{viewIn, Held, AnswersUnder}
-use Rattle.store.proofs.CallsCases.{Decided, decided-says, comes}
-use Rattle.parts.specs.Parts.{GroundForm, AllGround, allFit, fitted, parts}
+use Rattle.store.proofs.CallsCases.{decided-says, comes}
+use Rattle.parts.specs.Parts.{AllGround, fitted}
 use Rattle.parts.proofs.JoinedForms.{joined-forms}
-use Rattle.sides.specs.Counts.{sumMissing, sumLacking}
-use Rattle.sides.proofs.CountLaws.{nodes-needed-most, answers-needed-most, answers-needed-none, lacking-none}
 use Rattle.join.specs.declared.Parties.{Parties}
-use Rattle.join.specs.declared.Sides.{Sides}
-use Rattle.join.specs.declared.Sums.{Sums}
-use Rattle.join.specs.Pairing.{formsFrom, SourceIn, Remains, Known, partsFrom}
-use Rattle.join.specs.Counting.{allForms, Ready, Fitting, Target}
+use Rattle.join.specs.Pairing.{formsFrom, SourceIn, Remains}
+use Rattle.join.specs.Counting.{allForms, Ready, Target}
 use Rattle.agreement.proofs.ChainSteps.{chain-begins, chain-ends, chain-longer}
 use Rattle.join.proofs.RemainsLaws.{forms-are, unbroken-is}
-use Rattle.join.specs.Joining.{isNumber, asked, PartiesIn, sidesOf, AnswersGround, Grounded, Ruled, Summed, Enterable}
+use Rattle.join.specs.Joining.{isNumber, asked, PartiesIn, sidesOf, AnswersGround, Grounded, Ruled}
 
 -- ---- a decision that says something
 
-module _ (cs : List ℕ) (h : Head) (f g : ℕ) (ps : List ℕ) (s : ℕ) (ks : List ℕ) where
-  pub join-refused : (r : ℕ) → decide (codingOf (h .edition)) (viewIn cs h) (join f g ps s ks) ≡ refuses r → AnswersUnder cs h (join f g ps s ks) (refused r) cs
+module _ (find : Finding) (cs : List ℕ) (h : Head) (f g : ℕ) (ps : List ℕ) (s : ℕ) (ks : List ℕ) where
+  pub join-refused : (r : ℕ) → decideBy find (codingOf (h .edition)) (viewIn cs h) (join f g ps s ks) ≡ refuses r → AnswersUnder find cs h (join f g ps s ks) (refused r) cs
   unfolding lent
-  join-refused r e = comes cs h (join f g ps s ks) (refuses r) (refused r) cs refl e (decided-says cs h (refused r))
+  join-refused r e = comes find cs h (join f g ps s ks) (refuses r) (refused r) cs refl e (decided-says find cs h (refused r))
 
-  pub join-entered : (ws : List Word) (n : ℕ) (cs′ : List ℕ) → decide (codingOf (h .edition)) (viewIn cs h) (join f g ps s ks) ≡ entersAnswers s ws
-      → cs′ ≡ formsGiven (Rattle.space.specs.Layout.sizesOf (h .edition)) cs s ws → n ≡ usedAnswers cs′ - h .answers → AnswersUnder cs h (join f g ps s ks) (joined n) cs′
+  pub join-entered : (ws : List Word) (n : ℕ) (cs′ : List ℕ) → decideBy find (codingOf (h .edition)) (viewIn cs h) (join f g ps s ks) ≡ entersAnswers s ws
+      → cs′ ≡ formsGivenBy find (Rattle.space.specs.Layout.sizesOf (h .edition)) cs s ws → n ≡ usedAnswers cs′ - h .answers → AnswersUnder find cs h (join f g ps s ks) (joined n) cs′
   unfolding lent reply changeBy
-  join-entered ws n cs′ e c m = comes cs h (join f g ps s ks) (entersAnswers s ws) (joined n) cs′ refl e (ap joined m, c)
+  join-entered ws n cs′ e c m = comes find cs h (join f g ps s ks) (entersAnswers s ws) (joined n) cs′ refl e (ap joined m, c)
 
 -- ---- the numbers
 
@@ -67,33 +63,33 @@ known-is n s d e = by-cases (ltb 0 s)
     (λ p. by-cases (leb s n) (λ q. rw (p, q)) (λ q. absurd (false≢true (sym (ap (λ (b : Bool). pick b (leb s n) false) p ∙ q) ∙ e))))
     (λ p. absurd (false≢true (sym (ap (λ (b : Bool). pick b (leb s n) false) p) ∙ e)))
 
-module _ (c : Coding) (v : View) (f g : ℕ) (ps : List ℕ) (s : ℕ) (ks : List ℕ) where
+module _ (find : Finding) (c : Coding) (v : View) (f g : ℕ) (ps : List ℕ) (s : ℕ) (ks : List ℕ) where
   abbrev sourced : Decision
   sourced =
       onChains (chainOf c v f) (chainOf c v g) (λ us vs.
-      joining v s (joinOf c (sideIn v f us) (sideIn v g vs) ps (stateOf (v .subgoal s .state)) (v .subgoal s .variables) ks))
+      joiningBy find v s (joinOf c (sideIn v f us) (sideIn v g vs) ps (stateOf (v .subgoal s .state)) (v .subgoal s .variables) ks))
 
   abbrev judged : Decision
   judged = sound (soundSubgoal v f && soundSubgoal v g && soundTarget v s) sourced
 
-  pub first-unknown : isNumber (v .subgoals) f ≡ false → decide c v (join f g ps s ks) ≡ refuses 7
+  pub first-unknown : isNumber (v .subgoals) f ≡ false → decideBy find c v (join f g ps s ks) ≡ refuses 7
   unfolding decideBy
   first-unknown e = known-not (v .subgoals) f (known (v .subgoals) g (known (v .subgoals) s judged)) e
 
   module _ (i : isNumber (v .subgoals) f ≡ true) where
-    pub second-unknown : isNumber (v .subgoals) g ≡ false → decide c v (join f g ps s ks) ≡ refuses 7
+    pub second-unknown : isNumber (v .subgoals) g ≡ false → decideBy find c v (join f g ps s ks) ≡ refuses 7
     unfolding decideBy
     second-unknown e = known-is (v .subgoals) f (known (v .subgoals) g (known (v .subgoals) s judged)) i ∙ known-not (v .subgoals) g (known (v .subgoals) s judged) e
 
     module _ (j : isNumber (v .subgoals) g ≡ true) where
-      pub target-unknown : isNumber (v .subgoals) s ≡ false → decide c v (join f g ps s ks) ≡ refuses 7
+      pub target-unknown : isNumber (v .subgoals) s ≡ false → decideBy find c v (join f g ps s ks) ≡ refuses 7
       unfolding decideBy
       target-unknown e =
           known-is (v .subgoals) f (known (v .subgoals) g (known (v .subgoals) s judged)) i
           ∙ known-is (v .subgoals) g (known (v .subgoals) s judged) j ∙ known-not (v .subgoals) s judged e
 
       module _ (k : isNumber (v .subgoals) s ≡ true) where
-        known-all : decide c v (join f g ps s ks) ≡ judged
+        known-all : decideBy find c v (join f g ps s ks) ≡ judged
         unfolding decideBy
         known-all =
             known-is (v .subgoals) f (known (v .subgoals) g (known (v .subgoals) s judged)) i
@@ -101,22 +97,22 @@ module _ (c : Coding) (v : View) (f g : ℕ) (ps : List ℕ) (s : ℕ) (ks : Lis
 
         -- ---- the records
 
-        pub first-damaged : soundSubgoal v f ≡ false → decide c v (join f g ps s ks) ≡ refuses 9
+        pub first-damaged : soundSubgoal v f ≡ false → decideBy find c v (join f g ps s ks) ≡ refuses 9
         first-damaged e = known-all ∙ rw e
 
         module _ (a : soundSubgoal v f ≡ true) where
-          pub second-damaged : soundSubgoal v g ≡ false → decide c v (join f g ps s ks) ≡ refuses 9
+          pub second-damaged : soundSubgoal v g ≡ false → decideBy find c v (join f g ps s ks) ≡ refuses 9
           second-damaged e = known-all ∙ rw (a, e)
 
           module _ (b : soundSubgoal v g ≡ true) where
-            pub target-damaged : soundSubgoal v s ≡ false → decide c v (join f g ps s ks) ≡ refuses 9
+            pub target-damaged : soundSubgoal v s ≡ false → decideBy find c v (join f g ps s ks) ≡ refuses 9
             target-damaged e = known-all ∙ rw (a, b, e)
 
             module _ (d : soundSubgoal v s ≡ true) where
-              pub root-damaged : rootSound (answerTrie v) (v .subgoal s .root) ≡ false → decide c v (join f g ps s ks) ≡ refuses 9
+              pub root-damaged : rootSound (answerTrie v) (v .subgoal s .root) ≡ false → decideBy find c v (join f g ps s ks) ≡ refuses 9
               root-damaged e = known-all ∙ rw (a, b, d, e)
 
-              pub records-sound : rootSound (answerTrie v) (v .subgoal s .root) ≡ true → decide c v (join f g ps s ks) ≡ sourced
+              pub records-sound : rootSound (answerTrie v) (v .subgoal s .root) ≡ true → decideBy find c v (join f g ps s ks) ≡ sourced
               records-sound e = known-all ∙ rw (a, b, d, e)
 
 -- ---- the rule, by the three records and the sources' forms
@@ -183,9 +179,9 @@ module _ (cs : List ℕ) (h : Head) (y : Parties) (ps ks : List ℕ) (p : Partie
   target-is : viewIn cs h .subgoal (y .target) ≡ y .t
   target-is = sym (p .target .3)
 
-  parties-decide : decide (codingOf (h .edition)) (viewIn cs h) (asked y ps ks) ≡ sourced (codingOf (h .edition)) (viewIn cs h) (y .first) (y .second) ps (y .target) ks
-  parties-decide =
-      records-sound (codingOf (h .edition)) (viewIn cs h) (y .first) (y .second) ps (y .target) ks
+  parties-decide : (find : Finding) → decideBy find (codingOf (h .edition)) (viewIn cs h) (asked y ps ks) ≡ sourced find (codingOf (h .edition)) (viewIn cs h) (y .first) (y .second) ps (y .target) ks
+  parties-decide find =
+      records-sound find (codingOf (h .edition)) (viewIn cs h) (y .first) (y .second) ps (y .target) ks
       (number-is (h .subgoals) (y .first) (p .first .1) (p .first .2))
       (number-is (h .subgoals) (y .second) (p .second .1) (p .second .2))
       (number-is (h .subgoals) (y .target) (p .target .1) (p .target .2))
@@ -194,17 +190,17 @@ module _ (cs : List ℕ) (h : Head) (y : Parties) (ps ks : List ℕ) (p : Partie
       (ap (subgoalSound (h .nodes) (h .answers)) target-is ∙ p .target-sound)
       (ap (λ (q : Subgoal). rootSound (answerTrie (viewIn cs h)) (q .root)) target-is ∙ p .rooted)
 
-  refused-ruled : (r : ℕ) → (r ≡ 0 → ⊥) → sourced (codingOf (h .edition)) (viewIn cs h) (y .first) (y .second) ps (y .target) ks ≡ refuses r → Ruled cs h y ps ks r
-  refused-ruled r z e = (λ q. absurd (z q), λ q. join-refused cs h (y .first) (y .second) ps (y .target) ks r (parties-decide ∙ e))
+  refused-ruled : (r : ℕ) → (r ≡ 0 → ⊥) → ((find : Finding) → sourced find (codingOf (h .edition)) (viewIn cs h) (y .first) (y .second) ps (y .target) ks ≡ refuses r) → Ruled cs h y ps ks r
+  refused-ruled r z e = (λ q. absurd (z q), λ q find. join-refused find cs h (y .first) (y .second) ps (y .target) ks r (parties-decide find ∙ e find))
 
   pub ruled-first-broken : chainOf (codingOf (h .edition)) (viewIn cs h) (y .first) ≡ broken → Ruled cs h y ps ks 9
   unfolding onChains
-  ruled-first-broken e = refused-ruled 9 (λ z. omega arith) (rw e)
+  ruled-first-broken e = refused-ruled 9 (λ z. omega arith) (λ find. rw e)
 
   module _ (us : List Word) (a : chainOf (codingOf (h .edition)) (viewIn cs h) (y .first) ≡ unbroken us) where
     pub ruled-second-broken : chainOf (codingOf (h .edition)) (viewIn cs h) (y .second) ≡ broken → Ruled cs h y ps ks 9
     unfolding onChains
-    ruled-second-broken e = refused-ruled 9 (λ z. omega arith) (rw (a, e))
+    ruled-second-broken e = refused-ruled 9 (λ z. omega arith) (λ find. rw (a, e))
 
     module _ (vs : List Word) (b : chainOf (codingOf (h .edition)) (viewIn cs h) (y .second) ≡ unbroken vs) where
       rule-is : joinOf (codingOf (h .edition)) (sideIn (viewIn cs h) (y .first) us) (sideIn (viewIn cs h) (y .second) vs) ps (stateOf (viewIn cs h .subgoal (y .target) .state)) (viewIn cs h .subgoal (y .target) .variables) ks
@@ -215,16 +211,16 @@ module _ (cs : List ℕ) (h : Head) (y : Parties) (ps ks : List ℕ) (p : Partie
           ∙ ap (λ (q : Subgoal). ruleOf (codingOf (h .edition)) (y .f) us q vs ps (viewIn cs h .subgoal (y .target)) ks) second-is
           ∙ ap (λ (q : Subgoal). ruleOf (codingOf (h .edition)) (y .f) us (y .g) vs ps q ks) target-is
 
-      both-read : sourced (codingOf (h .edition)) (viewIn cs h) (y .first) (y .second) ps (y .target) ks ≡ joining (viewIn cs h) (y .target) (ruleOf (codingOf (h .edition)) (y .f) us (y .g) vs ps (y .t) ks)
+      both-read : (find : Finding) → sourced find (codingOf (h .edition)) (viewIn cs h) (y .first) (y .second) ps (y .target) ks ≡ joiningBy find (viewIn cs h) (y .target) (ruleOf (codingOf (h .edition)) (y .f) us (y .g) vs ps (y .t) ks)
       unfolding onChains
-      both-read =
-          let unread : sourced (codingOf (h .edition)) (viewIn cs h) (y .first) (y .second) ps (y .target) ks
-          ≡ joining (viewIn cs h) (y .target) (joinOf (codingOf (h .edition)) (sideIn (viewIn cs h) (y .first) us) (sideIn (viewIn cs h) (y .second) vs) ps (stateOf (viewIn cs h .subgoal (y .target) .state)) (viewIn cs h .subgoal (y .target) .variables) ks) = rw (a, b) in
-          unread ∙ ap (joining (viewIn cs h) (y .target)) rule-is
+      both-read find =
+          let unread : sourced find (codingOf (h .edition)) (viewIn cs h) (y .first) (y .second) ps (y .target) ks
+          ≡ joiningBy find (viewIn cs h) (y .target) (joinOf (codingOf (h .edition)) (sideIn (viewIn cs h) (y .first) us) (sideIn (viewIn cs h) (y .second) vs) ps (stateOf (viewIn cs h .subgoal (y .target) .state)) (viewIn cs h .subgoal (y .target) .variables) ks) = rw (a, b) in
+          unread ∙ ap (joiningBy find (viewIn cs h) (y .target)) rule-is
 
       declines : (r : ℕ) → (r ≡ 0 → ⊥) → ruleOf (codingOf (h .edition)) (y .f) us (y .g) vs ps (y .t) ks ≡ declined r → Ruled cs h y ps ks r
       unfolding joiningBy
-      declines r z e = refused-ruled r z (both-read ∙ ap (joining (viewIn cs h) (y .target)) e)
+      declines r z e = refused-ruled r z (λ find. both-read find ∙ ap (joiningBy find (viewIn cs h) (y .target)) e)
 
       pub ruled-finished : (y .t .state ≡ 0 → ⊥) → Ruled cs h y ps ks 8
       ruled-finished z = declines 8 (λ q. omega arith) (rule-finished (codingOf (h .edition)) (y .f) us (y .g) vs ps (y .t) ks z)
@@ -378,14 +374,14 @@ module _ (cs : List ℕ) (h : Head) (y : Parties) (ps ks : List ℕ) (g : Ground
   abbrev forms : List Word
   forms = allForms cs (sidesOf h y) ps ks
 
-  pub decides : decide (codingOf (h .edition)) (viewIn cs h) (asked y ps ks) ≡ joining (viewIn cs h) (y .target) (fitted (arityOf (h .edition)) (allForms cs (sidesOf h y) ps ks))
-  decides =
+  pub decides : (find : Finding) → decideBy find (codingOf (h .edition)) (viewIn cs h) (asked y ps ks) ≡ joiningBy find (viewIn cs h) (y .target) (fitted (arityOf (h .edition)) (allForms cs (sidesOf h y) ps ks))
+  decides find =
       let p = g .parties in
       let us : List Word = formsFrom cs h (y .first) (y .f .first) in
       let vs : List Word = formsFrom cs h (y .second) (y .g .first) in
-      parties-decide cs h y ps ks p
-      ∙ both-read cs h y ps ks p us (g .first-ground .sound) vs (g .second-ground .sound)
-      ∙ ap (joining (viewIn cs h) (y .target))
+      parties-decide cs h y ps ks p find
+      ∙ both-read cs h y ps ks p us (g .first-ground .sound) vs (g .second-ground .sound) find
+      ∙ ap (joiningBy find (viewIn cs h) (y .target))
       (rule-read (codingOf (h .edition)) (y .f) (formsFrom cs h (y .first) (y .f .first)) (y .g) (formsFrom cs h (y .second) (y .g .first)) ps (y .t) ks (g .is-open) (g .first-finished) (g .second-finished) (g .first-ground .free) (g .second-ground .free) (g .names)
       ∙ joined-forms (arityOf (h .edition)) (y .f .variables) (y .g .variables) (y .t .variables) ps ks (formsFrom cs h (y .first) (y .f .first)) (formsFrom cs h (y .second) (y .g .first))
       (ready .firsts .ground) (ready .known .all .ground) (g .names))

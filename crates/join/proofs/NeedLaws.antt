@@ -1,13 +1,13 @@
 -- The pass over all forms of a join that counts exactly: each form against those before it.
 use mathlib.Core.Path.{_≡_, refl, sym, ap, _∙_, subst}
-use mathlib.Core.Bool.{Bool, true, false, _&&_, _||_}
+use mathlib.Core.Bool.{Bool, true, false, _||_}
 use mathlib.Core.List.{List, [], _∷_, _++_}
-use Prim.Native.Nat.{ℕ, zero, suc, _+_, _-_, _*_, _^_, _≤_, _<_, min, max}
+use Prim.Native.Nat.{ℕ, suc, _+_, _-_, _*_, _^_, _≤_, _<_, min, max}
 use native.Mathlib.Omega.{arith}
 use lib.Dec.{eqb}
 use lib.ListN.{length, take, length-take, length-append}
-use lib.Seq.{take-at, take-nil, length-take-le}
-use borrow.Author.Tests.{eq-eqb, ne-eqb, eqb-true, eqb-false}
+use lib.Seq.{take-at, length-take-le}
+use borrow.Author.Tests.{eqb-true, eqb-false}
 use Rattle.basis.specs.Choice.{pick}
 use Rattle.basis.proofs.Cases.{by-cases}
 use Rattle.forms.specs.Cells.{arityOf}
@@ -15,7 +15,8 @@ use Rattle.forms.specs.Compact.{same}
 use Rattle.plain.specs.Words.{Word, common, most, has}
 use Rattle.space.specs.Sound.{subgoalUnder}
 use Rattle.store.specs.Views.{View}
-use Rattle.store.specs.Decisions.{walkTo, lacking, missing, nodesNeeded, nodesNeededBy, answersNeeded, answersNeededBy}
+use Rattle.trie.specs.Walks.{Finding}
+use Rattle.store.specs.Decisions.{walkToBy, lacking, missing, nodesNeededBy, answersNeededBy}
 use Rattle.store.specs.Contracts.{viewIn}
 use Rattle.parts.specs.Parts.{allFit}
 use Rattle.sides.specs.Searches.{Searched}
@@ -27,7 +28,7 @@ use Rattle.join.specs.declared.Needs.{Needs}
 use Rattle.join.specs.declared.Earlier.{Earlier}
 use Rattle.join.specs.Pairing.{twoHands, mostTokens, Stands, toCome, Advances}
 use Rattle.join.specs.Counting.{beginning, allForms, Ready, Fitting, backwards, EarlierOf, allShared, Meets, oneNew, needsMore, NeedsOf}
-use Rattle.join.proofs.CountLaws.{begins, all-come, fit-cons, not-long, met-walk}
+use Rattle.join.proofs.CountLaws.{begins, all-come, fit-cons, met-walk}
 
 -- ---- lists
 
@@ -172,122 +173,124 @@ shared-length ws k w r o = omega (arith, o .0, most-length (backwards (take k ws
 
 -- ---- the exact needs
 
-nodes-cons : (v : View) (s : ℕ) (before : List Word) (w : Word) (ws : List Word) → nodesNeeded v s before (w ∷ ws) ≡ min (missing (walkTo v s w)) (length w - most before w) + nodesNeeded v s (w ∷ before) ws
-unfolding nodesNeededBy
-nodes-cons v s before w ws = refl
-
-answers-cons : (v : View) (s : ℕ) (before : List Word) (w : Word) (ws : List Word) → answersNeeded v s before (w ∷ ws) ≡ pick (lacking v (walkTo v s w)) (pick (has before w) 0 1) 0 + answersNeeded v s (w ∷ before) ws
-unfolding answersNeededBy
-answers-cons v s before w ws = refl
-
-one-new : (p q : Bool) → oneNew p q ≡ pick p (pick q 0 1) 0
-unfolding oneNew
-one-new p q = refl
-
-one-new-most : (p q : Bool) → oneNew p q ≤ 1
-unfolding oneNew
-one-new-most true true = omega arith
-one-new-most true false = omega arith
-one-new-most false q = omega arith
-
-pub record Needing (cs : List ℕ) (x : Sides) (root : ℕ) (ps ks : List ℕ) (at : Cursor) (hands form : List ℕ) (i : ℕ) (y : Needs) : Type 0 where
-  pub stands : Stands cs x at hands form
-  pub fit : allFit (arityOf (x .h .edition)) (toCome cs x ps ks at hands) ≡ true
-  pub done : List Word
-  pub are : allForms cs x ps ks ≡ done ++ toCome cs x ps ks at hands
-  pub passed : length done ≡ i
-  pub nodes : (s : ℕ) → root ≡ subgoalUnder cs (x .h) s .root
-      → y .nodes + nodesNeeded (viewIn cs (x .h)) s (backwards done []) (toCome cs x ps ks at hands) ≡ nodesNeeded (viewIn cs (x .h)) s [] (allForms cs x ps ks)
-  pub answers : (s : ℕ) → root ≡ subgoalUnder cs (x .h) s .root
-      → y .answers + answersNeeded (viewIn cs (x .h)) s (backwards done []) (toCome cs x ps ks at hands) ≡ answersNeeded (viewIn cs (x .h)) s [] (allForms cs x ps ks)
-  pub nodes-most : y .nodes + 383 * length (toCome cs x ps ks at hands) ≤ 383 * length (allForms cs x ps ks)
-  pub answers-most : y .answers + length (toCome cs x ps ks at hands) ≤ length (allForms cs x ps ks)
-
 abbrev pub noNeeds : Needs
 noNeeds = record { nodes = 0; answers = 0 }
 
-module _ (cs : List ℕ) (x : Sides) (root : ℕ) (ps ks : List ℕ) where
-  pub needing-begun : Ready cs x ps ks → Fitting cs x ps ks → (hands form : List ℕ) → length hands ≡ twoHands → length form ≡ mostTokens
-      → Needing cs x root ps ks (beginning x) hands form 0 noNeeds
-  unfolding backwards
-  needing-begun r f hands form lh lf =
-      let e = all-come cs x ps ks hands in
-      record {
-        stands = begins cs x ps ks r hands form lh lf;
-        fit = subst (λ (ws : List Word). allFit (arityOf (x .h .edition)) ws ≡ true) e f;
-        done = [];
-        are = e;
-        passed = refl;
-        nodes = λ s p. omega (arith, ap (nodesNeeded (viewIn cs (x .h)) s []) e);
-        answers = λ s p. omega (arith, ap (answersNeeded (viewIn cs (x .h)) s []) e);
-        nodes-most = omega (arith, ap length e);
-        answers-most = omega (arith, ap length e);
-      }
+-- by any way of finding a child
+module _ (find : Finding) where
+  nodes-cons : (v : View) (s : ℕ) (before : List Word) (w : Word) (ws : List Word) → nodesNeededBy find v s before (w ∷ ws) ≡ min (missing (walkToBy find v s w)) (length w - most before w) + nodesNeededBy find v s (w ∷ before) ws
+  unfolding nodesNeededBy
+  nodes-cons v s before w ws = refl
 
-  module _ (at : Cursor) (hands form : List ℕ) (i : ℕ) (y : Needs) (c : Needing cs x root ps ks at hands form i y) (hands′ form′ : List ℕ) where
-    pub needed-end : Advances cs x ps ks at hands hands′ form′ match.End → NeedsOf cs x root ps ks y
-    unfolding nodesNeededBy answersNeededBy
-    needed-end e s p = (
-      omega (arith, c .nodes s p, ap (nodesNeeded (viewIn cs (x .h)) s (backwards (c .done) [])) e),
-      omega (arith, c .answers s p, ap (answersNeeded (viewIn cs (x .h)) s (backwards (c .done) [])) e),
-    )
+  answers-cons : (v : View) (s : ℕ) (before : List Word) (w : Word) (ws : List Word) → answersNeededBy find v s before (w ∷ ws) ≡ pick (lacking v (walkToBy find v s w)) (pick (has before w) 0 1) 0 + answersNeededBy find v s (w ∷ before) ws
+  unfolding answersNeededBy
+  answers-cons v s before w ws = refl
 
-    module _ (next : Cursor) (n : ℕ) (a : Advances cs x ps ks at hands hands′ form′ (match.At next n)) where
-      fewer : length (toCome cs x ps ks at hands) ≡ suc (length (toCome cs x ps ks next hands′))
-      fewer = ap length (a .1 .1)
+  one-new : (p q : Bool) → oneNew p q ≡ pick p (pick q 0 1) 0
+  unfolding oneNew
+  one-new p q = refl
 
-      pub passed-within : i ≤ length (allForms cs x ps ks)
-      passed-within = omega (arith, ap length (c .are) ∙ length-append (c .done) (toCome cs x ps ks at hands), c .passed)
+  one-new-most : (p q : Bool) → oneNew p q ≤ 1
+  unfolding oneNew
+  one-new-most true true = omega arith
+  one-new-most true false = omega arith
+  one-new-most false q = omega arith
 
-      token-count : length (take n form′) ≡ n
-      token-count = length-take-le n form′ (a .1 .0)
+  pub record Needing (cs : List ℕ) (x : Sides) (root : ℕ) (ps ks : List ℕ) (at : Cursor) (hands form : List ℕ) (i : ℕ) (y : Needs) : Type 0 where
+    pub stands : Stands cs x at hands form
+    pub fit : allFit (arityOf (x .h .edition)) (toCome cs x ps ks at hands) ≡ true
+    pub done : List Word
+    pub are : allForms cs x ps ks ≡ done ++ toCome cs x ps ks at hands
+    pub passed : length done ≡ i
+    pub nodes : (s : ℕ) → root ≡ subgoalUnder cs (x .h) s .root
+        → y .nodes + nodesNeededBy find (viewIn cs (x .h)) s (backwards done []) (toCome cs x ps ks at hands) ≡ nodesNeededBy find (viewIn cs (x .h)) s [] (allForms cs x ps ks)
+    pub answers : (s : ℕ) → root ≡ subgoalUnder cs (x .h) s .root
+        → y .answers + answersNeededBy find (viewIn cs (x .h)) s (backwards done []) (toCome cs x ps ks at hands) ≡ answersNeededBy find (viewIn cs (x .h)) s [] (allForms cs x ps ks)
+    pub nodes-most : y .nodes + 383 * length (toCome cs x ps ks at hands) ≤ 383 * length (allForms cs x ps ks)
+    pub answers-most : y .answers + length (toCome cs x ps ks at hands) ≤ length (allForms cs x ps ks)
 
-      module _ (m : Met) (q : Searched cs (x .h) root (take n form′) m) (b : Earlier) (o : EarlierOf (allForms cs x ps ks) i (take n form′) b) where
-        done-are : take i (allForms cs x ps ks) ≡ c .done
-        done-are = ap (take i) (c .are) ∙ take-at (c .done) (toCome cs x ps ks at hands) i (c .passed)
+  module _ (cs : List ℕ) (x : Sides) (root : ℕ) (ps ks : List ℕ) where
+    pub needing-begun : Ready cs x ps ks → Fitting cs x ps ks → (hands form : List ℕ) → length hands ≡ twoHands → length form ≡ mostTokens
+        → Needing cs x root ps ks (beginning x) hands form 0 noNeeds
+    unfolding backwards
+    needing-begun r f hands form lh lf =
+        let e = all-come cs x ps ks hands in
+        record {
+          stands = begins cs x ps ks r hands form lh lf;
+          fit = subst (λ (ws : List Word). allFit (arityOf (x .h .edition)) ws ≡ true) e f;
+          done = [];
+          are = e;
+          passed = refl;
+          nodes = λ s p. omega (arith, ap (nodesNeededBy find (viewIn cs (x .h)) s []) e);
+          answers = λ s p. omega (arith, ap (answersNeededBy find (viewIn cs (x .h)) s []) e);
+          nodes-most = omega (arith, ap length e);
+          answers-most = omega (arith, ap length e);
+        }
 
-        shared-is : b .shared ≡ most (backwards (c .done) []) (take n form′)
-        shared-is = o .0 ∙ ap (λ (ds : List Word). most (backwards ds []) (take n form′)) done-are
+    module _ (at : Cursor) (hands form : List ℕ) (i : ℕ) (y : Needs) (c : Needing cs x root ps ks at hands form i y) (hands′ form′ : List ℕ) where
+      pub needed-end : Advances cs x ps ks at hands hands′ form′ match.End → NeedsOf find cs x root ps ks y
+      unfolding nodesNeededBy answersNeededBy
+      needed-end e s p = (
+        omega (arith, c .nodes s p, ap (nodesNeededBy find (viewIn cs (x .h)) s (backwards (c .done) [])) e),
+        omega (arith, c .answers s p, ap (answersNeededBy find (viewIn cs (x .h)) s (backwards (c .done) [])) e),
+      )
 
-        held-is : b .held ≡ has (backwards (c .done) []) (take n form′)
-        held-is = o .1 ∙ ap (λ (ds : List Word). has (backwards ds []) (take n form′)) done-are
+      module _ (next : Cursor) (n : ℕ) (a : Advances cs x ps ks at hands hands′ form′ (match.At next n)) where
+        fewer : length (toCome cs x ps ks at hands) ≡ suc (length (toCome cs x ps ks next hands′))
+        fewer = ap length (a .1 .1)
 
-        pub needs-small : length (allForms cs x ps ks) ≤ 2 ^ 40 → (y .nodes + n < 2 ^ 64) × (y .answers + 1 < 2 ^ 64)
-        needs-small few = (omega (arith, c .nodes-most, fewer, a .1 .0, a .0 .inner .form-room), omega (arith, c .answers-most, fewer))
+        pub passed-within : i ≤ length (allForms cs x ps ks)
+        passed-within = omega (arith, ap length (c .are) ∙ length-append (c .done) (toCome cs x ps ks at hands), c .passed)
 
-        pub needing-on : Needing cs x root ps ks next hands′ form′ (i + 1) (needsMore y m b n)
-        needing-on =
-            record {
-              stands = a .0;
-              fit = sym (fit-cons (arityOf (x .h .edition)) (take n form′) (toCome cs x ps ks next hands′) (a .1 .2)) ∙ ap (allFit (arityOf (x .h .edition))) (sym (a .1 .1)) ∙ c .fit;
-              done = c .done ++ (take n form′ ∷ []);
-              are = c .are ∙ ap (λ (ws : List Word). c .done ++ ws) (a .1 .1) ∙ sym (append-one (c .done) (take n form′) (toCome cs x ps ks next hands′));
-              passed = length-append (c .done) (take n form′ ∷ []) ∙ ap (λ (k : ℕ). k + 1) (c .passed);
-              nodes = λ s p.
-                  let v : View = viewIn cs (x .h) in
-                  let rest : List Word = toCome cs x ps ks next hands′ in
-                  let one : nodesNeeded v s (backwards (c .done ++ (take n form′ ∷ [])) []) rest ≡ nodesNeeded v s (take n form′ ∷ backwards (c .done) []) rest =
-                  ap (λ (ds : List Word). nodesNeeded v s ds rest) (backwards-one (c .done) (take n form′) []) in
-                  let here : nodesNeeded v s (backwards (c .done) []) (toCome cs x ps ks at hands) ≡ min (m .missing) (n - b .shared) + nodesNeeded v s (take n form′ ∷ backwards (c .done) []) rest =
-                  ap (nodesNeeded v s (backwards (c .done) [])) (a .1 .1) ∙ nodes-cons v s (backwards (c .done) []) (take n form′) rest
-                  ∙ ap (λ (k : ℕ). min k (length (take n form′) - most (backwards (c .done) []) (take n form′)) + nodesNeeded v s (take n form′ ∷ backwards (c .done) []) rest) (sym (met-walk cs x root (take n form′) m q s p .2))
-                  ∙ ap (λ (k : ℕ). min (m .missing) (length (take n form′) - k) + nodesNeeded v s (take n form′ ∷ backwards (c .done) []) rest) (sym shared-is)
-                  ∙ ap (λ (k : ℕ). min (m .missing) (k - b .shared) + nodesNeeded v s (take n form′ ∷ backwards (c .done) []) rest) token-count in
-                  omega (arith, c .nodes s p);
-              answers = λ s p.
-                  let v : View = viewIn cs (x .h) in
-                  let rest : List Word = toCome cs x ps ks next hands′ in
-                  let one : answersNeeded v s (backwards (c .done ++ (take n form′ ∷ [])) []) rest ≡ answersNeeded v s (take n form′ ∷ backwards (c .done) []) rest =
-                  ap (λ (ds : List Word). answersNeeded v s ds rest) (backwards-one (c .done) (take n form′) []) in
-                  let here : answersNeeded v s (backwards (c .done) []) (toCome cs x ps ks at hands) ≡ oneNew (m .lacking) (b .held) + answersNeeded v s (take n form′ ∷ backwards (c .done) []) rest =
-                  ap (answersNeeded v s (backwards (c .done) [])) (a .1 .1) ∙ answers-cons v s (backwards (c .done) []) (take n form′) rest
-                  ∙ ap (λ (k : Bool). pick k (pick (has (backwards (c .done) []) (take n form′)) 0 1) 0 + answersNeeded v s (take n form′ ∷ backwards (c .done) []) rest) (sym (met-walk cs x root (take n form′) m q s p .1))
-                  ∙ ap (λ (k : Bool). pick (m .lacking) (pick k 0 1) 0 + answersNeeded v s (take n form′ ∷ backwards (c .done) []) rest) (sym held-is)
-                  ∙ ap (λ (k : ℕ). k + answersNeeded v s (take n form′ ∷ backwards (c .done) []) rest) (sym (one-new (m .lacking) (b .held))) in
-                  omega (arith, c .answers s p);
-              nodes-most = omega (arith, c .nodes-most, fewer, a .1 .0, a .0 .inner .form-room);
-              answers-most = one-most (m .lacking) (b .held);
-            }
-          where
-            one-most : (p q : Bool) → y .answers + oneNew p q + length (toCome cs x ps ks next hands′) ≤ length (allForms cs x ps ks)
-            one-most p q = omega (arith, c .answers-most, fewer, one-new-most p q)
+        token-count : length (take n form′) ≡ n
+        token-count = length-take-le n form′ (a .1 .0)
+
+        module _ (m : Met) (q : Searched find cs (x .h) root (take n form′) m) (b : Earlier) (o : EarlierOf (allForms cs x ps ks) i (take n form′) b) where
+          done-are : take i (allForms cs x ps ks) ≡ c .done
+          done-are = ap (take i) (c .are) ∙ take-at (c .done) (toCome cs x ps ks at hands) i (c .passed)
+
+          shared-is : b .shared ≡ most (backwards (c .done) []) (take n form′)
+          shared-is = o .0 ∙ ap (λ (ds : List Word). most (backwards ds []) (take n form′)) done-are
+
+          held-is : b .held ≡ has (backwards (c .done) []) (take n form′)
+          held-is = o .1 ∙ ap (λ (ds : List Word). has (backwards ds []) (take n form′)) done-are
+
+          pub needs-small : length (allForms cs x ps ks) ≤ 2 ^ 40 → (y .nodes + n < 2 ^ 64) × (y .answers + 1 < 2 ^ 64)
+          needs-small few = (omega (arith, c .nodes-most, fewer, a .1 .0, a .0 .inner .form-room), omega (arith, c .answers-most, fewer))
+
+          pub needing-on : Needing cs x root ps ks next hands′ form′ (i + 1) (needsMore y m b n)
+          needing-on =
+              record {
+                stands = a .0;
+                fit = sym (fit-cons (arityOf (x .h .edition)) (take n form′) (toCome cs x ps ks next hands′) (a .1 .2)) ∙ ap (allFit (arityOf (x .h .edition))) (sym (a .1 .1)) ∙ c .fit;
+                done = c .done ++ (take n form′ ∷ []);
+                are = c .are ∙ ap (λ (ws : List Word). c .done ++ ws) (a .1 .1) ∙ sym (append-one (c .done) (take n form′) (toCome cs x ps ks next hands′));
+                passed = length-append (c .done) (take n form′ ∷ []) ∙ ap (λ (k : ℕ). k + 1) (c .passed);
+                nodes = λ s p.
+                    let v : View = viewIn cs (x .h) in
+                    let rest : List Word = toCome cs x ps ks next hands′ in
+                    let one : nodesNeededBy find v s (backwards (c .done ++ (take n form′ ∷ [])) []) rest ≡ nodesNeededBy find v s (take n form′ ∷ backwards (c .done) []) rest =
+                    ap (λ (ds : List Word). nodesNeededBy find v s ds rest) (backwards-one (c .done) (take n form′) []) in
+                    let here : nodesNeededBy find v s (backwards (c .done) []) (toCome cs x ps ks at hands) ≡ min (m .missing) (n - b .shared) + nodesNeededBy find v s (take n form′ ∷ backwards (c .done) []) rest =
+                    ap (nodesNeededBy find v s (backwards (c .done) [])) (a .1 .1) ∙ nodes-cons v s (backwards (c .done) []) (take n form′) rest
+                    ∙ ap (λ (k : ℕ). min k (length (take n form′) - most (backwards (c .done) []) (take n form′)) + nodesNeededBy find v s (take n form′ ∷ backwards (c .done) []) rest) (sym (met-walk find cs x root (take n form′) m q s p .2))
+                    ∙ ap (λ (k : ℕ). min (m .missing) (length (take n form′) - k) + nodesNeededBy find v s (take n form′ ∷ backwards (c .done) []) rest) (sym shared-is)
+                    ∙ ap (λ (k : ℕ). min (m .missing) (k - b .shared) + nodesNeededBy find v s (take n form′ ∷ backwards (c .done) []) rest) token-count in
+                    omega (arith, c .nodes s p);
+                answers = λ s p.
+                    let v : View = viewIn cs (x .h) in
+                    let rest : List Word = toCome cs x ps ks next hands′ in
+                    let one : answersNeededBy find v s (backwards (c .done ++ (take n form′ ∷ [])) []) rest ≡ answersNeededBy find v s (take n form′ ∷ backwards (c .done) []) rest =
+                    ap (λ (ds : List Word). answersNeededBy find v s ds rest) (backwards-one (c .done) (take n form′) []) in
+                    let here : answersNeededBy find v s (backwards (c .done) []) (toCome cs x ps ks at hands) ≡ oneNew (m .lacking) (b .held) + answersNeededBy find v s (take n form′ ∷ backwards (c .done) []) rest =
+                    ap (answersNeededBy find v s (backwards (c .done) [])) (a .1 .1) ∙ answers-cons v s (backwards (c .done) []) (take n form′) rest
+                    ∙ ap (λ (k : Bool). pick k (pick (has (backwards (c .done) []) (take n form′)) 0 1) 0 + answersNeededBy find v s (take n form′ ∷ backwards (c .done) []) rest) (sym (met-walk find cs x root (take n form′) m q s p .1))
+                    ∙ ap (λ (k : Bool). pick (m .lacking) (pick k 0 1) 0 + answersNeededBy find v s (take n form′ ∷ backwards (c .done) []) rest) (sym held-is)
+                    ∙ ap (λ (k : ℕ). k + answersNeededBy find v s (take n form′ ∷ backwards (c .done) []) rest) (sym (one-new (m .lacking) (b .held))) in
+                    omega (arith, c .answers s p);
+                nodes-most = omega (arith, c .nodes-most, fewer, a .1 .0, a .0 .inner .form-room);
+                answers-most = one-most (m .lacking) (b .held);
+              }
+            where
+              one-most : (p q : Bool) → y .answers + oneNew p q + length (toCome cs x ps ks next hands′) ≤ length (allForms cs x ps ks)
+              one-most p q = omega (arith, c .answers-most, fewer, one-new-most p q)

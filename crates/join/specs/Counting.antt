@@ -1,27 +1,26 @@
 -- What the forms of a join need, and what entering them leaves, as the functions that go through all of them say it.
-use Prim.Native.Nat.{ℕ, _+_, _-_, _*_, _^_, _≤_, _<_, min}
-use mathlib.Core.Bool.{Bool, true, false, _||_, _&&_}
-use mathlib.Core.List.{List, [], _∷_, _++_}
+use Prim.Native.Nat.{ℕ, _+_, _-_, _≤_, _<_, min}
+use mathlib.Core.Bool.{Bool, true, false, _&&_}
+use mathlib.Core.List.{List, [], _∷_}
 use mathlib.Core.Path.{_≡_}
 use lib.Dec.{eqb}
-use lib.ListN.{length, take}
+use lib.ListN.{take}
 use Rattle.basis.specs.Choice.{pick}
 use Rattle.forms.specs.Cells.{arityOf}
-use Rattle.plain.specs.Words.{Word, common, most, has}
+use Rattle.plain.specs.Words.{Word, most, has}
 use Rattle.plain.specs.Joins.{combined}
 use Rattle.space.specs.Layout.{sizesOf}
-use Rattle.space.specs.Heading.{spaceHeader}
 use Rattle.space.specs.Sound.{Bounds, subgoalUnder}
 use Rattle.space.specs.declared.Head.{Head}
 use Rattle.space.specs.declared.Header.the-variants as header
+use Rattle.trie.specs.Walks.{Finding}
 use Rattle.store.specs.Views.{View}
-use Rattle.store.specs.Decisions.{allSound, nodesNeeded, answersNeeded}
-use Rattle.store.specs.Changes.{formGiven, formsGiven}
+use Rattle.store.specs.Decisions.{allSoundBy, nodesNeededBy, answersNeededBy}
+use Rattle.store.specs.Changes.{formGivenBy, formsGivenBy}
 use Rattle.store.specs.Contracts.{viewIn}
 use Rattle.parts.specs.Parts.{allFit}
 use Rattle.sides.specs.Counts.{sumMissing, sumLacking}
 use Rattle.sides.specs.declared.Met.{Met}
-use Rattle.join.specs.declared.Source.{Source}
 use Rattle.join.specs.declared.Sides.{Sides}
 use Rattle.join.specs.declared.Cursor.{Cursor}
 use Rattle.join.specs.declared.Sums.{Sums}
@@ -67,17 +66,17 @@ added y m = record {
 }
 
 -- the sums of the forms, unless one does not fit
-abbrev pub CountedOf : View → ℕ → (ℕ → ℕ) → List Word → Counted → Type 0
-CountedOf v s arity ws (counted.Sums y) =
-    (allFit arity ws ≡ true) × (y .sound ≡ allSound v s ws) × (y .missing ≡ sumMissing v s ws)
-    × (y .lacking ≡ sumLacking v s ws)
-CountedOf v s arity ws counted.TooLong = allFit arity ws ≡ false
+abbrev pub CountedOf : Finding → View → ℕ → (ℕ → ℕ) → List Word → Counted → Type 0
+CountedOf find v s arity ws (counted.Sums y) =
+    (allFit arity ws ≡ true) × (y .sound ≡ allSoundBy find v s ws) × (y .missing ≡ sumMissing find v s ws)
+    × (y .lacking ≡ sumLacking find v s ws)
+CountedOf find v s arity ws counted.TooLong = allFit arity ws ≡ false
 
 -- for whichever target has this answer root
-abbrev pub Counts : List ℕ → Sides → ℕ → List ℕ → List ℕ → Counted → Type 0
-Counts cs x root ps ks r =
+abbrev pub Counts : Finding → List ℕ → Sides → ℕ → List ℕ → List ℕ → Counted → Type 0
+Counts find cs x root ps ks r =
     (s : ℕ) → root ≡ subgoalUnder cs (x .h) s .root
-    → CountedOf (viewIn cs (x .h)) s (arityOf (x .h .edition)) (allForms cs x ps ks) r
+    → CountedOf find (viewIn cs (x .h)) s (arityOf (x .h .edition)) (allForms cs x ps ks) r
 
 -- ---- exactly
 
@@ -111,11 +110,12 @@ needsMore y m e n = record {
   answers = y .answers + oneNew (m .lacking) (e .held);
 }
 
-abbrev pub NeedsOf : List ℕ → Sides → ℕ → List ℕ → List ℕ → Needs → Type 0
-NeedsOf cs x root ps ks r =
+abbrev pub NeedsOf : Finding → List ℕ → Sides → ℕ → List ℕ → List ℕ → Needs → Type 0
+NeedsOf find cs x root ps ks r =
     (s : ℕ) → root ≡ subgoalUnder cs (x .h) s .root
     → (let ws = allForms cs x ps ks in
-    (r .nodes ≡ nodesNeeded (viewIn cs (x .h)) s [] ws) × (r .answers ≡ answersNeeded (viewIn cs (x .h)) s [] ws))
+    (r .nodes ≡ nodesNeededBy find (viewIn cs (x .h)) s [] ws)
+    × (r .answers ≡ answersNeededBy find (viewIn cs (x .h)) s [] ws))
 
 -- ---- entering
 
@@ -139,9 +139,9 @@ Givable cs h s =
     × (subgoalUnder cs h s .last ≤ h .answers)
 
 -- it is, whatever comes of it
-abbrev pub Gives : List ℕ → Head → ℕ → Word → List ℕ → Type 0
-Gives cs h s w cs′ = cs′ ≡ formGiven (sizesOf (h .edition)) cs s w (header.Sound h)
+abbrev pub Gives : Finding → List ℕ → Head → ℕ → Word → List ℕ → Type 0
+Gives find cs h s w cs′ = cs′ ≡ formGivenBy find (sizesOf (h .edition)) cs s w (header.Sound h)
 
 -- every form is given
-abbrev pub Enters : List ℕ → Sides → ℕ → List ℕ → List ℕ → List ℕ → Type 0
-Enters cs x s ps ks cs′ = cs′ ≡ formsGiven (sizesOf (x .h .edition)) cs s (allForms cs x ps ks)
+abbrev pub Enters : Finding → List ℕ → Sides → ℕ → List ℕ → List ℕ → List ℕ → Type 0
+Enters find cs x s ps ks cs′ = cs′ ≡ formsGivenBy find (sizesOf (x .h .edition)) cs s (allForms cs x ps ks)

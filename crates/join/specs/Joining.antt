@@ -1,29 +1,26 @@
 -- The join as a call: its three subgoals, once they are read, what is known before its forms are counted, and what the
 -- functions that decide answer and leave.
-use Prim.Native.Nat.{ℕ, _+_, _-_, _≤_, _<_}
-use mathlib.Core.Bool.{Bool, true, false, _&&_}
+use Prim.Native.Nat.{ℕ, _-_}
+use mathlib.Core.Bool.{Bool, true, false}
 use mathlib.Core.List.{List, []}
 use mathlib.Core.Path.{_≡_}
-use lib.Dec.{eqb, leb, ltb}
-use lib.ListN.{length}
+use lib.Dec.{leb, ltb}
 use Rattle.basis.specs.Choice.{pick}
 use Rattle.forms.specs.Cells.{arityOf}
-use Rattle.plain.specs.Words.{Word}
 use Rattle.plain.specs.Coding.{codingOf}
 use Rattle.plain.specs.Joins.{ground, named}
 use Rattle.plain.specs.Requests as request
-use Rattle.plain.specs.Requests.{Request, Reply, joined, refused}
+use Rattle.plain.specs.Requests.{Request, joined, refused}
 use Rattle.space.specs.Layout.{sizesOf}
 use Rattle.space.specs.Heading.{spaceHeader}
 use Rattle.space.specs.Judging.{subgoalSound}
 use Rattle.space.specs.Sound.{subgoalUnder}
 use Rattle.space.specs.declared.Head.{Head}
 use Rattle.space.specs.declared.Header.the-variants as header
-use Rattle.space.specs.declared.Subgoal.{Subgoal}
-use Rattle.trie.specs.Walks.{rootSound}
+use Rattle.trie.specs.Walks.{Finding, rootSound}
 use Rattle.store.specs.Views.{answerTrie}
-use Rattle.store.specs.Decisions.{unbroken, chainOf, nodesNeeded, answersNeeded}
-use Rattle.store.specs.Changes.{formsGiven}
+use Rattle.store.specs.Decisions.{unbroken, chainOf, nodesNeededBy, answersNeededBy}
+use Rattle.store.specs.Changes.{formsGivenBy}
 use Rattle.store.specs.Calls.{usedAnswers}
 use Rattle.store.specs.Contracts.{viewIn, Held, AnswersUnder}
 use Rattle.store.specs.Replies.{saidJoin}
@@ -31,6 +28,7 @@ use Rattle.store.specs.declared.JoinAnswer.{JoinAnswer}
 use Rattle.sides.specs.Chains.{ChainJudged}
 use Rattle.sides.specs.declared.Judged.{Judged}
 use Rattle.sides.specs.declared.Judged.the-variants.{Damaged, Ground, Variable}
+use Rattle.join.specs.declared.Numbers.{Numbers}
 use Rattle.join.specs.declared.Parties.{Parties}
 use Rattle.join.specs.declared.Sides.{Sides}
 use Rattle.join.specs.declared.Counted.the-variants as counted
@@ -82,10 +80,11 @@ pub record Grounded (cs : List ℕ) (h : Head) (y : Parties) (ps ks : List ℕ) 
   pub second-ground : AnswersGround cs h (y .second) (y .g .first)
   pub names : named (y .f .variables) (y .g .variables) ps (y .t .variables) ks ≡ true
 
--- r refuses the join, or is 0 and the rule lets it go on
+-- r refuses the join, by whichever way a child is found, or is 0 and the rule lets it go on
 abbrev pub Ruled : List ℕ → Head → Parties → List ℕ → List ℕ → ℕ → Type 0
 Ruled cs h y ps ks r =
-    (r ≡ 0 → Grounded cs h y ps ks) × ((r ≡ 0 → ⊥) → AnswersUnder cs h (asked y ps ks) (refused r) cs)
+    (r ≡ 0 → Grounded cs h y ps ks)
+    × ((r ≡ 0 → ⊥) → (find : Finding) → AnswersUnder find cs h (asked y ps ks) (refused r) cs)
 
 -- the answers of a source were judged sound, and without variables
 unfoldable pub wholeAnswers : Judged → Bool
@@ -111,18 +110,24 @@ RulesOn y f g ps ks r = wholeAnswers f ≡ true → wholeAnswers g ≡ true → 
 -- ---- what the call answers and leaves
 
 -- numbers of subgoals, under the header
-abbrev pub Numbered : List ℕ → Head → ℕ → ℕ → ℕ → Type 0
-Numbered cs h f g s =
-    (header.Sound h ≡ spaceHeader cs) × (isNumber (h .subgoals) f ≡ true) × (isNumber (h .subgoals) g ≡ true)
-    × (isNumber (h .subgoals) s ≡ true)
+abbrev pub Numbered : List ℕ → Head → Numbers → Type 0
+Numbered cs h a =
+    (header.Sound h ≡ spaceHeader cs) × (isNumber (h .subgoals) (a .first) ≡ true)
+    × (isNumber (h .subgoals) (a .second) ≡ true) × (isNumber (h .subgoals) (a .target) ≡ true)
 
-abbrev pub JoinsUnder : List ℕ → Head → Parties → List ℕ → List ℕ → JoinAnswer → List ℕ → Type 0
-JoinsUnder cs h y ps ks r cs′ = AnswersUnder cs h (asked y ps ks) (saidJoin r) cs′
+-- the join of subgoals by their numbers
+abbrev pub JoinsNumbered : Finding → List ℕ → Head → Numbers → List ℕ → List ℕ → JoinAnswer → List ℕ → Type 0
+JoinsNumbered find cs h a ps ks r cs′ =
+    AnswersUnder find cs h (request.join (a .first) (a .second) ps (a .target) ks) (saidJoin r) cs′
+
+abbrev pub JoinsUnder : Finding → List ℕ → Head → Parties → List ℕ → List ℕ → JoinAnswer → List ℕ → Type 0
+JoinsUnder find cs h y ps ks r cs′ = AnswersUnder find cs h (asked y ps ks) (saidJoin r) cs′
 
 -- the sums of all forms, which fit
-abbrev pub Summed : List ℕ → Head → Parties → List ℕ → List ℕ → Sums → Type 0
-Summed cs h y ps ks sums =
-    CountedOf (viewIn cs h) (y .target) (arityOf (h .edition)) (allForms cs (sidesOf h y) ps ks) (counted.Sums sums)
+abbrev pub Summed : Finding → List ℕ → Head → Parties → List ℕ → List ℕ → Sums → Type 0
+Summed find cs h y ps ks sums =
+    CountedOf find (viewIn cs h) (y .target) (arityOf (h .edition)) (allForms cs (sidesOf h y) ps ks)
+    (counted.Sums sums)
 
 -- there is room by the sums alone
 unfoldable pub sumsFit : Head → Sums → Bool
@@ -134,16 +139,17 @@ unfoldable pub roomFor : Head → ℕ → ℕ → ℕ
 roomFor h nodes answers =
     pick (ltb (h .«node_capacity» - h .nodes) nodes) 10 (pick (ltb (h .«answer_capacity» - h .answers) answers) 11 0)
 
-abbrev pub Fills : List ℕ → Sides → ℕ → List ℕ → List ℕ → ℕ → Type 0
-Fills cs x root ps ks r =
+abbrev pub Fills : Finding → List ℕ → Sides → ℕ → List ℕ → List ℕ → ℕ → Type 0
+Fills find cs x root ps ks r =
     (s : ℕ) → root ≡ subgoalUnder cs (x .h) s .root
     → (let ws = allForms cs x ps ks in
-    r ≡ roomFor (x .h) (nodesNeeded (viewIn cs (x .h)) s [] ws) (answersNeeded (viewIn cs (x .h)) s [] ws))
+    r ≡ roomFor (x .h) (nodesNeededBy find (viewIn cs (x .h)) s [] ws)
+    (answersNeededBy find (viewIn cs (x .h)) s [] ws))
 
 -- the forms fit, no damaged record was met, and some are new
-pub record SomeNew (cs : List ℕ) (h : Head) (y : Parties) (ps ks : List ℕ) (sums : Sums) : Type 0 where
+pub record SomeNew (find : Finding) (cs : List ℕ) (h : Head) (y : Parties) (ps ks : List ℕ) (sums : Sums) : Type 0 where
   pub grounded : Grounded cs h y ps ks
-  pub summed : Summed cs h y ps ks sums
+  pub summed : Summed find cs h y ps ks sums
   pub sound : sums .sound ≡ true
   pub some : sums .lacking ≡ 0 → ⊥
 
@@ -155,7 +161,7 @@ pub record Enterable (cs : List ℕ) (x : Sides) (s : ℕ) (ps ks : List ℕ) : 
   pub target : Target cs x s
 
 -- all are, and the answer is what the answers used rise by
-abbrev pub EntersAll : List ℕ → Sides → ℕ → List ℕ → List ℕ → JoinAnswer → List ℕ → Type 0
-EntersAll cs x s ps ks r cs′ =
-    (cs′ ≡ formsGiven (sizesOf (x .h .edition)) cs s (allForms cs x ps ks))
+abbrev pub EntersAll : Finding → List ℕ → Sides → ℕ → List ℕ → List ℕ → JoinAnswer → List ℕ → Type 0
+EntersAll find cs x s ps ks r cs′ =
+    (cs′ ≡ formsGivenBy find (sizesOf (x .h .edition)) cs s (allForms cs x ps ks))
     × (saidJoin r ≡ joined (usedAnswers cs′ - x .h .answers))

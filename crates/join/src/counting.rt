@@ -16,6 +16,7 @@ ghost use mathlib.Core.Path.{_≡_};
 ghost use Prim.Native.Nat.{_+_, _^_, _<_, _≤_, min, max};
 ghost use mathlib.Core.Bool.{_&&_, _||_};
 ghost use lib.ListN.{length};
+ghost use Rattle.trie.specs.Index.{searchIndexed};
 ghost use Rattle.join.specs.Counting.{beginning, allForms, Ready, Fitting, oneMore, added, Counts};
 ghost use Rattle.join.specs.Counting.{EarlierOf, allShared, Meets, oneNew, needsMore, NeedsOf};
 
@@ -63,9 +64,19 @@ fn add(y: Sums, m: Met) -> Sums
 }
 
 // The sums over all forms, searched from this answer root on; or that one is too long.
-pub fn count(space: &[u32], x: Sides, root: usize, pairs: &[u32], copies: &[u32]) -> Counted
+pub fn count(
+    space: &[u32],
+    x: Sides,
+    root: usize,
+    pairs: &[u32],
+    copies: &[u32],
+    index: &[u32],
+) -> Counted
     requires { ⌜ Ready (now space) x (now pairs) (now copies) × (root < x .h .nodes) ⌝ }
-    ensures { λ r. ⌜ Counts (now (space .entry)) x root (now (pairs .entry)) (now (copies .entry)) r ⌝ }
+    ensures { λ r. ⌜
+        Counts (searchIndexed (now (index .entry))) (now (space .entry)) x root
+        (now (pairs .entry)) (now (copies .entry)) r
+        ⌝ }
 {
     let mut hands = [0u32; HANDS];
     let mut form = [0u32; MOST_TOKENS];
@@ -79,7 +90,7 @@ pub fn count(space: &[u32], x: Sides, root: usize, pairs: &[u32], copies: &[u32]
         let next = advance(space, x, at, &mut hands, pairs, copies, &mut form);
         match next {
             Match::At(behind, n) => {
-                let met = search(space, x.h, root, &form[..n]);
+                let met = search(space, x.h, root, &form[..n], index);
                 sums = add(sums, met);
                 at = behind;
             }
@@ -203,10 +214,20 @@ fn need(y: Needs, m: Met, e: Earlier, n: usize) -> Needs
 }
 
 // What all forms need, each compared with those before it.
-pub fn needs(space: &[u32], x: Sides, root: usize, pairs: &[u32], copies: &[u32]) -> Needs
+pub fn needs(
+    space: &[u32],
+    x: Sides,
+    root: usize,
+    pairs: &[u32],
+    copies: &[u32],
+    index: &[u32],
+) -> Needs
     requires { ⌜ Ready (now space) x (now pairs) (now copies) × Fitting (now space) x (now pairs) (now copies) ⌝ }
     requires { ⌜ root < x .h .nodes ⌝ }
-    ensures { λ r. ⌜ NeedsOf (now (space .entry)) x root (now (pairs .entry)) (now (copies .entry)) r ⌝ }
+    ensures { λ r. ⌜
+        NeedsOf (searchIndexed (now (index .entry))) (now (space .entry)) x root
+        (now (pairs .entry)) (now (copies .entry)) r
+        ⌝ }
 {
     let mut hands = [0u32; HANDS];
     let mut form = [0u32; MOST_TOKENS];
@@ -220,7 +241,7 @@ pub fn needs(space: &[u32], x: Sides, root: usize, pairs: &[u32], copies: &[u32]
         let next = advance(space, x, at, &mut hands, pairs, copies, &mut form);
         match next {
             Match::At(behind, n) => {
-                let met = search(space, x.h, root, &form[..n]);
+                let met = search(space, x.h, root, &form[..n], index);
                 let before = earlier(space, x, pairs, copies, &form[..n], i);
                 y = need(y, met, before, n);
                 at = behind;

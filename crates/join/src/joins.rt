@@ -1,5 +1,6 @@
 // The join as a call: what is judged in its order, then the passes over its forms.
 use super::Counted;
+use super::Numbers;
 use super::Parties;
 use super::Sides;
 use super::Source;
@@ -38,12 +39,14 @@ ghost use Rattle.space.specs.Sound.{Bounds};
 ghost use Rattle.space.specs.declared.Header.the-variants as header;
 ghost use Rattle.trie.specs.Walks.{rootSound};
 ghost use Rattle.store.specs.Views.{answerTrie};
-ghost use Rattle.store.specs.Calls.{Answers};
-ghost use Rattle.store.specs.Contracts.{viewIn, AnswersUnder};
+ghost use Rattle.trie.specs.Index.{searchIndexed};
+ghost use Rattle.store.specs.Calls.{Answers, AnswersIndexed};
+ghost use Rattle.store.specs.Contracts.{viewIn};
 ghost use Rattle.store.specs.Replies.{saidJoin};
 ghost use Rattle.join.specs.Counting.{Ready, Fitting};
 ghost use Rattle.join.specs.Joining.{isNumber, Numbered, PartiesIn, sidesOf, wholeAnswers, groundAnswers};
-ghost use Rattle.join.specs.Joining.{RulesOn, Rules, Grounded, JoinsUnder, SomeNew, sumsFit, Fills, Enterable, EntersAll};
+ghost use Rattle.join.specs.Joining.{RulesOn, Rules, Grounded, JoinsUnder, JoinsNumbered, SomeNew, sumsFit};
+ghost use Rattle.join.specs.Joining.{Fills, Enterable, EntersAll};
 
 // The sources as the passes take them.
 fn sides_of(h: Head, y: Parties) -> Sides
@@ -150,11 +153,21 @@ fn rule(y: Parties, f: Judged, g: Judged, pairs: &[u32], copies: &[u32]) -> u32
 }
 
 // All forms are entered; how many are new is what the answers used rise by.
-fn join_entered(space: &mut [u32], x: Sides, s: usize, pairs: &[u32], copies: &[u32]) -> JoinAnswer
+fn join_entered(
+    space: &mut [u32],
+    x: Sides,
+    s: usize,
+    pairs: &[u32],
+    copies: &[u32],
+    index: &[u32],
+) -> JoinAnswer
     requires { ⌜ Enterable (now space) x s (now pairs) (now copies) ⌝ }
-    ensures { λ r. ⌜ EntersAll (now (space .entry)) x s (now (pairs .entry)) (now (copies .entry)) r (now (space .exit)) ⌝ }
+    ensures { λ r. ⌜
+        EntersAll (searchIndexed (now (index .entry))) (now (space .entry)) x s
+        (now (pairs .entry)) (now (copies .entry)) r (now (space .exit))
+        ⌝ }
 {
-    enter(space, x, s, pairs, copies);
+    enter(space, x, s, pairs, copies, index);
     let header = read_header(space);
     let Header::Sound(h) = header else {
         return JoinAnswer::Joined(0);
@@ -178,12 +191,15 @@ fn sums_fit(h: Head, y: Sums) -> bool
 }
 
 // The refusal for want of room, by the exact needs; 0 for none.
-fn full(space: &[u32], x: Sides, root: usize, pairs: &[u32], copies: &[u32]) -> u32
+fn full(space: &[u32], x: Sides, root: usize, pairs: &[u32], copies: &[u32], index: &[u32]) -> u32
     requires { ⌜ Ready (now space) x (now pairs) (now copies) × Fitting (now space) x (now pairs) (now copies) ⌝ }
     requires { ⌜ root < x .h .nodes ⌝ }
-    ensures { λ r. ⌜ Fills (now (space .entry)) x root (now (pairs .entry)) (now (copies .entry)) r ⌝ }
+    ensures { λ r. ⌜
+        Fills (searchIndexed (now (index .entry))) (now (space .entry)) x root
+        (now (pairs .entry)) (now (copies .entry)) r
+        ⌝ }
 {
-    let y = needs(space, x, root, pairs, copies);
+    let y = needs(space, x, root, pairs, copies, index);
     let nodes = (x.h.node_capacity - x.h.nodes) as u64;
     let answers = (x.h.answer_capacity - x.h.answers) as u64;
     if nodes < y.nodes {
@@ -203,20 +219,22 @@ fn join_new(
     sums: Sums,
     pairs: &[u32],
     copies: &[u32],
+    index: &[u32],
 ) -> JoinAnswer
-    requires { ⌜ SomeNew (now space) h y (now pairs) (now copies) sums ⌝ }
+    requires { ⌜ SomeNew (searchIndexed (now index)) (now space) h y (now pairs) (now copies) sums ⌝ }
     ensures { λ r. ⌜
-        JoinsUnder (now (space .entry)) h y (now (pairs .entry)) (now (copies .entry)) r (now (space .exit))
+        JoinsUnder (searchIndexed (now (index .entry))) (now (space .entry)) h y
+        (now (pairs .entry)) (now (copies .entry)) r (now (space .exit))
         ⌝ }
 {
     if last_sound(space, h, y.target, y.t.last) {
         let x = sides_of(h, y);
         if sums_fit(h, sums) {
-            return join_entered(space, x, y.target, pairs, copies);
+            return join_entered(space, x, y.target, pairs, copies, index);
         }
-        let r = full(space, x, y.t.root, pairs, copies);
+        let r = full(space, x, y.t.root, pairs, copies, index);
         if r == 0 {
-            return join_entered(space, x, y.target, pairs, copies);
+            return join_entered(space, x, y.target, pairs, copies, index);
         }
         return JoinAnswer::Refused(r);
     }
@@ -224,13 +242,21 @@ fn join_new(
 }
 
 // Sources that the rule lets through: 4, 9 by the searches, nothing new, or some.
-fn join_ground(space: &mut [u32], h: Head, y: Parties, pairs: &[u32], copies: &[u32]) -> JoinAnswer
+fn join_ground(
+    space: &mut [u32],
+    h: Head,
+    y: Parties,
+    pairs: &[u32],
+    copies: &[u32],
+    index: &[u32],
+) -> JoinAnswer
     requires { ⌜ Grounded (now space) h y (now pairs) (now copies) ⌝ }
     ensures { λ r. ⌜
-        JoinsUnder (now (space .entry)) h y (now (pairs .entry)) (now (copies .entry)) r (now (space .exit))
+        JoinsUnder (searchIndexed (now (index .entry))) (now (space .entry)) h y
+        (now (pairs .entry)) (now (copies .entry)) r (now (space .exit))
         ⌝ }
 {
-    let counted = count(space, sides_of(h, y), y.t.root, pairs, copies);
+    let counted = count(space, sides_of(h, y), y.t.root, pairs, copies, index);
     let Counted::Sums(sums) = counted else {
         return JoinAnswer::Refused(LENGTH);
     };
@@ -238,23 +264,31 @@ fn join_ground(space: &mut [u32], h: Head, y: Parties, pairs: &[u32], copies: &[
         if sums.lacking == 0 {
             return JoinAnswer::Joined(0);
         }
-        return join_new(space, h, y, sums, pairs, copies);
+        return join_new(space, h, y, sums, pairs, copies, index);
     }
     JoinAnswer::Refused(RECORDS)
 }
 
 // The three subgoals are read: the sources' answers, then the rule.
-fn join_parties(space: &mut [u32], h: Head, y: Parties, pairs: &[u32], copies: &[u32]) -> JoinAnswer
+fn join_parties(
+    space: &mut [u32],
+    h: Head,
+    y: Parties,
+    pairs: &[u32],
+    copies: &[u32],
+    index: &[u32],
+) -> JoinAnswer
     requires { ⌜ PartiesIn (now space) h y ⌝ }
     ensures { λ r. ⌜
-        JoinsUnder (now (space .entry)) h y (now (pairs .entry)) (now (copies .entry)) r (now (space .exit))
+        JoinsUnder (searchIndexed (now (index .entry))) (now (space .entry)) h y
+        (now (pairs .entry)) (now (copies .entry)) r (now (space .exit))
         ⌝ }
 {
     let f = judge(space, h, y.first, y.f);
     let g = judge(space, h, y.second, y.g);
     let r = rule(y, f, g, pairs, copies);
     if r == 0 {
-        return join_ground(space, h, y, pairs, copies);
+        return join_ground(space, h, y, pairs, copies, index);
     }
     JoinAnswer::Refused(r)
 }
@@ -263,37 +297,36 @@ fn join_parties(space: &mut [u32], h: Head, y: Parties, pairs: &[u32], copies: &
 fn join_known(
     space: &mut [u32],
     h: Head,
-    first: usize,
-    second: usize,
+    a: Numbers,
     pairs: &[u32],
-    target: usize,
     copies: &[u32],
+    index: &[u32],
 ) -> JoinAnswer
-    requires { ⌜ Numbered (now space) h first second target ⌝ }
+    requires { ⌜ Numbered (now space) h a ⌝ }
     ensures { λ r. ⌜
-        AnswersUnder (now (space .entry)) h (request.join first second (now (pairs .entry)) target (now (copies .entry)))
-        (saidJoin r) (now (space .exit))
+        JoinsNumbered (searchIndexed (now (index .entry))) (now (space .entry)) h a
+        (now (pairs .entry)) (now (copies .entry)) r (now (space .exit))
         ⌝ }
 {
-    let SubgoalRead::Sound(f) = read_subgoal(space, h, first) else {
+    let SubgoalRead::Sound(f) = read_subgoal(space, h, a.first) else {
         return JoinAnswer::Refused(RECORDS);
     };
-    let SubgoalRead::Sound(g) = read_subgoal(space, h, second) else {
+    let SubgoalRead::Sound(g) = read_subgoal(space, h, a.second) else {
         return JoinAnswer::Refused(RECORDS);
     };
-    let SubgoalRead::Sound(t) = read_subgoal(space, h, target) else {
+    let SubgoalRead::Sound(t) = read_subgoal(space, h, a.target) else {
         return JoinAnswer::Refused(RECORDS);
     };
     if is_root(space, h, t.root) {
         let y = Parties {
-            first: first,
+            first: a.first,
             f: f,
-            second: second,
+            second: a.second,
             g: g,
-            target: target,
+            target: a.target,
             t: t,
         };
-        return join_parties(space, h, y, pairs, copies);
+        return join_parties(space, h, y, pairs, copies, index);
     }
     JoinAnswer::Refused(RECORDS)
 }
@@ -302,22 +335,21 @@ fn join_known(
 fn join_in(
     space: &mut [u32],
     h: Head,
-    first: usize,
-    second: usize,
+    a: Numbers,
     pairs: &[u32],
-    target: usize,
     copies: &[u32],
+    index: &[u32],
 ) -> JoinAnswer
     requires { ⌜ header.Sound h ≡ spaceHeader (now space) ⌝ }
     ensures { λ r. ⌜
-        AnswersUnder (now (space .entry)) h (request.join first second (now (pairs .entry)) target (now (copies .entry)))
-        (saidJoin r) (now (space .exit))
+        JoinsNumbered (searchIndexed (now (index .entry))) (now (space .entry)) h a
+        (now (pairs .entry)) (now (copies .entry)) r (now (space .exit))
         ⌝ }
 {
-    if is_number(h.subgoals, first) {
-        if is_number(h.subgoals, second) {
-            if is_number(h.subgoals, target) {
-                return join_known(space, h, first, second, pairs, target, copies);
+    if is_number(h.subgoals, a.first) {
+        if is_number(h.subgoals, a.second) {
+            if is_number(h.subgoals, a.target) {
+                return join_known(space, h, a, pairs, copies, index);
             }
         }
     }
@@ -325,6 +357,36 @@ fn join_in(
 }
 
 // Joins two finished subgoals into an open one.
+pub fn join_indexed(
+    space: &mut [u32],
+    first: u32,
+    second: u32,
+    pairs: &[u32],
+    target: u32,
+    copies: &[u32],
+    index: &[u32],
+) -> JoinAnswer
+    ensures { λ r. ⌜
+        AnswersIndexed (now (index .entry)) (now (space .entry))
+        (request.join first second (now (pairs .entry)) target (now (copies .entry)))
+        (saidJoin r) [] (now (space .exit))
+        ⌝ }
+{
+    let header = read_header(space);
+    match header {
+        Header::Refused(r) => return JoinAnswer::Refused(r),
+        Header::Sound(h) => {
+            let a = Numbers {
+                first: wide(first),
+                second: wide(second),
+                target: wide(target),
+            };
+            return join_in(space, h, a, pairs, copies, index);
+        }
+    }
+}
+
+// The same without an index.
 pub fn join(
     space: &mut [u32],
     first: u32,
@@ -338,19 +400,5 @@ pub fn join(
         (saidJoin r) [] (now (space .exit))
         ⌝ }
 {
-    let header = read_header(space);
-    match header {
-        Header::Refused(r) => return JoinAnswer::Refused(r),
-        Header::Sound(h) => {
-            return join_in(
-                space,
-                h,
-                wide(first),
-                wide(second),
-                pairs,
-                wide(target),
-                copies,
-            );
-        }
-    }
+    join_indexed(space, first, second, pairs, target, copies, &pairs[..0])
 }

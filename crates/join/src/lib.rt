@@ -10,6 +10,13 @@ pub mod joins;
 use space::Head;
 use space::Subgoal;
 
+// The numbers of the three subgoals of a join, as they are given.
+pub struct Numbers {
+    pub first: usize,
+    pub second: usize,
+    pub target: usize,
+}
+
 // The three subgoals of a join, by number and record.
 pub struct Parties {
     pub first: usize,

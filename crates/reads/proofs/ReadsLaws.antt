@@ -20,6 +20,7 @@ use Rattle.space.specs.declared.Header.{Header}
 use Rattle.space.specs.declared.Header.the-variants as header
 use Rattle.trie.specs.Paths.{Path, gather, longest}
 use Rattle.trie.specs.Paths as path
+use Rattle.trie.specs.Siblings.{searchChildren}
 use Rattle.store.specs.Views.{View, viewOf, subgoalTrie, answerTrie}
 use Rattle.store.specs.Decisions.{Decision, says, stateOf, gives, refuses, soundSubgoal, soundAnswer, soundAnswerOf, soundPair, starting, handed, onward, onPath, loaded, instanced, decide, decideBy}
 use Rattle.store.specs.Changes.{change, changeBy}
@@ -122,11 +123,11 @@ module _ (cs : List ℕ) (q : Request) where
 module _ (cs : List ℕ) (r : Reply) where
   pub counts-answers : r ≡ spaceStep cs counts .reply → Answers cs counts r [] cs
   unfolding lent
-  counts-answers e = (e, step-none cs counts refl, step-stays cs counts counts-reads)
+  counts-answers e = (e, step-none searchChildren cs counts refl, step-stays cs counts counts-reads)
 
   pub next-answers : (s a : ℕ) → r ≡ spaceStep cs (next s a) .reply → Answers cs (next s a) r [] cs
   unfolding lent
-  next-answers s a e = (e, step-none cs (next s a) refl, step-stays cs (next s a) (λ c v. next-reads c v s a))
+  next-answers s a e = (e, step-none searchChildren cs (next s a) refl, step-stays cs (next s a) (λ c v. next-reads c v s a))
 
   module _ (a : ℕ) (out out′ : List ℕ) where
     pub load-answers : (r ≡ spaceStep cs (load a out) .reply) × (out′ ≡ spaceStep cs (load a out) .out) → Answers cs (load a out) r out′ cs

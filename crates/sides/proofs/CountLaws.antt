@@ -15,8 +15,9 @@ use Rattle.plain.specs.Words.{Word, has}
 use Rattle.plain.specs.Coding.{Coding}
 use Rattle.plain.specs.Joins.{Terms, matching, copied, along, combined}
 use Rattle.trie.specs.Paths.{Path, none, tokens, gather, longest}
+use Rattle.trie.specs.Walks.{Finding}
 use Rattle.store.specs.Views.{View, answerTrie}
-use Rattle.store.specs.Decisions.{walkTo, lacking, nodesNeeded, nodesNeededBy, answersNeeded, answersNeededBy, soundAnswerOf}
+use Rattle.store.specs.Decisions.{walkToBy, lacking, nodesNeededBy, answersNeededBy, soundAnswerOf}
 use Rattle.store.specs.Decisions.{Chain, broken, unbroken, headed, chainFrom}
 use Rattle.sides.specs.Counts.{sumMissing, sumLacking}
 
@@ -33,44 +34,44 @@ one-none true true e f = f refl
 one-none true false e f = absurd (omega arith)
 one-none false d e f = refl
 
-module _ (v : View) (s : ℕ) where
-  pub nodes-needed-most : (before ws : List Word) → nodesNeeded v s before ws ≤ sumMissing v s ws
+module _ (find : Finding) (v : View) (s : ℕ) where
+  pub nodes-needed-most : (before ws : List Word) → nodesNeededBy find v s before ws ≤ sumMissing find v s ws
   unfolding nodesNeededBy sumMissing
   nodes-needed-most before [] = omega arith
   nodes-needed-most before (w ∷ ws) = omega (arith, nodes-needed-most (w ∷ before) ws)
 
-  pub answers-needed-most : (before ws : List Word) → answersNeeded v s before ws ≤ sumLacking v s ws
+  pub answers-needed-most : (before ws : List Word) → answersNeededBy find v s before ws ≤ sumLacking find v s ws
   unfolding answersNeededBy sumLacking
   answers-needed-most before [] = omega arith
   answers-needed-most before (w ∷ ws) =
-      omega (arith, answers-needed-most (w ∷ before) ws, one-most (lacking v (walkTo v s w)) (has before w))
+      omega (arith, answers-needed-most (w ∷ before) ws, one-most (lacking v (walkToBy find v s w)) (has before w))
 
   -- each of these forms is among the answers
   abbrev AllOld : List Word → Type 0
-  AllOld before = (u : Word) → has before u ≡ true → lacking v (walkTo v s u) ≡ false
+  AllOld before = (u : Word) → has before u ≡ true → lacking v (walkToBy find v s u) ≡ false
 
-  old-also : (before : List Word) (w : Word) → lacking v (walkTo v s w) ≡ false → AllOld before → AllOld (w ∷ before)
+  old-also : (before : List Word) (w : Word) → lacking v (walkToBy find v s w) ≡ false → AllOld before → AllOld (w ∷ before)
   unfolding has
   old-also before w l o u h =
       by-cases (same w u)
-      (λ e. ap (λ (x : Word). lacking v (walkTo v s x)) (sym (same-true w u e)) ∙ l)
+      (λ e. ap (λ (x : Word). lacking v (walkToBy find v s x)) (sym (same-true w u e)) ∙ l)
       (λ e. o u (rw e at h))
 
-  none-lacking : (before ws : List Word) → AllOld before → answersNeeded v s before ws ≡ 0 → sumLacking v s ws ≡ 0
+  none-lacking : (before ws : List Word) → AllOld before → answersNeededBy find v s before ws ≡ 0 → sumLacking find v s ws ≡ 0
   unfolding answersNeededBy sumLacking
   none-lacking before [] o e = refl
   none-lacking before (w ∷ ws) o e =
-      let l = one-none (lacking v (walkTo v s w)) (has before w) (omega arith) (o w) in
+      let l = one-none (lacking v (walkToBy find v s w)) (has before w) (omega arith) (o w) in
       let k = none-lacking (w ∷ before) ws (old-also before w l o) (omega arith) in
       rw l (omega arith)
 
   -- some form is new exactly where some search finds it lacking
-  pub answers-needed-none : (ws : List Word) → answersNeeded v s [] ws ≡ 0 → sumLacking v s ws ≡ 0
+  pub answers-needed-none : (ws : List Word) → answersNeededBy find v s [] ws ≡ 0 → sumLacking find v s ws ≡ 0
   unfolding has
   answers-needed-none ws e =
       none-lacking [] ws (λ u h. let z : _≡_ {A = ℕ} 0 1 = cc in absurd (omega arith)) e
 
-  pub lacking-none : (ws : List Word) → sumLacking v s ws ≡ 0 → answersNeeded v s [] ws ≡ 0
+  pub lacking-none : (ws : List Word) → sumLacking find v s ws ≡ 0 → answersNeededBy find v s [] ws ≡ 0
   lacking-none ws e = omega (arith, answers-needed-most [] ws)
 
 -- ---- lengths

@@ -16,7 +16,7 @@ use Rattle.space.specs.declared.Answer.{Answer}
 use Rattle.space.specs.declared.AnswerRead.the-variants as answer
 use Rattle.space.proofs.JudgingLaws.{read-answer-sound}
 use Rattle.trie.specs.Siblings.{trieIn}
-use Rattle.trie.specs.Walks.{whole, walk, shown}
+use Rattle.trie.specs.Walks.{whole, Finding, walkBy, shown}
 use Rattle.trie.specs.declared.Walked.{Walked}
 use Rattle.trie.specs.declared.Walked.the-variants as walked
 use Rattle.store.specs.Views.{View}
@@ -48,31 +48,31 @@ module _ (v : View) (n leaf a : ℕ) where
 -- ---- the search
 
 -- what a walk tells, by the code's answer
-module _ (cs : List ℕ) (h : Head) (root : ℕ) (w : Word) where
+module _ (find : Finding) (cs : List ℕ) (h : Head) (root : ℕ) (w : Word) where
   abbrev Shows : Walked → Type 0
-  Shows r = r ≡ shown (walk (trieIn sizes cs (h .nodes) (h .answers)) root w)
+  Shows r = r ≡ shown (walkBy find (trieIn sizes cs (h .nodes) (h .answers)) root w)
 
   pub searched-whole : (leaf : ℕ) (y : Node) (b : Bool) → Shows (walked.Whole leaf) → y ≡ nodeIn sizes cs leaf
       → b ≡ wholeSound (viewIn cs h) (length w) leaf (y .link)
-      → Searched cs h root w (record { sound = b; lacking = eqb (y .link) 0; missing = 0 })
+      → Searched find cs h root w (record { sound = b; lacking = eqb (y .link) 0; missing = 0 })
   unfolding metSound lacking missing wholeSound
   searched-whole leaf y b e n s =
-      rw (shown-whole (walk (trieIn sizes cs (h .nodes) (h .answers)) root w) leaf e) (
+      rw (shown-whole (walkBy find (trieIn sizes cs (h .nodes) (h .answers)) root w) leaf e) (
         s ∙ ap (λ (x : Node). wholeSound (viewIn cs h) (length w) leaf (x .link)) n,
         ap (λ (x : Node). eqb (x .link) 0) n,
         refl,
       )
 
   pub searched-stopped : (parent last k : ℕ) → Shows (walked.Stopped parent last k)
-      → Searched cs h root w (record { sound = true; lacking = true; missing = k })
+      → Searched find cs h root w (record { sound = true; lacking = true; missing = k })
   unfolding metSound lacking missing
   searched-stopped parent last k e =
-      let f = shown-stopped (walk (trieIn sizes cs (h .nodes) (h .answers)) root w) parent last k e in
+      let f = shown-stopped (walkBy find (trieIn sizes cs (h .nodes) (h .answers)) root w) parent last k e in
       rw (f .1 .0) (refl, refl, f .1 .1)
 
-  pub searched-damaged : Shows walked.Damaged → Searched cs h root w (record { sound = false; lacking = true; missing = 0 })
+  pub searched-damaged : Shows walked.Damaged → Searched find cs h root w (record { sound = false; lacking = true; missing = 0 })
   unfolding metSound lacking missing
-  searched-damaged e = rw (shown-damaged (walk (trieIn sizes cs (h .nodes) (h .answers)) root w) e) (refl, refl, refl)
+  searched-damaged e = rw (shown-damaged (walkBy find (trieIn sizes cs (h .nodes) (h .answers)) root w) e) (refl, refl, refl)
 
 -- ---- what two forms share
 

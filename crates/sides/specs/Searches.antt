@@ -7,7 +7,7 @@ use lib.Dec.{eqb}
 use Rattle.basis.specs.Choice.{pick}
 use Rattle.plain.specs.Words.{Word}
 use Rattle.space.specs.declared.Head.{Head}
-use Rattle.trie.specs.Walks.{Walk, walk}
+use Rattle.trie.specs.Walks.{Walk, Finding, walkBy}
 use Rattle.store.specs.Views.{View, answerTrie}
 use Rattle.store.specs.Contracts.{viewIn}
 use Rattle.store.specs.Decisions.{soundAnswer, metSound, lacking, missing}
@@ -22,5 +22,5 @@ abbrev pub Tells : View → Word → Walk → Met → Type 0
 Tells v w x r = (r .sound ≡ metSound v w x) × (r .lacking ≡ lacking v x) × (r .missing ≡ missing x)
 
 -- a form was searched from an answer root on
-abbrev pub Searched : List ℕ → Head → ℕ → Word → Met → Type 0
-Searched cs h root w r = Tells (viewIn cs h) w (walk (answerTrie (viewIn cs h)) root w) r
+abbrev pub Searched : Finding → List ℕ → Head → ℕ → Word → Met → Type 0
+Searched find cs h root w r = Tells (viewIn cs h) w (walkBy find (answerTrie (viewIn cs h)) root w) r

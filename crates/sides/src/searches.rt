@@ -10,6 +10,7 @@ ghost use mathlib.Core.Path.{_≡_};
 ghost use Prim.Native.Nat.{_<_, _≤_};
 ghost use Rattle.plain.specs.Words.{common};
 ghost use Rattle.space.specs.Sound.{Bounds};
+ghost use Rattle.trie.specs.Index.{searchIndexed};
 ghost use Rattle.store.specs.Contracts.{viewIn};
 ghost use Rattle.sides.specs.Searches.{wholeSound, Searched};
 
@@ -28,11 +29,13 @@ fn whole_sound(space: &[u32], h: Head, n: usize, leaf: usize, a: usize) -> bool
 }
 
 // The search from an answer root on.
-pub fn search(space: &[u32], h: Head, root: usize, tokens: &[u32]) -> Met
+pub fn search(space: &[u32], h: Head, root: usize, tokens: &[u32], index: &[u32]) -> Met
     requires { ⌜ Bounds (now space) h × (root < h .nodes) ⌝ }
-    ensures { λ r. ⌜ Searched (now (space .entry)) h root (now (tokens .entry)) r ⌝ }
+    ensures { λ r. ⌜
+        Searched (searchIndexed (now (index .entry))) (now (space .entry)) h root (now (tokens .entry)) r
+        ⌝ }
 {
-    let walked = walk_tokens(space, h.nodes, h.answers, root, tokens);
+    let walked = walk_tokens(space, h.nodes, h.answers, root, tokens, index);
     match walked {
         Walked::Whole(leaf) => {
             let y = node_in(space, h.nodes, leaf);

@@ -11,7 +11,7 @@ use Rattle.plain.specs.Words.{Word}
 use Rattle.plain.specs.Coding as coding
 use Rattle.plain.specs.Coding.{Coding, codingOf, Reading}
 use Rattle.plain.specs.Joins.{Forms, declined, formed, joinOf}
-use Rattle.plain.specs.Requests.{Request, call, answer, finish, next, load, instance, counts, join}
+use Rattle.plain.specs.Requests.{Request, Reply, Result, call, answer, finish, next, load, instance, counts, join}
 use Rattle.space.specs.Layout.{Sizes, sizesOf}
 use Rattle.space.specs.Heading.{headerOf, spaceHeader}
 use Rattle.space.specs.declared.Head.{Head}
@@ -24,7 +24,7 @@ use Rattle.trie.proofs.IndexLaws.{walk-none}
 use Rattle.store.specs.Views.{View, subgoalTrie, answerTrie, viewOf}
 use Rattle.store.specs.Decisions.{Decision, says, gives, entersSubgoal, entersAnswer, entersEmpty, finishes, entersAnswers, known, sound, stateOf, soundSubgoal, soundTarget, chainOf, sideIn, Chain, broken, unbroken, onChains, calledAt, answeredAt, called, calledBy, answered, answeredBy, walkTo, walkToBy, allSound, allSoundBy, nodesNeeded, nodesNeededBy, answersNeeded, answersNeededBy, joining, joiningBy, decide, decideBy}
 use Rattle.store.specs.Changes.{answerGiven, formGiven, formGivenBy, formsGiven, formsGivenBy, change, changeBy}
-use Rattle.store.specs.Calls.{underBy, underAny, underAnyBy, spaceStep, spaceStepBy, indexedStep}
+use Rattle.store.specs.Calls.{underBy, underAny, underAnyBy, spaceStep, spaceStepBy, indexedStep, Answers, AnswersIndexed}
 
 -- ---- the decision
 
@@ -126,3 +126,8 @@ module _ (find : Finding) (same : (t : Trie) (root : ℕ) (w : Word) → walkBy 
 pub unindexed : (cs : List ℕ) (q : Request) → indexedStep [] cs q ≡ spaceStep cs q
 unfolding spaceStepBy
 unindexed cs q = step-same (searchIndexed []) walk-none cs q (spaceHeader cs)
+
+pub unindexed-answers : (cs : List ℕ) (q : Request) (r : Reply) (out cs′ : List ℕ) → AnswersIndexed [] cs q r out cs′ → Answers cs q r out cs′
+unindexed-answers cs q r out cs′ k =
+    let e = unindexed cs q in
+    (k .0 ∙ ap (λ (x : Result (List ℕ)). x .reply) e, k .1 ∙ ap (λ (x : Result (List ℕ)). x .out) e, k .2 ∙ ap (λ (x : Result (List ℕ)). x .state) e)

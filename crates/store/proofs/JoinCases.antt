@@ -1,4 +1,5 @@
--- A form that a join gives is entered as a single answer is: it writes what the decision on that answer changes.
+-- A form that a join gives is entered as a single answer is: it writes what the decision on that answer changes. So the
+-- way of finding a child has no part in what an answer writes.
 use mathlib.Core.Path.{_≡_, refl}
 use mathlib.Core.Bool.{_&&_}
 use mathlib.Core.List.{List}
@@ -10,19 +11,19 @@ use Rattle.plain.specs.Words.{Word}
 use Rattle.plain.specs.Requests.{State, Open, Finished, Reply, refused}
 use Rattle.space.specs.Layout.{Sizes}
 use Rattle.space.specs.declared.Head.{Head}
-use Rattle.trie.specs.Walks.{Walk, whole, stopped, damaged}
+use Rattle.trie.specs.Walks.{Walk, whole, stopped, damaged, Finding}
 use Rattle.store.specs.Views.{View, viewOf}
 use Rattle.store.specs.Decisions as decisions
 use Rattle.store.specs.Decisions.{Decision, says, soundLast, answeredNew, answeredOld, answeredAt}
-use Rattle.store.specs.Changes.{answerGiven, change, changeBy}
+use Rattle.store.specs.Changes.{answerGiven, changeBy}
 
-module _ (z : Sizes) (cs : List ℕ) (h : Head) (s : ℕ) (w : Word) where
+module _ (find : Finding) (z : Sizes) (cs : List ℕ) (h : Head) (s : ℕ) (w : Word) where
   abbrev v : View
   v = viewOf z cs h
 
   -- the same by every test
   abbrev Written : Decision → Type 0
-  Written d = change z cs h d ≡ answerGiven z cs h d
+  Written d = changeBy find z cs h d ≡ answerGiven z cs h d
 
   says-written : (x : Reply) → Written (says x)
   unfolding changeBy answerGiven

@@ -1,7 +1,7 @@
 -- The eight calls on the cells of a space, sound or damaged: refusal 1, then the decision, then the change. The way of
 -- finding a child is a parameter; by the sibling chains they are the calls without an index.
 use Prim.Native.Nat.{ℕ, _+_, _-_}
-use mathlib.Core.List.{List, [], _++_}
+use mathlib.Core.List.{List, _++_}
 use mathlib.Core.Path.{_≡_}
 use lib.Dec.{leb}
 use lib.ListN.{length, drop, getD}
@@ -83,12 +83,21 @@ spaceStep = spaceStepBy searchChildren
 unfoldable pub cellStep : Sizes → Coding → List ℕ → Request → Result (List ℕ)
 cellStep z c cs q = under z c cs q (headerOf z cs)
 
--- On the cells `before` the call q answers r, and leaves `out` of the out that was lent to it and `after` of the
--- cells: the contract of every call. A space that is lent to read alone is afterwards what it was, so there `after` is
--- `before`.
+-- On the cells `before` the call q, by this way of finding a child, answers r, and leaves `out` of the out that was
+-- lent to it and `after` of the cells: the contract of every call. A space that is lent to read alone is afterwards what
+-- it was, so there `after` is `before`.
+abbrev pub AnswersBy : Finding → List ℕ → Request → Reply → List ℕ → List ℕ → Type 0
+AnswersBy find before q r out after =
+    (r ≡ spaceStepBy find before q .reply) × (out ≡ spaceStepBy find before q .out)
+    × (after ≡ spaceStepBy find before q .state)
+
+-- without an index
 abbrev pub Answers : List ℕ → Request → Reply → List ℕ → List ℕ → Type 0
-Answers before q r out after =
-    (r ≡ spaceStep before q .reply) × (out ≡ spaceStep before q .out) × (after ≡ spaceStep before q .state)
+Answers = AnswersBy searchChildren
+
+-- with one
+abbrev pub AnswersIndexed : List ℕ → List ℕ → Request → Reply → List ℕ → List ℕ → Type 0
+AnswersIndexed index = AnswersBy (searchIndexed index)
 
 -- the counts as they stand in the header
 abbrev pub countedCells : List ℕ → Counts

@@ -1,10 +1,11 @@
 -- What the functions behind the calls ask for and what they leave: the names that their contracts use.
-use Prim.Native.Nat.{ℕ, _*_, _<_, _≤_}
+use Prim.Native.Nat.{ℕ, _<_, _≤_}
 use mathlib.Core.Path.{_≡_}
 use mathlib.Core.List.{List}
 use lib.Dec.{eqb}
 use lib.ListN.{length}
 use Rattle.basis.specs.Choice.{pick}
+use Rattle.convert.specs.Holds.{Reads}
 use Rattle.forms.specs.Cells.{arityOf}
 use Rattle.forms.specs.declared.Reading.{Reading}
 use Rattle.forms.specs.declared.Reading.the-variants.{Form, Refusal}
@@ -15,27 +16,28 @@ use Rattle.space.specs.Sound.{Bounds, subgoalUnder}
 use Rattle.space.specs.declared.Head.{Head}
 use Rattle.space.specs.declared.Header.the-variants as header
 use Rattle.space.specs.declared.Subgoal.{Subgoal}
-use Rattle.trie.specs.Walks.{walk}
+use Rattle.trie.specs.Walks.{Finding, walkBy}
 use Rattle.store.specs.Views.{View, viewOf, subgoalTrie, answerTrie}
-use Rattle.store.specs.Decisions.{Decision, refuses, entersAnswer, calledAt, answeredNew, answeredAt, answered}
+use Rattle.store.specs.Decisions.{Decision, refuses, entersAnswer, calledAt, answeredNew, answeredAt, answeredBy}
 use Rattle.store.specs.Changes.{change}
-use Rattle.store.specs.Calls.{usedAnswers, reply, under}
+use Rattle.store.specs.Calls.{usedAnswers, reply, underBy}
 
 -- the cells of a space under its head, as the calls read them
 abbrev pub viewIn : List ℕ → Head → View
 viewIn cs h = viewOf (sizesOf (h .edition)) cs h
 
--- on the cells `before` the decision d answers r and leaves `after`; no out is lent
+-- on the cells `before` the decision d on a call or an answer answers r and leaves `after`; no out is lent. Nothing is
+-- searched any more, so the way of finding a child has no part in it.
 abbrev pub Does : List ℕ → Head → (View → Decision) → Reply → List ℕ → Type 0
 Does before h d r after =
     (r ≡ reply (viewIn before h) (d (viewIn before h)) 0 (usedAnswers after))
     × (after ≡ change (sizesOf (h .edition)) before h (d (viewIn before h)))
 
 -- the same of a call as a whole
-abbrev pub AnswersUnder : List ℕ → Head → Request → Reply → List ℕ → Type 0
-AnswersUnder before h q r after =
-    (r ≡ under (sizesOf (h .edition)) (codingOf (h .edition)) before q (header.Sound h) .reply)
-    × (after ≡ under (sizesOf (h .edition)) (codingOf (h .edition)) before q (header.Sound h) .state)
+abbrev pub AnswersUnder : Finding → List ℕ → Head → Request → Reply → List ℕ → Type 0
+AnswersUnder find before h q r after =
+    (r ≡ underBy find (sizesOf (h .edition)) (codingOf (h .edition)) before q (header.Sound h) .reply)
+    × (after ≡ underBy find (sizesOf (h .edition)) (codingOf (h .edition)) before q (header.Sound h) .state)
 
 -- the number by which the reader of terms refused; 0 where it did not
 abbrev pub refusalOf : Reading → ℕ
@@ -61,17 +63,28 @@ abbrev pub RefusedBy : List ℕ → Head → ℕ → ℕ → ℕ → Type 0
 RefusedBy cs h s more r = (d : Decision) → answeredNew (viewIn cs h) s more d ≡ pick (eqb r 0) d (refuses r)
 
 -- what becomes of a called term with this form and m variables
-abbrev pub calledFrom : List ℕ → ℕ → View → Decision
-calledFrom w m v = calledAt v (walk (subgoalTrie v) 0 w) m
+abbrev pub calledFrom : Finding → List ℕ → ℕ → View → Decision
+calledFrom find w m v = calledAt v (walkBy find (subgoalTrie v) 0 w) m
 
 -- what becomes of an answer to subgoal s: tokens left below a node, a form walked from the answer root on, and terms
 -- that must be m
 abbrev pub enteredBelow : ℕ → ℕ → ℕ → List ℕ → View → Decision
 enteredBelow s parent last left v = answeredNew v s (length left) (entersAnswer s parent last left)
 
-abbrev pub answeredFrom : ℕ → ℕ → List ℕ → View → Decision
-answeredFrom s root w v = answeredAt v s w (walk (answerTrie v) root w)
+abbrev pub answeredFrom : Finding → ℕ → ℕ → List ℕ → View → Decision
+answeredFrom find s root w v = answeredAt v s w (walkBy find (answerTrie v) root w)
 
-abbrev pub answeredTerms : Head → ℕ → ℕ → List ℕ → View → Decision
-answeredTerms h s m terms v =
-    answered v s (judged (arityOf (h .edition)) m terms (compacted (arityOf (h .edition)) terms))
+abbrev pub answeredTerms : Finding → Head → ℕ → ℕ → List ℕ → View → Decision
+answeredTerms find h s m terms v =
+    answeredBy find v s (judged (arityOf (h .edition)) m terms (compacted (arityOf (h .edition)) terms))
+
+-- the form that the reader of terms left is within the cells that were lent to it
+abbrev pub FormIn : List ℕ → Reading → Type 0
+FormIn form (Form n m) = n ≤ length form
+FormIn form (Refusal r) = Unit
+
+-- what becomes of the terms, whichever they are, that were read into a form
+abbrev pub DoesRead : Finding → List ℕ → Head → ℕ → Subgoal → Reading → List ℕ → Reply → List ℕ → Type 0
+DoesRead find before h s g read form r after =
+    (terms : List ℕ) → Reads (h .edition) (g .variables) terms form read
+    → Does before h (answeredTerms find h s (g .variables) terms) r after

@@ -1,4 +1,5 @@
-// The calls that write: call, answer and finish. Each decides first, and then changes the space.
+// The calls that write: call, answer and finish. Each decides first, and then changes the space. Call and answer search
+// with an index; without one they are lent an index of no cells.
 use super::AnswerAnswer;
 use super::CallAnswer;
 use super::FinishAnswer;
@@ -54,11 +55,13 @@ ghost use Rattle.space.specs.Sound.{Bounds, SubgoalRoom, answersEnd, subgoalUnd
 ghost use Rattle.store.specs.Decisions.{says, stateOf, calledOld, calledNew};
 ghost use Rattle.store.specs.Decisions.{soundLast, answeredNew, answeredOld, entersEmpty};
 ghost use Rattle.store.specs.Changes.{chained, subgoalEntered, answerEntered};
-ghost use Rattle.store.specs.Calls.{Answers};
+ghost use Rattle.trie.specs.Siblings.{searchChildren};
+ghost use Rattle.trie.specs.Index.{searchIndexed};
+ghost use Rattle.store.specs.Calls.{Answers, AnswersIndexed};
 ghost use Rattle.convert.specs.Holds.{RoomForForm};
 ghost use Rattle.store.specs.Contracts.{viewIn, Does, AnswersUnder, StoppedAt};
 ghost use Rattle.store.specs.Contracts.{Held, HeldLast, RefusedBy, refusalOf, calledFrom};
-ghost use Rattle.store.specs.Contracts.{enteredBelow, answeredFrom, answeredTerms};
+ghost use Rattle.store.specs.Contracts.{enteredBelow, answeredFrom, answeredTerms, FormIn, DoesRead};
 ghost use Rattle.store.specs.Replies.{saidState, saidCall, saidAnswer, saidFinish};
 
 // The number by which the reader of terms refused; 0 where it did not.
@@ -77,7 +80,7 @@ fn refused_by(read: Reading) -> u32
 fn finish_in(space: &mut [u32], h: Head, s: usize) -> FinishAnswer
     requires { ⌜ Bounds (now space) h ⌝ }
     ensures { λ r. ⌜
-        AnswersUnder (now (space .entry)) h (request.finish s) (saidFinish r) (now (space .exit))
+        AnswersUnder searchChildren (now (space .entry)) h (request.finish s) (saidFinish r) (now (space .exit))
         ⌝ }
 {
     if s == 0 {
@@ -199,13 +202,14 @@ fn call_new(
 }
 
 // A term with this form and m variables is called.
-fn call_at(space: &mut [u32], h: Head, tokens: &[u32], m: usize) -> CallAnswer
+fn call_at(space: &mut [u32], h: Head, tokens: &[u32], m: usize, index: &[u32]) -> CallAnswer
     requires { ⌜ Bounds (now space) h × (m ≤ 32) ⌝ }
     ensures { λ r. ⌜
-        Does (now (space .entry)) h (calledFrom (now (tokens .entry)) m) (saidCall r) (now (space .exit))
+        Does (now (space .entry)) h (calledFrom (searchIndexed (now (index .entry))) (now (tokens .entry)) m)
+        (saidCall r) (now (space .exit))
         ⌝ }
 {
-    let walked = walk_tokens(space, h.nodes, h.subgoals, 0, tokens);
+    let walked = walk_tokens(space, h.nodes, h.subgoals, 0, tokens, index);
     match walked {
         Walked::Whole(leaf) => {
             let y = node_in(space, h.nodes, leaf);
@@ -226,11 +230,13 @@ fn call_with(
     term: &[u32],
     vars: &mut [u32],
     form: &mut [u32],
+    index: &[u32],
 ) -> CallAnswer
     requires { ⌜ Bounds (now space) h ⌝ }
     requires { ⌜ RoomForForm (now term) (now vars) (now form) ⌝ }
     ensures { λ r. ⌜
-        AnswersUnder (now (space .entry)) h (request.call (now (term .entry))) (saidCall r) (now (space .exit))
+        AnswersUnder (searchIndexed (now (index .entry))) (now (space .entry)) h (request.call (now (term .entry)))
+        (saidCall r) (now (space .exit))
         ⌝ }
 {
     let read = read_terms(term, 1, vars, form, h.edition);
@@ -238,15 +244,16 @@ fn call_with(
         return CallAnswer::Refused(refused_by(read));
     };
     if is_callable(term[0]) {
-        return call_at(space, h, &form[..n], m);
+        return call_at(space, h, &form[..n], m, index);
     }
     CallAnswer::Refused(PREDICATE)
 }
 
 // Enters the subgoal that a callable term calls, or finds it.
-pub fn call(space: &mut [u32], term: &[u32]) -> CallAnswer
+pub fn call_indexed(space: &mut [u32], term: &[u32], index: &[u32]) -> CallAnswer
     ensures { λ r. ⌜
-        Answers (now (space .entry)) (request.call (now (term .entry))) (saidCall r) [] (now (space .exit))
+        AnswersIndexed (now (index .entry)) (now (space .entry)) (request.call (now (term .entry)))
+        (saidCall r) [] (now (space .exit))
         ⌝ }
 {
     let read = read_header(space);
@@ -256,13 +263,22 @@ pub fn call(space: &mut [u32], term: &[u32]) -> CallAnswer
             if term.len() <= FEW_CELLS {
                 let mut vars = [0u32; FEW_CELLS];
                 let mut form = [0u32; FORM_OF_FEW];
-                return call_with(space, h, term, &mut vars, &mut form);
+                return call_with(space, h, term, &mut vars, &mut form, index);
             }
             let mut vars = [0u32; MOST_CELLS];
             let mut form = [0u32; FORM_OF_MOST];
-            return call_with(space, h, term, &mut vars, &mut form);
+            return call_with(space, h, term, &mut vars, &mut form, index);
         }
     }
+}
+
+// The same without an index.
+pub fn call(space: &mut [u32], term: &[u32]) -> CallAnswer
+    ensures { λ r. ⌜
+        Answers (now (space .entry)) (request.call (now (term .entry))) (saidCall r) [] (now (space .exit))
+        ⌝ }
+{
+    call_indexed(space, term, &term[..0])
 }
 
 // ---- answer
@@ -440,14 +456,22 @@ fn answer_old(
 }
 
 // Terms with this form answer subgoal s.
-pub fn answer_at(space: &mut [u32], h: Head, s: usize, g: Subgoal, tokens: &[u32]) -> AnswerAnswer
+pub fn answer_at(
+    space: &mut [u32],
+    h: Head,
+    s: usize,
+    g: Subgoal,
+    tokens: &[u32],
+    index: &[u32],
+) -> AnswerAnswer
     requires { ⌜ Held (now space) h s g ⌝ }
     ensures { λ r. ⌜
-        Does (now (space .entry)) h (answeredFrom s (g .root) (now (tokens .entry)))
+        Does (now (space .entry)) h
+        (answeredFrom (searchIndexed (now (index .entry))) s (g .root) (now (tokens .entry)))
         (saidAnswer r) (now (space .exit))
         ⌝ }
 {
-    let walked = walk_tokens(space, h.nodes, h.answers, g.root, tokens);
+    let walked = walk_tokens(space, h.nodes, h.answers, g.root, tokens, index);
     match walked {
         Walked::Whole(leaf) => {
             let y = node_in(space, h.nodes, leaf);
@@ -461,53 +485,62 @@ pub fn answer_at(space: &mut [u32], h: Head, s: usize, g: Subgoal, tokens: &[u32
     }
 }
 
-// Terms answer subgoal s, with buffers that are long enough for them.
-fn answer_with(
+// Terms that were read answer subgoal s: refused, or with the form that the reader left.
+fn answer_read(
+    space: &mut [u32],
+    h: Head,
+    s: usize,
+    g: Subgoal,
+    read: Reading,
+    form: &[u32],
+    index: &[u32],
+) -> AnswerAnswer
+    requires { ⌜ Held (now space) h s g × FormIn (now form) read ⌝ }
+    ensures { λ r. ⌜
+        DoesRead (searchIndexed (now (index .entry))) (now (space .entry)) h s g read (now (form .entry))
+        (saidAnswer r) (now (space .exit))
+        ⌝ }
+{
+    let Reading::Form(n, _) = read else {
+        return AnswerAnswer::Refused(refused_by(read));
+    };
+    answer_at(space, h, s, g, &form[..n], index)
+}
+
+// A subgoal is answered. Short terms get short buffers.
+fn answer_terms(
     space: &mut [u32],
     h: Head,
     s: usize,
     g: Subgoal,
     terms: &[u32],
-    vars: &mut [u32],
-    form: &mut [u32],
+    index: &[u32],
 ) -> AnswerAnswer
     requires { ⌜ Held (now space) h s g ⌝ }
-    requires { ⌜ RoomForForm (now terms) (now vars) (now form) ⌝ }
     ensures { λ r. ⌜
-        Does (now (space .entry)) h (answeredTerms h s (g .variables) (now (terms .entry)))
-        (saidAnswer r) (now (space .exit))
-        ⌝ }
-{
-    let read = read_terms(terms, g.variables, vars, form, h.edition);
-    let Reading::Form(n, _) = read else {
-        return AnswerAnswer::Refused(refused_by(read));
-    };
-    answer_at(space, h, s, g, &form[..n])
-}
-
-// A subgoal is answered. Short terms get short buffers.
-fn answer_terms(space: &mut [u32], h: Head, s: usize, g: Subgoal, terms: &[u32]) -> AnswerAnswer
-    requires { ⌜ Held (now space) h s g ⌝ }
-    ensures { λ r. ⌜
-        Does (now (space .entry)) h (answeredTerms h s (g .variables) (now (terms .entry)))
+        Does (now (space .entry)) h
+        (answeredTerms (searchIndexed (now (index .entry))) h s (g .variables) (now (terms .entry)))
         (saidAnswer r) (now (space .exit))
         ⌝ }
 {
     if terms.len() <= FEW_CELLS {
         let mut vars = [0u32; FEW_CELLS];
         let mut form = [0u32; FORM_OF_FEW];
-        return answer_with(space, h, s, g, terms, &mut vars, &mut form);
+        let read = read_terms(terms, g.variables, &mut vars, &mut form, h.edition);
+        return answer_read(space, h, s, g, read, &form, index);
     }
     let mut vars = [0u32; MOST_CELLS];
     let mut form = [0u32; FORM_OF_MOST];
-    answer_with(space, h, s, g, terms, &mut vars, &mut form)
+    let read = read_terms(terms, g.variables, &mut vars, &mut form, h.edition);
+    answer_read(space, h, s, g, read, &form, index)
 }
 
 // In a space whose header is sound: the number, the subgoal and its answer root.
-fn answer_in(space: &mut [u32], h: Head, s: usize, terms: &[u32]) -> AnswerAnswer
+fn answer_in(space: &mut [u32], h: Head, s: usize, terms: &[u32], index: &[u32]) -> AnswerAnswer
     requires { ⌜ Bounds (now space) h ⌝ }
     ensures { λ r. ⌜
-        AnswersUnder (now (space .entry)) h (request.answer s (now (terms .entry))) (saidAnswer r) (now (space .exit))
+        AnswersUnder (searchIndexed (now (index .entry))) (now (space .entry)) h
+        (request.answer s (now (terms .entry))) (saidAnswer r) (now (space .exit))
         ⌝ }
 {
     if s == 0 {
@@ -525,18 +558,28 @@ fn answer_in(space: &mut [u32], h: Head, s: usize, terms: &[u32]) -> AnswerAnswe
     if y.parent != g.root {
         return AnswerAnswer::Refused(RECORDS);
     }
-    answer_terms(space, h, s, g, terms)
+    answer_terms(space, h, s, g, terms, index)
 }
 
 // Enters the answer terms of an open subgoal, or finds them, in a finished one too: one term for each of its variables.
-pub fn answer(space: &mut [u32], subgoal: u32, terms: &[u32]) -> AnswerAnswer
+pub fn answer_indexed(space: &mut [u32], subgoal: u32, terms: &[u32], index: &[u32]) -> AnswerAnswer
     ensures { λ r. ⌜
-        Answers (now (space .entry)) (request.answer subgoal (now (terms .entry))) (saidAnswer r) [] (now (space .exit))
+        AnswersIndexed (now (index .entry)) (now (space .entry)) (request.answer subgoal (now (terms .entry)))
+        (saidAnswer r) [] (now (space .exit))
         ⌝ }
 {
     let read = read_header(space);
     match read {
         Header::Refused(r) => return AnswerAnswer::Refused(r),
-        Header::Sound(h) => return answer_in(space, h, wide(subgoal), terms),
+        Header::Sound(h) => return answer_in(space, h, wide(subgoal), terms, index),
     }
+}
+
+// The same without an index.
+pub fn answer(space: &mut [u32], subgoal: u32, terms: &[u32]) -> AnswerAnswer
+    ensures { λ r. ⌜
+        Answers (now (space .entry)) (request.answer subgoal (now (terms .entry))) (saidAnswer r) [] (now (space .exit))
+        ⌝ }
+{
+    answer_indexed(space, subgoal, terms, &terms[..0])
 }

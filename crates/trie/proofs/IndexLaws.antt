@@ -150,7 +150,7 @@ abbrev pub AsChains : Finding → Type 0
 AsChains find = (t : Trie) (parent token : ℕ) → Chained t parent token → find t parent token ≡ searchChildren t parent token
 
 -- what stands behind a sibling counts only where it is passed
-at-alike : (t : Trie) (parent token n : ℕ) (rest rest′ : Search)
+pub at-alike : (t : Trie) (parent token n : ℕ) (rest rest′ : Search)
     → (sound t n ≡ true → t .at n .parent ≡ parent → (t .at n .token ≡ token → ⊥) → (t .at n .sibling ≡ 0 → ⊥) → rest ≡ rest′)
     → atSibling t parent token n rest ≡ atSibling t parent token n rest′
 at-alike t parent token n rest rest′ f =
@@ -234,12 +234,20 @@ module _ (find : Finding) (t : Trie) (Met : ℕ → Type 0)
   unfolding walkBy
   walk-alike root xs m = by-cases (rootSound t root) (λ e. rw e (from-alike root xs m)) (λ e. rw e)
 
--- an index of no cells is none
-none-same : (t : Trie) (p x : ℕ) → searchIndexed [] t p x ≡ searchChildren t p x
-unfolding searchIndexed powerBelow
-none-same t p x = by-cases (eqb (t .at p .child) 0)
-    (λ z. rw z (children-none t p x (t .at p) refl (eqb-true _ _ z)))
-    (λ z. rw z)
+-- without slots that can be looked in, the chains alone are gone along
+pub unpowered : (index : List ℕ) (t : Trie) (parent token : ℕ) → powerOfTwo (length index) ≡ false → searchIndexed index t parent token ≡ searchChildren t parent token
+unfolding searchIndexed searchChildren
+unpowered index t parent token e = by-cases (eqb (t .at parent .child) 0) (λ z. rw z) (λ z. rw (z, e))
 
+-- so all such indexes are alike
+pub walk-unpowered : (index other : List ℕ) (t : Trie) (n : ℕ) (xs : List ℕ) → powerOfTwo (length index) ≡ false → powerOfTwo (length other) ≡ false
+    → walkFromBy (searchIndexed index) t n xs ≡ walkFromBy (searchIndexed other) t n xs
+walk-unpowered index other t n xs e f = chained index e ∙ sym (chained other f)
+  where
+    chained : (i : List ℕ) → powerOfTwo (length i) ≡ false → walkFromBy (searchIndexed i) t n xs ≡ walkFrom t n xs
+    chained i g = from-alike (searchIndexed i) t (λ p. Unit) (λ p x m. unpowered i t p x g) (λ p x c m z. tt) n xs tt
+
+-- an index of no cells is none
 pub walk-none : (t : Trie) (root : ℕ) (xs : List ℕ) → walkBy (searchIndexed []) t root xs ≡ walk t root xs
-walk-none t root xs = walk-alike (searchIndexed []) t (λ p. Unit) (λ p x m. none-same t p x) (λ p x c m e. tt) root xs tt
+unfolding powerBelow
+walk-none t root xs = walk-alike (searchIndexed []) t (λ p. Unit) (λ p x m. unpowered [] t p x refl) (λ p x c m e. tt) root xs tt

@@ -4,7 +4,9 @@ pub mod AppendLaws
 pub mod WalkLaws
 pub mod IndexLaws
 pub mod BuildLaws
+pub mod SlotLaws
 mod SearchCases
+mod TurnCases
 mod WalkCases
 mod PathCases
 mod AppendCases

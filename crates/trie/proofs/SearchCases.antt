@@ -3,14 +3,25 @@ use Prim.Native.Nat.{ℕ, suc, zero, _+_, _<_, _≤_}
 use mathlib.Core.Path.{_≡_, refl, sym, ap, _∙_}
 use mathlib.Core.Bool.{true, false}
 use native.Mathlib.Omega.{arith}
+use lib.Dec.{eqb}
 use borrow.Author.Tests.{eq-eqb, ne-eqb}
 use Rattle.space.specs.Judging.{readNode}
 use Rattle.space.specs.declared.Node.{Node}
 use Rattle.space.specs.declared.NodeRead.the-variants as node
 use Rattle.space.proofs.JudgingLaws.{node-bounds, follows-rises, follows-within, read-node-sound, read-node-damaged}
-use Rattle.trie.specs.Siblings.{Trie, sound, searchSiblings, searchChildren}
+use Rattle.trie.specs.Siblings.{Trie, sound, parentIs, atSibling, searchSiblings, searchChildren}
 use Rattle.trie.specs.declared.Search.{Search}
 use Rattle.trie.specs.declared.Search.the-variants.{Found, Last, Damaged}
+
+-- the parent of a node that is named, or of none
+module _ (at : ℕ → Node) (n p : ℕ) where
+  pub parent-none : n ≡ 0 → true ≡ parentIs at n p
+  unfolding parentIs
+  parent-none z = simp (eq-eqb _ _ z)
+
+  pub parent-of : (n ≡ 0 → ⊥) → (y : Node) → y ≡ at n → eqb (y .parent) p ≡ parentIs at n p
+  unfolding parentIs
+  parent-of z y e = ap (λ (x : Node). eqb (x .parent) p) e ∙ simp (ne-eqb _ _ z)
 
 -- one step of the search at node n
 module _ (steps : ℕ) (t : Trie) (parent token n : ℕ) where
@@ -37,6 +48,55 @@ module _ (steps : ℕ) (t : Trie) (parent token n : ℕ) where
         unfolding searchSiblings
         search-next r = simp (e, eq-eqb _ _ p, ne-eqb _ _ q, ne-eqb _ _ r)
 
+-- the search has come to n and gives w, where `rest` is what it gives behind n
+pub record Here (t : Trie) (parent token n : ℕ) (rest w : Search) : Type 0 where
+  pub gives : w ≡ atSibling t parent token n rest
+
+-- over the record that was read at n
+module _ {t : Trie} {parent token n : ℕ} {rest w : Search} (a : Here t parent token n rest w) where
+  pub at-damaged : node.Damaged ≡ readNode (t .nodes) (t .links) (t .at) n → Damaged ≡ w
+  at-damaged e = sym (a .gives ∙ simp (read-node-damaged (t .nodes) (t .links) (t .at) n e))
+
+  module _ (y : Node) (e : node.Sound y ≡ readNode (t .nodes) (t .links) (t .at) n) where
+    is : y ≡ t .at n
+    is = read-node-sound (t .nodes) (t .links) (t .at) n e .0
+
+    judged : sound t n ≡ true
+    judged = read-node-sound (t .nodes) (t .links) (t .at) n e .1
+
+    pub at-stray : (y .parent ≡ parent → ⊥) → Damaged ≡ w
+    at-stray p = sym (a .gives ∙ simp (judged, ne-eqb _ _ (λ (x : t .at n .parent ≡ parent). p (ap (λ (z : Node). z .parent) is ∙ x))))
+
+    module _ (p : y .parent ≡ parent) where
+      own : eqb (t .at n .parent) parent ≡ true
+      own = eq-eqb _ _ (sym (ap (λ (z : Node). z .parent) is) ∙ p)
+
+      pub at-found : y .token ≡ token → Found n ≡ w
+      at-found q = sym (a .gives ∙ simp (judged, own, eq-eqb _ _ (sym (ap (λ (z : Node). z .token) is) ∙ q)))
+
+      module _ (q : y .token ≡ token → ⊥) where
+        other : eqb (t .at n .token) token ≡ false
+        other = ne-eqb _ _ (λ (x : t .at n .token ≡ token). q (ap (λ (z : Node). z .token) is ∙ x))
+
+        pub at-last : y .sibling ≡ 0 → Last n ≡ w
+        at-last r = sym (a .gives ∙ simp (judged, own, other, eq-eqb _ _ (sym (ap (λ (z : Node). z .sibling) is) ∙ r)))
+
+        module _ (r : y .sibling ≡ 0 → ⊥) (l : n < t .nodes) where
+          sibling-is : y .sibling ≡ t .at n .sibling
+          sibling-is = ap (λ (z : Node). z .sibling) is
+
+          some : t .at n .sibling ≡ 0 → ⊥
+          some x = r (sibling-is ∙ x)
+
+          -- the sibling, which is above n and within, and what stands behind n
+          pub at-next : (n < y .sibling) × (y .sibling < t .nodes) × (y .sibling ≡ t .at n .sibling) × (w ≡ rest)
+          at-next =
+              let b = node-bounds (t .nodes) (t .links) n (t .at n) judged in
+              let e = sibling-is in
+              let up : n < t .at n .sibling = follows-rises (t .nodes) n (t .at n .sibling) (b .sibling-follows) some in
+              let in′ : t .at n .sibling < t .nodes = follows-within (t .nodes) n (t .at n .sibling) (omega arith) (b .sibling-follows) in
+              (omega arith, omega arith, e, a .gives ∙ simp (judged, own, other, ne-eqb _ _ some))
+
 -- the chain has come to n; `steps` are left, enough for every node from n on, and give w
 pub record Chain (t : Trie) (parent token n : ℕ) (w : Search) : Type 0 where
   pub steps : ℕ
@@ -61,47 +121,36 @@ module _ {t : Trie} {parent token n : ℕ} {w : Search} (a : Chain t parent toke
   first : Step t parent token n w
   first = step (a .steps) t parent token n w (a .within) (a .enough) (a .same)
 
+  opened : Here t parent token n (searchSiblings (first .steps) t parent token (t .at n .sibling)) w
+  unfolding searchSiblings
+  opened = record { gives = first .same }
+
   pub chain-damaged : node.Damaged ≡ readNode (t .nodes) (t .links) (t .at) n → Damaged ≡ w
-  chain-damaged e = sym (first .same ∙ search-unsound (first .steps) t parent token n (read-node-damaged (t .nodes) (t .links) (t .at) n e))
+  chain-damaged = at-damaged opened
 
   module _ (y : Node) (e : node.Sound y ≡ readNode (t .nodes) (t .links) (t .at) n) where
-    is : y ≡ t .at n
-    is = read-node-sound (t .nodes) (t .links) (t .at) n e .0
-
-    judged : sound t n ≡ true
-    judged = read-node-sound (t .nodes) (t .links) (t .at) n e .1
-
     pub chain-stray : (y .parent ≡ parent → ⊥) → Damaged ≡ w
-    chain-stray p = sym (first .same ∙ search-stray (first .steps) t parent token n judged (λ x. p (ap (λ (z : Node). z .parent) is ∙ x)))
+    chain-stray = at-stray opened y e
 
     module _ (p : y .parent ≡ parent) where
-      parent-is : t .at n .parent ≡ parent
-      parent-is = sym (ap (λ (z : Node). z .parent) is) ∙ p
-
       pub chain-found : y .token ≡ token → Found n ≡ w
-      chain-found q = sym (first .same ∙ search-same (first .steps) t parent token n judged parent-is (sym (ap (λ (z : Node). z .token) is) ∙ q))
+      chain-found = at-found opened y e p
 
       module _ (q : y .token ≡ token → ⊥) where
-        other : t .at n .token ≡ token → ⊥
-        other x = q (ap (λ (z : Node). z .token) is ∙ x)
-
         pub chain-last : y .sibling ≡ 0 → Last n ≡ w
-        chain-last r = sym (first .same ∙ search-last (first .steps) t parent token n judged parent-is other (sym (ap (λ (z : Node). z .sibling) is) ∙ r))
+        chain-last = at-last opened y e p q
 
         pub chain-next : (y .sibling ≡ 0 → ⊥) → (n < y .sibling) × Chain t parent token (y .sibling) w
         chain-next r =
-            let b = node-bounds (t .nodes) (t .links) n (t .at n) judged in
-            let s : y .sibling ≡ t .at n .sibling = ap (λ (z : Node). z .sibling) is in
-            let r′ : t .at n .sibling ≡ 0 → ⊥ = λ x. r (s ∙ x) in
-            let up : n < t .at n .sibling = follows-rises (t .nodes) n (t .at n .sibling) (b .sibling-follows) r′ in
-            let in′ : t .at n .sibling < t .nodes = follows-within (t .nodes) n (t .at n .sibling) (let l = a .within in omega arith) (b .sibling-follows) in
+            let x = at-next opened y e p q r (a .within) in
+            let up : n < y .sibling = x .0 in
             let m = first .enough in (
-              omega arith,
+              up,
               record {
                 steps = first .steps;
-                within = omega arith;
+                within = x .1;
                 enough = omega arith;
-                same = first .same ∙ search-next (first .steps) t parent token n judged parent-is other r′ ∙ ap (searchSiblings (first .steps) t parent token) (sym s);
+                same = x .3 ∙ ap (searchSiblings (first .steps) t parent token) (sym (x .2));
               },
             )
 

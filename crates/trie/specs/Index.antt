@@ -4,15 +4,18 @@
 -- sibling chain: whatever an index holds, it cannot change what is found in a space that calls made. Only a build
 -- writes an index. It enters the children of nodes that have more than 8.
 use Prim.Native.Nat.{ℕ, suc, zero, _+_, _*_, _%_, _^_}
-use mathlib.Core.Bool.{Bool, false, not, _&&_, _||_}
+use mathlib.Core.Bool.{Bool, true, false, not, _&&_, _||_}
 use mathlib.Core.List.{List, [], _∷_, _++_}
+use mathlib.Core.Path.{_≡_}
 use lib.Dec.{eqb, ltb, leb}
 use lib.ListN.{length, getD, set}
 use Rattle.basis.specs.Choice.{pick}
-use Rattle.trie.specs.Siblings.{Trie, sound, atSibling, searchSiblings, searchChildren}
-use Rattle.trie.specs.Walks.{Finding}
+use Rattle.space.specs.Layout.{sizes}
+use Rattle.trie.specs.Siblings.{Trie, trieIn, sound, atSibling, searchSiblings, searchChildren}
+use Rattle.trie.specs.Walks.{Finding, walkFromBy, walkBy, shown}
 use Rattle.trie.specs.declared.Search.{Search}
 use Rattle.trie.specs.declared.Search.the-variants.{Found, Last, Damaged}
+use Rattle.trie.specs.declared.Walked.{Walked}
 
 -- ---- slots
 
@@ -24,6 +27,10 @@ powerBelow (suc k) n = eqb n (2 ^ k) || powerBelow k n
 -- every power of two is above its exponent, so n powers are enough to look at
 abbrev pub powerOfTwo : ℕ → Bool
 powerOfTwo n = powerBelow n n
+
+-- the slots that are looked in: all, or none where their number is no power of two
+unfoldable pub usedSlots : ℕ → ℕ
+usedSlots size = pick (powerOfTwo size) size 0
 
 -- where the child with this parent and token is looked for first: the 32-bit wrapping sum, modulo the size
 unfoldable pub slotOf : ℕ → ℕ → ℕ → ℕ
@@ -76,6 +83,37 @@ searchIndexed index t parent token =
     (pick (powerOfTwo (length index))
     (searchInTurn (t .nodes) t index parent token (slotOf (length index) parent token) (t .at parent .child))
     (searchChildren t parent token))
+
+-- ---- in the cells of a space, as the functions that search say it
+
+-- the number of slots is a power of two
+abbrev pub powered : List ℕ → Type 0
+powered index = powerOfTwo (length index) ≡ true
+
+-- or there is none
+abbrev pub Slotted : List ℕ → Type 0
+Slotted index = (length index ≡ 0 → ⊥) → powered index
+
+-- links have no part in it
+unfoldable pub confirmedIn : List ℕ → (nodes parent token x : ℕ) → Bool
+confirmedIn cs nodes parent token x = confirmed (trieIn sizes cs nodes 0) parent token x
+
+-- a confirmed entry, judged
+unfoldable pub judgedIn : List ℕ → (nodes links x : ℕ) → Search
+judgedIn cs nodes links x = pick (sound (trieIn sizes cs nodes links) x) (Found x) Damaged
+
+unfoldable pub turnedIn : List ℕ → (nodes links parent first token : ℕ) → List ℕ → Search
+turnedIn cs nodes links parent first token index =
+    searchInTurn nodes (trieIn sizes cs nodes links) index parent token (slotOf (length index) parent token) first
+
+-- the walk, as the code answers
+abbrev pub walkedIn : List ℕ → (nodes links root : ℕ) → (tokens index : List ℕ) → Walked
+walkedIn cs nodes links root tokens index =
+    shown (walkBy (searchIndexed index) (trieIn sizes cs nodes links) root tokens)
+
+abbrev pub walkedBelow : List ℕ → (nodes links start : ℕ) → (tokens index : List ℕ) → Walked
+walkedBelow cs nodes links start tokens index =
+    shown (walkFromBy (searchIndexed index) (trieIn sizes cs nodes links) start tokens)
 
 -- ---- build
 

@@ -1,6 +1,6 @@
 -- A trie as it is read, and the search among the children of a node.
 use Prim.Native.Nat.{ℕ, suc, zero}
-use mathlib.Core.Bool.{Bool, _&&_}
+use mathlib.Core.Bool.{Bool, true, _&&_}
 use mathlib.Core.List.{List}
 use lib.Dec.{eqb}
 use Rattle.basis.specs.Choice.{pick}
@@ -24,6 +24,10 @@ trieIn z cs nodes links = record { at = nodeIn z cs; nodes = nodes; links = link
 -- is node n sound?
 abbrev pub sound : Trie → ℕ → Bool
 sound t n = nodeSound (t .nodes) (t .links) n (t .at n)
+
+-- no node n is named, or one with this parent
+unfoldable pub parentIs : (ℕ → Node) → ℕ → ℕ → Bool
+parentIs at n p = pick (eqb n 0) true (eqb (at n .parent) p)
 
 -- child n of `parent`, and what the search among the siblings behind it gives. The node is judged whole before its
 -- token is compared.

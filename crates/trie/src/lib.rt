@@ -1,7 +1,9 @@
 // Tries in a space: search, walk, gather, append.
 pub mod appends;
+pub mod lookups;
 pub mod paths;
 pub mod siblings;
+pub mod slots;
 pub mod walks;
 
 // The child found, or the last sibling, 0 where there is none.

@@ -1,4 +1,4 @@
-// The search among the children of a node.
+// The search among the children of a node, and whether a node that another names has the parent that it must.
 use super::Search;
 use space::NodeRead;
 use space::records::node_in;
@@ -6,9 +6,21 @@ use space::records::read_node;
 ghost use mathlib.Core.Path.{_≡_};
 ghost use mathlib.Core.Bool.{true};
 ghost use Prim.Native.Nat.{_<_};
-ghost use Rattle.space.specs.Layout.{sizes};
-ghost use Rattle.space.specs.Sound.{NodesIn};
-ghost use Rattle.trie.specs.Siblings.{trieIn, sound, searchSiblings, searchChildren};
+ghost use Rattle.space.specs.Layout.{sizes, nodeIn};
+ghost use Rattle.space.specs.Sound.{NodesIn, NodeOf};
+ghost use Rattle.trie.specs.Siblings.{trieIn, sound, parentIs, searchSiblings, searchChildren};
+
+// Is there no node n, or one with this parent?
+pub fn parent_is(space: &[u32], nodes: usize, n: usize, parent: usize) -> bool
+    requires { ⌜ NodeOf (now space) nodes n ⌝ }
+    ensures { λ r. ⌜ r ≡ parentIs (nodeIn sizes (now (space .entry))) n parent ⌝ }
+{
+    if n == 0 {
+        return true;
+    }
+    let y = node_in(space, nodes, n);
+    y.parent == parent
+}
 
 // The siblings from `first` on, children of `parent`.
 pub fn search_siblings(

@@ -1,7 +1,8 @@
-// The walk of a list of tokens from a root.
+// The walk of a list of tokens from a root, with an index; one of no cells is none.
 use super::Search;
 use super::Walked;
-use super::siblings::search_children;
+use super::lookups::search_indexed;
+use super::slots::used_slots;
 use space::NodeRead;
 use space::records::read_node;
 ghost use mathlib.Core.Path.{_≡_};
@@ -10,19 +11,27 @@ ghost use Prim.Native.Nat.{_<_};
 ghost use Rattle.space.specs.Layout.{sizes};
 ghost use Rattle.space.specs.Sound.{NodesIn};
 ghost use Rattle.trie.specs.Siblings.{trieIn, sound};
-ghost use Rattle.trie.specs.Walks.{walkFrom, walk, shown};
+ghost use Rattle.trie.specs.Index.{Slotted, walkedBelow, walkedIn};
 
 // The walk below a node that was read and found sound.
-fn walk_from(space: &[u32], nodes: usize, links: usize, start: usize, tokens: &[u32]) -> Walked
-    requires { ⌜ NodesIn (now space) nodes × (start < nodes) ⌝ }
+fn walk_from(
+    space: &[u32],
+    nodes: usize,
+    links: usize,
+    start: usize,
+    tokens: &[u32],
+    index: &[u32],
+) -> Walked
+    requires { ⌜ NodesIn (now space) nodes × (start < nodes) × Slotted (now index) ⌝ }
     requires { ⌜ sound (trieIn sizes (now space) nodes links) start ≡ true ⌝ }
-    ensures { λ r.
-        ⌜ r ≡ shown (walkFrom (trieIn sizes (now (space .entry)) nodes links) start (now (tokens .entry))) ⌝ }
+    ensures { λ r. ⌜
+        r ≡ walkedBelow (now (space .entry)) nodes links start (now (tokens .entry)) (now (index .entry))
+        ⌝ }
 {
     let mut n = start;
     let mut i = 0;
     while i < tokens.len() {
-        let found = search_children(space, nodes, links, n, tokens[i]);
+        let found = search_indexed(space, nodes, links, n, tokens[i], index);
         match found {
             Search::Found(child) => {
                 n = child;
@@ -35,16 +44,26 @@ fn walk_from(space: &[u32], nodes: usize, links: usize, start: usize, tokens: &[
     Walked::Whole(n)
 }
 
-// The walk from a root.
-pub fn walk_tokens(space: &[u32], nodes: usize, links: usize, root: usize, tokens: &[u32]) -> Walked
+// The walk from a root. Slots whose number is no power of two are left aside.
+pub fn walk_tokens(
+    space: &[u32],
+    nodes: usize,
+    links: usize,
+    root: usize,
+    tokens: &[u32],
+    index: &[u32],
+) -> Walked
     requires { ⌜ NodesIn (now space) nodes × (root < nodes) ⌝ }
-    ensures { λ r. ⌜ r ≡ shown (walk (trieIn sizes (now (space .entry)) nodes links) root (now (tokens .entry))) ⌝ }
+    ensures { λ r. ⌜
+        r ≡ walkedIn (now (space .entry)) nodes links root (now (tokens .entry)) (now (index .entry))
+        ⌝ }
 {
     let NodeRead::Sound(y) = read_node(space, nodes, links, root) else {
         return Walked::Damaged;
     };
-    if y.parent == root {
-        return walk_from(space, nodes, links, root, tokens);
+    if y.parent != root {
+        return Walked::Damaged;
     }
-    Walked::Damaged
+    let used = used_slots(index.len());
+    walk_from(space, nodes, links, root, tokens, &index[..used])
 }

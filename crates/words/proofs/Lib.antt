@@ -1,3 +1,4 @@
 pub mod ReplyBounds
 pub mod WordLaws
 pub mod FaultBounds
+pub mod BuildBounds

@@ -31,12 +31,13 @@ use Rattle.space.specs.declared.Header.{Header}
 use Rattle.space.specs.declared.Header.the-variants as header
 use Rattle.space.specs.declared.Capacity.{Capacity}
 use Rattle.space.specs.declared.Capacity.the-variants.{Whole, Broken}
-use Rattle.trie.specs.Walks.{Walk, whole, stopped, damaged, rootSound, walk}
+use Rattle.trie.specs.Siblings.{searchChildren}
+use Rattle.trie.specs.Walks.{Walk, whole, stopped, damaged, rootSound, Finding, walkBy}
 use Rattle.trie.specs.Paths.{Path, tokens, gather, longest}
 use Rattle.trie.specs.Paths as path
 use Rattle.store.specs.Views.{View, viewOf, subgoalTrie, answerTrie}
-use Rattle.store.specs.Decisions.{Decision, says, gives, entersSubgoal, entersAnswer, entersEmpty, finishes, entersAnswers, refuses, soundSubgoal, soundAnswer, soundAnswerOf, sound, known, stateOf, soundLast, whileOpen, calledOld, calledNew, calledAt, called, calledBy, answeredNew, answeredOld, answeredAt, answered, answeredBy, starting, handed, onward, onPath, loaded, instanced, soundPair, Chain, broken, unbroken, chainOf, onChains, sideIn, allSound, nodesNeeded, answersNeeded, joining, joiningBy, soundTarget, decide, decideBy}
-use Rattle.store.specs.Calls.{reply, under, underBy, underAny, underAnyBy, spaceStep, spaceStepBy}
+use Rattle.store.specs.Decisions.{Decision, says, gives, entersSubgoal, entersAnswer, entersEmpty, finishes, entersAnswers, refuses, soundSubgoal, soundAnswer, soundAnswerOf, sound, known, stateOf, soundLast, whileOpen, calledOld, calledNew, calledAt, calledBy, answeredNew, answeredOld, answeredAt, answeredBy, starting, handed, onward, onPath, loaded, instanced, soundPair, Chain, broken, unbroken, chainOf, onChains, sideIn, allSoundBy, nodesNeededBy, answersNeededBy, joiningBy, soundTarget, decideBy}
+use Rattle.store.specs.Calls.{reply, underBy, underAnyBy, spaceStepBy}
 use Rattle.words.specs.Words.{saidFresh}
 use Rattle.words.specs.Bounded.{Bounded}
 
@@ -178,12 +179,12 @@ abbrev SmallReading : Reading → Type 0
 SmallReading (refused r) = r ≤ 16
 SmallReading (accepted w m) = Unit {0}
 
-abbrev SmallHeader : Header → Type 0
+abbrev pub SmallHeader : Header → Type 0
 SmallHeader (header.Sound h) = Unit {0}
 SmallHeader (header.Refused r) = r ≤ 16
 
--- the calls on a space of edition ed
-module _ (ed : ℕ) where
+-- the calls on a space of edition ed, by any way of finding a child
+module _ (find : Finding) (ed : ℕ) where
   handed-on-small : (m : ℕ) (cs : List ℕ) (x : forms.Reading) (legal : Reading) → x ≡ reading (arityOf ed) m cs → SmallReading legal → SmallReading (handedOn x legal)
   unfolding handedOn
   handed-on-small m cs (Form n v) legal e f = f
@@ -201,15 +202,15 @@ module _ (ed : ℕ) where
   callable-small true cs = compacted-small cs
   callable-small false cs = omega arith
 
-  small-called : (v : View) (r : Reading) → SmallReading r → Small (called v r)
+  small-called : (v : View) (r : Reading) → SmallReading r → Small (calledBy find v r)
   unfolding calledBy
   small-called v (refused r) f = f
-  small-called v (accepted w m) f = small-called-at v (walk (subgoalTrie v) 0 w) m
+  small-called v (accepted w m) f = small-called-at v (walkBy find (subgoalTrie v) 0 w) m
 
-  small-answered : (v : View) (s : ℕ) (r : Reading) → SmallReading r → Small (answered v s r)
+  small-answered : (v : View) (s : ℕ) (r : Reading) → SmallReading r → Small (answeredBy find v s r)
   unfolding answeredBy
   small-answered v s (refused r) f = f
-  small-answered v s (accepted w m) f = small-answered-at v s w (walk (answerTrie v) (v .subgoal s .root) w)
+  small-answered v s (accepted w m) f = small-answered-at v s w (walkBy find (answerTrie v) (v .subgoal s .root) w)
 
   -- ---- the header
 
@@ -262,35 +263,35 @@ module _ (ed : ℕ) where
       (λ w l. small-instanced v s w (legal-cells (arityOf ed) (g .variables) w l))
 
   -- a join: reading refuses by 3 to 5, the rule by 8 and 14 to 16
-  small-joining : (v : View) (s m : ℕ) (x : Forms) → Read (codingOf ed) m x → Small (joining v s x)
+  small-joining : (v : View) (s m : ℕ) (x : Forms) → Read (codingOf ed) m x → Small (joiningBy find v s x)
   unfolding joiningBy
   small-joining v s m (declined r) e = omega (arith, compact-laws (arityOf ed) .answered-refused m (e .0) r (e .1) .1)
   small-joining v s m (formed ws) e =
-      small-sound _ (allSound v s ws && pick (eqb (answersNeeded v s [] ws) 0) true (soundLast v s)) (λ q.
-      small-tests (leb (v .nodes + nodesNeeded v s [] ws) (v .N)) (leb (v .answers + answersNeeded v s [] ws) (v .A)) (entersAnswers s ws) 11 10 (omega arith) (omega arith) tt)
+      small-sound _ (allSoundBy find v s ws && pick (eqb (answersNeededBy find v s [] ws) 0) true (soundLast v s)) (λ q.
+      small-tests (leb (v .nodes + nodesNeededBy find v s [] ws) (v .N)) (leb (v .answers + answersNeededBy find v s [] ws) (v .A)) (entersAnswers s ws) 11 10 (omega arith) (omega arith) tt)
 
-  small-declined : (v : View) (s r : ℕ) → r ≤ 16 → Small (joining v s (declined r))
+  small-declined : (v : View) (s r : ℕ) → r ≤ 16 → Small (joiningBy find v s (declined r))
   unfolding joiningBy
   small-declined v s r h = h
 
-  small-chains : (v : View) (s f g : ℕ) (ps cs : List ℕ) (x y : Chain) → Small (onChains x y (λ us vs. joining v s (joinOf (codingOf ed) (sideIn v f us) (sideIn v g vs) ps (stateOf (v .subgoal s .state)) (v .subgoal s .variables) cs)))
+  small-chains : (v : View) (s f g : ℕ) (ps cs : List ℕ) (x y : Chain) → Small (onChains x y (λ us vs. joiningBy find v s (joinOf (codingOf ed) (sideIn v f us) (sideIn v g vs) ps (stateOf (v .subgoal s .state)) (v .subgoal s .variables) cs)))
   unfolding onChains
   small-chains v s f g ps cs broken y = omega arith
   small-chains v s f g ps cs (unbroken us) broken = omega arith
   small-chains v s f g ps cs (unbroken us) (unbroken vs) =
-      join-cases (λ x. Small (joining v s x)) (codingOf ed) (sideIn v f us) (sideIn v g vs) ps (stateOf (v .subgoal s .state)) (v .subgoal s .variables) cs
+      join-cases (λ x. Small (joiningBy find v s x)) (codingOf ed) (sideIn v f us) (sideIn v g vs) ps (stateOf (v .subgoal s .state)) (v .subgoal s .variables) cs
       (small-declined v s 8 (omega arith)) (small-declined v s 14 (omega arith)) (small-declined v s 15 (omega arith)) (small-declined v s 16 (omega arith))
       (λ o. small-joining v s (v .subgoal s .variables) _ (all-read (codingOf ed) (v .subgoal s .variables) _))
 
-  decide-small : (v : View) (q : Request) → Small (decide (codingOf ed) v q)
+  decide-small : (v : View) (q : Request) → Small (decideBy find (codingOf ed) v q)
   unfolding decideBy
   decide-small v (call cs) =
       small-called v ((codingOf ed) .called cs) (judged-small 1 cs (pick (predicate cs) (compacted (arityOf ed) cs) (refused 6)) (callable-small (predicate cs) cs))
   decide-small v (answer s cs) =
       let g = v .subgoal s in
       let r = (codingOf ed) .answered (g .variables) cs in
-      small-known (sound (soundSubgoal v s && rootSound (answerTrie v) (g .root)) (answered v s r)) (v .subgoals) s
-      (small-sound (answered v s r) (soundSubgoal v s && rootSound (answerTrie v) (g .root))
+      small-known (sound (soundSubgoal v s && rootSound (answerTrie v) (g .root)) (answeredBy find v s r)) (v .subgoals) s
+      (small-sound (answeredBy find v s r) (soundSubgoal v s && rootSound (answerTrie v) (g .root))
       (λ q. small-answered v s r (judged-small (g .variables) cs (compacted (arityOf ed) cs) (compacted-small cs))))
   decide-small v (finish s) =
       small-known (sound (soundSubgoal v s) (finishes s)) (v .subgoals) s (small-sound (finishes s) (soundSubgoal v s) (λ q. tt))
@@ -318,23 +319,23 @@ module _ (ed : ℕ) where
   reply-bounded v (finishes s) room after f = tt
   reply-bounded v (entersAnswers s ws) room after f = tt
 
-  under-bounded : (s : List ℕ) (q : Request) (h : Header) → SmallHeader h → Bounded (under (sizesOf ed) (codingOf ed) s q h .reply)
+  under-bounded : (s : List ℕ) (q : Request) (h : Header) → SmallHeader h → Bounded (underBy find (sizesOf ed) (codingOf ed) s q h .reply)
   unfolding underBy
-  under-bounded s q (header.Sound h) f = reply-bounded (viewOf (sizesOf ed) s h) (decide (codingOf ed) (viewOf (sizesOf ed) s h) q) (length (lent q)) _ (decide-small (viewOf (sizesOf ed) s h) q)
+  under-bounded s q (header.Sound h) f = reply-bounded (viewOf (sizesOf ed) s h) (decideBy find (codingOf ed) (viewOf (sizesOf ed) s h) q) (length (lent q)) _ (decide-small (viewOf (sizesOf ed) s h) q)
   under-bounded s q (header.Refused r) f = f
 
-any-small : (s : List ℕ) → SmallHeader (spaceHeader s)
+pub any-small : (s : List ℕ) → SmallHeader (spaceHeader s)
 unfolding spaceHeader
-any-small s = by-cases (knownEdition (getD s 0 0)) (λ q. rw q (header-small (getD s 0 0) s)) (λ q. rw q (omega arith))
+any-small s = by-cases (knownEdition (getD s 0 0)) (λ q. rw q (header-small searchChildren (getD s 0 0) s)) (λ q. rw q (omega arith))
 
-any-bounded : (s : List ℕ) (q : Request) (h : Header) → SmallHeader h → Bounded (underAny s q h .reply)
+any-bounded : (find : Finding) (s : List ℕ) (q : Request) (h : Header) → SmallHeader h → Bounded (underAnyBy find s q h .reply)
 unfolding underAnyBy
-any-bounded s q (header.Sound h) f = under-bounded (h .edition) s q (header.Sound h) f
-any-bounded s q (header.Refused r) f = f
+any-bounded find s q (header.Sound h) f = under-bounded find (h .edition) s q (header.Sound h) f
+any-bounded find s q (header.Refused r) f = f
 
-pub step-bounded : (s : List ℕ) (q : Request) → Bounded (spaceStep s q .reply)
+pub step-bounded : (find : Finding) (s : List ℕ) (q : Request) → Bounded (spaceStepBy find s q .reply)
 unfolding spaceStepBy
-step-bounded s q = any-bounded s q (spaceHeader s) (any-small s)
+step-bounded find s q = any-bounded find s q (spaceHeader s) (any-small s)
 
 pub fresh-bounded : (e n f a : ℕ) (s : List ℕ) → Bounded (saidFresh (freshAnswerIn e n f a s))
 unfolding freshAnswerIn freshAnswer

@@ -2,6 +2,8 @@
 use Prim.Native.Nat.{_^_, _≤_, _<_}
 use Rattle.plain.specs.Requests.{Reply, new, oldSubgoal, oldAnswer, done, at, noneYet, noMore, cells, used, joined}
 use Rattle.plain.specs.Requests.{refused, short}
+use Rattle.store.specs.Building.{BuildReply}
+use Rattle.store.specs.Building as build
 use Rattle.agreement.specs.Faults.{Fault, nothing, heading, node, subgoal, answer}
 
 abbrev pub Bounded : Reply → Type 0
@@ -25,3 +27,8 @@ FaultBounded heading = Unit {0}
 FaultBounded (node n) = n < 2 ^ 28
 FaultBounded (subgoal s) = s < 2 ^ 28
 FaultBounded (answer a) = a < 2 ^ 28
+
+-- Answers of the build that it holds: their refusal's number and their count of children are small.
+abbrev pub BuildBounded : BuildReply → Type 0
+BuildBounded (build.built n) = n < 2 ^ 32
+BuildBounded (build.refused r) = r ≤ 17

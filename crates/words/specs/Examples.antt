@@ -10,7 +10,8 @@ use Rattle.space.specs.Heading.{inRange, capacity, whole, counted, headerOf, sp
 use Rattle.space.specs.Fresh.{freshCells, freshFits, freshAnswer, freshAnswerIn}
 use Rattle.store.specs.Decisions.{decideBy}
 use Rattle.store.specs.Calls.{reply, underBy, underAnyBy, spaceStep, spaceStepBy}
-use Rattle.words.specs.Words.{word, saidFresh, counting, countsReply, countsOut, countsOf}
+use Rattle.store.specs.Building as build
+use Rattle.words.specs.Words.{word, saidFresh, counting, countsReply, countsOut, countsOf, wordBuild}
 
 -- a fresh space for four nodes, two subgoals and one answer: 43 cells
 abbrev space : List ℕ
@@ -31,6 +32,15 @@ pub words :
     × (word (short 383) ≡ 268 * 2 ^ 32 + 383)
 unfolding word
 words = (refl, refl, refl, refl, refl, refl, refl, refl, refl, refl, refl)
+
+pub builds :
+    -- that no child enters is no refusal
+    (wordBuild (build.built 0) ≡ 11 * 2 ^ 32)
+    × (wordBuild (build.built 9) ≡ 47244640265)
+    -- 256 + 17
+    × (wordBuild (build.refused 17) ≡ 273 * 2 ^ 32)
+unfolding wordBuild
+builds = (refl, refl, refl)
 
 pub calls :
     -- its cells are room for a space like it, and not for one with an answer more

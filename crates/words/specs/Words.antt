@@ -11,7 +11,12 @@ use Rattle.plain.specs.Requests.{refused, short}
 use Rattle.space.specs.declared.FreshAnswer.{FreshAnswer}
 use Rattle.space.specs.declared.FreshAnswer.the-variants as fresh
 use Rattle.space.specs.Fresh.{freshAnswerIn, freshSpaceIn}
-use Rattle.store.specs.Calls.{spaceStep, Answers}
+use Rattle.trie.specs.Siblings.{searchChildren}
+use Rattle.trie.specs.Walks.{Finding}
+use Rattle.trie.specs.Index.{searchIndexed}
+use Rattle.store.specs.Calls.{spaceStep, AnswersBy, Answers}
+use Rattle.store.specs.Building.{BuildReply, buildIndex}
+use Rattle.store.specs.Building as build
 use Rattle.agreement.specs.Faults.{Fault, nothing, heading, node, subgoal, answer, faultOf}
 
 -- what was answered in the upper half, its value in the lower
@@ -46,8 +51,16 @@ ReturnsFresh e nodes subgoals answers before w after =
     × (after ≡ freshSpaceIn e nodes subgoals answers before)
 
 -- An export returns w: the word of what the call answers. The contract of every exported call but `tables_counts`.
+abbrev pub ReturnsBy : Finding → List ℕ → Request → ℕ → List ℕ → List ℕ → Type 0
+ReturnsBy find before q w out after = (r : Reply) × AnswersBy find before q r out after × (w ≡ word r)
+
+-- without an index
 abbrev pub Returns : List ℕ → Request → ℕ → List ℕ → List ℕ → Type 0
-Returns before q w out after = (r : Reply) × Answers before q r out after × (w ≡ word r)
+Returns = ReturnsBy searchChildren
+
+-- with one
+abbrev pub ReturnsIndexed : List ℕ → List ℕ → Request → ℕ → List ℕ → List ℕ → Type 0
+ReturnsIndexed index = ReturnsBy (searchIndexed index)
 
 -- ---- `tables_counts`
 
@@ -101,3 +114,15 @@ wordCheck (answer a) = worded (256 + 9) (brokenRecord 3 a)
 -- `tables_check` returns the word of what is broken first in the space
 abbrev pub ReturnsCheck : List ℕ → ℕ → Type 0
 ReturnsCheck space w = w ≡ wordCheck (faultOf space)
+
+-- ---- `tables_build`
+
+-- the value is the number of children entered
+unfoldable pub wordBuild : BuildReply → ℕ
+wordBuild (build.built n) = worded 11 n
+wordBuild (build.refused r) = worded (256 + r) 0
+
+-- `tables_build` returns w, the word of what the build answers, and leaves this index
+abbrev pub ReturnsBuild : List ℕ → List ℕ → ℕ → List ℕ → Type 0
+ReturnsBuild space before w after =
+    (w ≡ wordBuild (buildIndex space before .reply)) × (after ≡ buildIndex space before .index)

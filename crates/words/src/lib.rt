@@ -3,6 +3,7 @@ use basis::refusals::HEADER;
 use basis::refusals::OUT;
 use basis::refusals::RECORDS;
 use forms::Answer;
+use indexing::BuildAnswer;
 use integrity::CheckAnswer;
 use space::FreshAnswer;
 use store::AnswerAnswer;
@@ -17,8 +18,9 @@ ghost use Rattle.plain.specs.Requests as request;
 ghost use Rattle.store.specs.Replies.{saidState, saidCall, saidAnswer, saidFinish, saidNext};
 ghost use Rattle.store.specs.Replies.{saidJoin, saidCells};
 ghost use Rattle.integrity.specs.Tests.{saidCheck};
-ghost use Rattle.words.specs.Words.{worded, word, saidFresh, brokenRecord, wordCheck};
-ghost use Rattle.words.specs.Bounded.{Bounded, FaultBounded};
+ghost use Rattle.indexing.specs.Parts.{saidBuild};
+ghost use Rattle.words.specs.Words.{worded, word, saidFresh, brokenRecord, wordCheck, wordBuild};
+ghost use Rattle.words.specs.Bounded.{Bounded, FaultBounded, BuildBounded};
 
 // ---- what was answered: the upper half of a result word; REFUSED is added to the refusal's number
 
@@ -44,6 +46,8 @@ const NO_MORE: u32 = 9;
 
 const JOINED: u32 = 10;
 
+const BUILT: u32 = 11;
+
 pub const REFUSED: u32 = 256;
 
 // ---- a broken record in the lower half: its kind, above the numbers that a record may have
@@ -67,7 +71,7 @@ pub fn result_word(what: u32, value: u32) -> u64
 
 // The word of a refusal without a value: of every one but 12. A bound keeps the sum within a cell.
 pub fn refusal_word(r: u32) -> u64
-    requires { ⌜ r ≤ 16 ⌝ }
+    requires { ⌜ r ≤ 17 ⌝ }
     ensures { λ w. ⌜ w ≡ word (request.refused r) ⌝ }
 {
     result_word(REFUSED + r, 0)
@@ -184,5 +188,16 @@ pub fn check_word(answer: CheckAnswer) -> u64
         CheckAnswer::Node(n) => return broken_word(BROKEN_NODE, n),
         CheckAnswer::Subgoal(s) => return broken_word(BROKEN_SUBGOAL, s),
         CheckAnswer::Answer(a) => return broken_word(BROKEN_ANSWER, a),
+    }
+}
+
+// The value is the number of children entered.
+pub fn build_word(answer: BuildAnswer) -> u64
+    requires { ⌜ BuildBounded (saidBuild answer) ⌝ }
+    ensures { λ w. ⌜ w ≡ wordBuild (saidBuild answer) ⌝ }
+{
+    match answer {
+        BuildAnswer::Built(n) => return result_word(BUILT, n),
+        BuildAnswer::Refused(r) => return refusal_word(r),
     }
 }

@@ -1,9 +1,7 @@
 -- `damage::walks_of` meets its contract.
 use native.Mathlib.Omega.{arith}
 use borrow.Author.Needs.{needs}
-use Prim.Native.Nat.{_≤_, _<_, _+_, _-_}
-use mathlib.Core.Path.{_≡_}
-use lib.ListN.{length}
+use Prim.Native.Nat.{_≤_, _-_}
 use Rattle.damage.proofs.walks_of.Statement.{statement}
 use Rattle.damage.proofs.walks_of.Tie as tie
 
@@ -15,6 +13,9 @@ abbrev μ-loop : tie.MeasureT-loop
 
 loop-holds : tie.Need-loop-holds Inv-loop μ-loop
 loop-holds c = omega arith
+
+slice-aggregate-walk-tokens : tie.Need-slice-aggregate-walk-tokens Inv-loop μ-loop
+slice-aggregate-walk-tokens c = search needs
 
 walk-tokens-requires : tie.Need-walk-tokens-requires Inv-loop μ-loop
 walk-tokens-requires c κs = search needs
@@ -41,6 +42,7 @@ walks-of-spec =
     Inv-loop
     μ-loop
     loop-holds
+    slice-aggregate-walk-tokens
     walk-tokens-requires
     with-walk-requires
     add-root

@@ -9,7 +9,7 @@ answer-requires : tie.Need-answer-requires
 answer-requires c κs = search needs
 
 answer-word-requires : tie.Need-answer-word-requires
-answer-word-requires c κs = given-bounded (c .before .before .answer .ensures .0) (step-bounded _ _)
+answer-word-requires c κs = given-bounded (c .before .before .answer .ensures .0) (step-bounded _ _ _)
 
 same-length : tie.Need-same-length
 same-length c = search needs

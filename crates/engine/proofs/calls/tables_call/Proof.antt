@@ -9,7 +9,7 @@ call-requires : tie.Need-call-requires
 call-requires c κs = search needs
 
 call-word-requires : tie.Need-call-word-requires
-call-word-requires c κs = given-bounded (c .before .before .call .ensures .0) (step-bounded _ _)
+call-word-requires c κs = given-bounded (c .before .before .call .ensures .0) (step-bounded _ _ _)
 
 same-length : tie.Need-same-length
 same-length c = search needs

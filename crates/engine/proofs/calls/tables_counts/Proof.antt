@@ -59,7 +59,7 @@ enum-known-answer-2 : tie.Need-enum-known-answer-2
 enum-known-answer-2 c = search needs
 
 refusal-word-requires : tie.Need-refusal-word-requires
-refusal-word-requires c κs = let h = given-bounded (refusal c) (step-bounded _ _) in omega arith
+refusal-word-requires c κs = let h = given-bounded (refusal c) (step-bounded _ _ _) in omega arith
 
 returns-3 : tie.Need-returns-3
 returns-3 c = counts-returns _ _ _ _ (counts-refused _ _ _ _ (refusal (c .before)) (c .refusal-word .ensures))

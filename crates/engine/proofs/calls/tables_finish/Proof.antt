@@ -9,7 +9,7 @@ finish-requires : tie.Need-finish-requires
 finish-requires c κs = search needs
 
 finish-word-requires : tie.Need-finish-word-requires
-finish-word-requires c κs = given-bounded (c .before .before .finish .ensures .0) (step-bounded _ _)
+finish-word-requires c κs = given-bounded (c .before .before .finish .ensures .0) (step-bounded _ _ _)
 
 same-length : tie.Need-same-length
 same-length c = search needs

@@ -9,7 +9,7 @@ instance-requires : tie.Need-instance-requires
 instance-requires c κs = search needs
 
 cells-word-requires : tie.Need-cells-word-requires
-cells-word-requires c κs = given-bounded (c .before .before .instance .ensures .0) (step-bounded _ _)
+cells-word-requires c κs = given-bounded (c .before .before .instance .ensures .0) (step-bounded _ _ _)
 
 same-length : tie.Need-same-length
 same-length c = search needs

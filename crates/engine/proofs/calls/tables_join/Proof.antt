@@ -9,7 +9,7 @@ join-requires : tie.Need-join-requires
 join-requires c κs = search needs
 
 join-word-requires : tie.Need-join-word-requires
-join-word-requires c κs = given-bounded (c .before .before .join .ensures .0) (step-bounded _ _)
+join-word-requires c κs = given-bounded (c .before .before .join .ensures .0) (step-bounded _ _ _)
 
 same-length : tie.Need-same-length
 same-length c = search needs

@@ -9,7 +9,7 @@ next-requires : tie.Need-next-requires
 next-requires c κs = search needs
 
 next-word-requires : tie.Need-next-word-requires
-next-word-requires c κs = given-bounded (c .next .ensures .0) (step-bounded _ _)
+next-word-requires c κs = given-bounded (c .next .ensures .0) (step-bounded _ _ _)
 
 returns : tie.Need-returns
 returns c = (_, c .before .next .ensures, c .next-word .ensures)

@@ -2,12 +2,13 @@
 use Rattle.join.proofs.CallCases.{entered-unsound, entered-bounds, entered-more, entered-said}
 use native.Mathlib.Omega.{arith}
 use Rattle.basis.proofs.Tests.{told}
+use Rattle.trie.proofs.IndexLaws.{indexes-find}
 use borrow.Author.Needs.{needs}
 use Rattle.join.proofs.joins.join_entered.Statement.{statement}
 use Rattle.join.proofs.joins.join_entered.Tie as tie
 
 enter-requires : tie.Need-enter-requires
-enter-requires c κs = (c .before .before .before .before .pre)
+enter-requires c κs = (c .before .before .before .before .before .pre)
 
 read-header-requires : tie.Need-read-header-requires
 read-header-requires c κs = search needs
@@ -22,19 +23,19 @@ same-length : tie.Need-same-length
 same-length c = search needs
 
 returns : tie.Need-returns
-returns c = absurd (entered-unsound (c .before .before .before .before .before .before .before .before .before .before .before .args .space .now) (c .before .before .before .before .before .before .before .before .before .before .before .args .x) (c .before .before .before .before .before .before .before .before .before .before .before .args .s) (c .before .before .before .before .before .before .before .before .before .before .before .args .pairs .now) (c .before .before .before .before .before .before .before .before .before .before .before .args .copies .now) (c .before .before .before .before .before .before .before .before .before .before .before .pre) _ (c .before .before .before .before .before .before .enter .ensures) _ (told (c .enum-told .given .1) (c .before .before .read-header .ensures)))
+returns c = absurd (entered-unsound (indexes-find (c .before .before .before .before .before .before .before .before .before .before .before .before .args .index .now)) (c .before .before .before .before .before .before .before .before .before .before .before .before .args .space .now) (c .before .before .before .before .before .before .before .before .before .before .before .before .args .x) (c .before .before .before .before .before .before .before .before .before .before .before .before .args .s) (c .before .before .before .before .before .before .before .before .before .before .before .before .args .pairs .now) (c .before .before .before .before .before .before .before .before .before .before .before .before .args .copies .now) (c .before .before .before .before .before .before .before .before .before .before .before .before .pre) _ (c .before .before .before .before .before .before .enter .ensures) _ (told (c .enum-told .given .1) (c .before .before .read-header .ensures)))
 
 sub-more : tie.Need-sub-more
-sub-more c = entered-more (c .before .before .before .before .before .before .before .before .before .before .before .before .before .before .args .space .now) (c .before .before .before .before .before .before .before .before .before .before .before .before .before .before .args .x) (c .before .before .before .before .before .before .before .before .before .before .before .before .before .before .args .s) (c .before .before .before .before .before .before .before .before .before .before .before .before .before .before .args .pairs .now) (c .before .before .before .before .before .before .before .before .before .before .before .before .before .before .args .copies .now) (c .before .before .before .before .before .before .before .before .before .before .before .before .before .before .pre) _ (c .before .before .before .before .before .before .before .before .before .enter .ensures) _ (told (c .before .before .before .header .given .1) (c .before .before .before .before .before .read-header .ensures))
+sub-more c = entered-more (indexes-find (c .before .before .before .before .before .before .before .before .before .before .before .before .before .before .before .args .index .now)) (c .before .before .before .before .before .before .before .before .before .before .before .before .before .before .before .args .space .now) (c .before .before .before .before .before .before .before .before .before .before .before .before .before .before .before .args .x) (c .before .before .before .before .before .before .before .before .before .before .before .before .before .before .before .args .s) (c .before .before .before .before .before .before .before .before .before .before .before .before .before .before .before .args .pairs .now) (c .before .before .before .before .before .before .before .before .before .before .before .before .before .before .before .args .copies .now) (c .before .before .before .before .before .before .before .before .before .before .before .before .before .before .before .pre) _ (c .before .before .before .before .before .before .before .before .before .enter .ensures) _ (told (c .before .before .before .header .given .1) (c .before .before .before .before .before .read-header .ensures))
 
-cast-t14 : tie.Need-cast-t14
-cast-t14 c = let b = entered-bounds (c .before .before .before .before .before .before .before .before .before .before .before .before .before .before .args .space .now) (c .before .before .before .before .before .before .before .before .before .before .before .before .before .before .args .x) (c .before .before .before .before .before .before .before .before .before .before .before .before .before .before .args .s) (c .before .before .before .before .before .before .before .before .before .before .before .before .before .before .args .pairs .now) (c .before .before .before .before .before .before .before .before .before .before .before .before .before .before .args .copies .now) (c .before .before .before .before .before .before .before .before .before .before .before .before .before .before .pre) _ (c .before .before .before .before .before .before .before .before .before .enter .ensures) _ (told (c .before .before .before .header .given .1) (c .before .before .before .before .before .read-header .ensures)) in omega (arith, b .answers-within, b .answers-most)
+cast-t15 : tie.Need-cast-t15
+cast-t15 c = let b = entered-bounds (indexes-find (c .before .before .before .before .before .before .before .before .before .before .before .before .before .before .before .args .index .now)) (c .before .before .before .before .before .before .before .before .before .before .before .before .before .before .before .args .space .now) (c .before .before .before .before .before .before .before .before .before .before .before .before .before .before .before .args .x) (c .before .before .before .before .before .before .before .before .before .before .before .before .before .before .before .args .s) (c .before .before .before .before .before .before .before .before .before .before .before .before .before .before .before .args .pairs .now) (c .before .before .before .before .before .before .before .before .before .before .before .before .before .before .before .args .copies .now) (c .before .before .before .before .before .before .before .before .before .before .before .before .before .before .before .pre) _ (c .before .before .before .before .before .before .before .before .before .enter .ensures) _ (told (c .before .before .before .header .given .1) (c .before .before .before .before .before .read-header .ensures)) in omega (arith, b .answers-within, b .answers-most)
 
 same-length-2 : tie.Need-same-length-2
 same-length-2 c = search needs
 
 returns-2 : tie.Need-returns-2
-returns-2 c = entered-said (c .before .before .before .before .before .before .before .before .before .before .before .before .before .before .args .space .now) (c .before .before .before .before .before .before .before .before .before .before .before .before .before .before .args .x) (c .before .before .before .before .before .before .before .before .before .before .before .before .before .before .args .s) (c .before .before .before .before .before .before .before .before .before .before .before .before .before .before .args .pairs .now) (c .before .before .before .before .before .before .before .before .before .before .before .before .before .before .args .copies .now) (c .before .before .before .before .before .before .before .before .before .before .before .before .before .before .pre) _ (c .before .before .before .before .before .before .before .before .before .enter .ensures) _ (told (c .before .before .before .header .given .1) (c .before .before .before .before .before .read-header .ensures))
+returns-2 c = entered-said (indexes-find (c .before .before .before .before .before .before .before .before .before .before .before .before .before .before .before .args .index .now)) (c .before .before .before .before .before .before .before .before .before .before .before .before .before .before .before .args .space .now) (c .before .before .before .before .before .before .before .before .before .before .before .before .before .before .before .args .x) (c .before .before .before .before .before .before .before .before .before .before .before .before .before .before .before .args .s) (c .before .before .before .before .before .before .before .before .before .before .before .before .before .before .before .args .pairs .now) (c .before .before .before .before .before .before .before .before .before .before .before .before .before .before .before .args .copies .now) (c .before .before .before .before .before .before .before .before .before .before .before .before .before .before .before .pre) _ (c .before .before .before .before .before .before .before .before .before .enter .ensures) _ (told (c .before .before .before .header .given .1) (c .before .before .before .before .before .read-header .ensures))
 
 pub join-entered-spec : {M : Type 1} → statement M
 join-entered-spec =
@@ -47,6 +48,6 @@ join-entered-spec =
     same-length
     returns
     sub-more
-    cast-t14
+    cast-t15
     same-length-2
     returns-2)

@@ -18,7 +18,7 @@ same-length : tie.Need-same-length
 same-length c = search needs
 
 returns : tie.Need-returns
-returns c = finish-answers _ _ _ _ (steps-refused _ _ _ (told (c .before .read .given .1) (c .before .before .before .read-header .ensures)))
+returns c = finish-answers _ _ _ _ _ (steps-refused _ _ _ _ (told (c .before .read .given .1) (c .before .before .before .read-header .ensures)))
 
 enum-known-read-2 : tie.Need-enum-known-read-2
 enum-known-read-2 c = search needs
@@ -33,7 +33,7 @@ same-length-2 : tie.Need-same-length-2
 same-length-2 c = search needs
 
 returns-2 : tie.Need-returns-2
-returns-2 c = finish-answers _ _ _ _ (steps-sound-at _ _ request.finish _ _ _ _ (c .before .before .before .wide .ensures .0) (told (c .before .before .before .before .before .before .read2 .given .1) (c .before .before .before .before .before .before .before .before .read-header .ensures)) (c .before .before .finish-in .ensures))
+returns-2 c = finish-answers _ _ _ _ _ (steps-sound-at _ _ _ request.finish _ _ _ _ (c .before .before .before .wide .ensures .0) (told (c .before .before .before .before .before .before .read2 .given .1) (c .before .before .before .before .before .before .before .before .read-header .ensures)) (c .before .before .finish-in .ensures))
 
 pub finish-spec : {M : Type 1} → statement M
 finish-spec =

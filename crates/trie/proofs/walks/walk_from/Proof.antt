@@ -1,8 +1,9 @@
 -- `trie::walks::walk_from` meets its contract.
 use Rattle.trie.proofs.WalkCases.{Descent, descent-begin, descent-whole, descent-last, descent-damaged, descent-found}
-use Rattle.trie.specs.Walks.{walkFrom}
-use Rattle.trie.proofs.SearchLaws.{chains-find}
-use Rattle.trie.specs.Siblings.{trieIn, searchChildren}
+use Rattle.trie.specs.Walks.{walkFromBy}
+use Rattle.trie.specs.Index.{searchIndexed}
+use Rattle.trie.proofs.IndexLaws.{indexes-find}
+use Rattle.trie.specs.Siblings.{trieIn}
 use Rattle.space.specs.Layout.{sizes}
 use lib.ListN.{length}
 use Prim.Native.Nat.{_-_}
@@ -12,22 +13,22 @@ use Rattle.trie.proofs.walks.walk_from.Statement.{statement}
 use Rattle.trie.proofs.walks.walk_from.Tie as tie
 
 abbrev Inv-loop : tie.InvT-loop
-Inv-loop space nodes links start tokens n₀ i₀ n i = Descent searchChildren (trieIn sizes space nodes links) tokens n i (walkFrom (trieIn sizes space nodes links) start tokens)
+Inv-loop space nodes links start tokens index n₀ i₀ n i = Descent (searchIndexed index) (trieIn sizes space nodes links) tokens n i (walkFromBy (searchIndexed index) (trieIn sizes space nodes links) start tokens)
 
 abbrev μ-loop : tie.MeasureT-loop
-μ-loop space nodes links start tokens n₀ i₀ n i = length tokens - i
+μ-loop space nodes links start tokens index n₀ i₀ n i = length tokens - i
 
 loop-holds : tie.Need-loop-holds Inv-loop μ-loop
 loop-holds c = descent-begin _ _ _ _ (search needs) (search needs)
 
-mul-search-children : tie.Need-mul-search-children Inv-loop μ-loop
-mul-search-children c = omega arith
+mul-search-indexed : tie.Need-mul-search-indexed Inv-loop μ-loop
+mul-search-indexed c = omega arith
 
-shared-slice-read-search-children : tie.Need-shared-slice-read-search-children Inv-loop μ-loop
-shared-slice-read-search-children c = omega arith
+shared-slice-read-search-indexed : tie.Need-shared-slice-read-search-indexed Inv-loop μ-loop
+shared-slice-read-search-indexed c = omega arith
 
-search-children-requires : tie.Need-search-children-requires Inv-loop μ-loop
-search-children-requires c κs = search needs
+search-indexed-requires : tie.Need-search-indexed-requires Inv-loop μ-loop
+search-indexed-requires c κs = search needs
 
 enum-known-found : tie.Need-enum-known-found Inv-loop μ-loop
 enum-known-found c = search needs
@@ -39,13 +40,13 @@ loop-less : tie.Need-loop-less Inv-loop μ-loop
 loop-less c = omega arith
 
 loop-again : tie.Need-loop-again Inv-loop μ-loop
-loop-again c = descent-found (c .before .before .before .before .before .before .loop .inv) (search needs) chains-find (c .before .found .given .0 .0) (cc)
+loop-again c = descent-found (c .before .before .before .before .before .before .loop .inv) (search needs) (indexes-find _) (c .before .found .given .0 .0) (cc)
 
 enum-known-found-2 : tie.Need-enum-known-found-2 Inv-loop μ-loop
 enum-known-found-2 c = search needs
 
-sub-t16 : tie.Need-sub-t16 Inv-loop μ-loop
-sub-t16 c = omega arith
+sub-t17 : tie.Need-sub-t17 Inv-loop μ-loop
+sub-t17 c = omega arith
 
 returns : tie.Need-returns Inv-loop μ-loop
 returns c = descent-last (c .before .before .before .before .before .before .loop .inv) (search needs) (c .before .found2 .given .0 .0) (cc)
@@ -66,15 +67,15 @@ walk-from-spec =
     Inv-loop
     μ-loop
     loop-holds
-    mul-search-children
-    shared-slice-read-search-children
-    search-children-requires
+    mul-search-indexed
+    shared-slice-read-search-indexed
+    search-indexed-requires
     enum-known-found
     add-i
     loop-less
     loop-again
     enum-known-found-2
-    sub-t16
+    sub-t17
     returns
     enum-told
     returns-2

@@ -1,0 +1,4 @@
+mod NodeCases
+pub mod EnterCases
+mod FillCases
+mod BuildCases

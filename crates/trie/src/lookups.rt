@@ -1,0 +1,113 @@
+// The search among the children of a node with an index: a slot and a sibling in turn.
+use super::Search;
+use super::siblings::search_children;
+use super::siblings::search_siblings;
+use super::slots::slot_after;
+use super::slots::slot_of;
+use basis::wide;
+use space::NodeRead;
+use space::records::node_in;
+use space::records::read_node;
+ghost use mathlib.Core.Path.{_≡_};
+ghost use mathlib.Core.Bool.{true};
+ghost use Prim.Native.Nat.{_<_};
+ghost use Rattle.space.specs.Layout.{sizes};
+ghost use Rattle.space.specs.Sound.{NodesIn};
+ghost use Rattle.trie.specs.Siblings.{trieIn, sound};
+ghost use Rattle.trie.specs.Index.{powered, confirmedIn, judgedIn, turnedIn, searchIndexed, Slotted};
+
+// Is node x a child of `parent` with the token, by its own record?
+fn confirms(space: &[u32], nodes: usize, parent: usize, token: u32, x: usize) -> bool
+    requires { ⌜ NodesIn (now space) nodes ⌝ }
+    ensures { λ r. ⌜ r ≡ confirmedIn (now (space .entry)) nodes parent token x ⌝ }
+{
+    if x <= parent {
+        return false;
+    }
+    if nodes <= x {
+        return false;
+    }
+    let y = node_in(space, nodes, x);
+    if y.parent != parent {
+        return false;
+    }
+    y.token == token
+}
+
+// The entry x was confirmed: it is judged whole, as a node compared is.
+fn judge(space: &[u32], nodes: usize, links: usize, x: usize) -> Search
+    requires { ⌜ NodesIn (now space) nodes × (x < nodes) ⌝ }
+    ensures { λ r. ⌜ r ≡ judgedIn (now (space .entry)) nodes links x ⌝ }
+{
+    let NodeRead::Sound(_) = read_node(space, nodes, links, x) else {
+        return Search::Damaged;
+    };
+    Search::Found(x)
+}
+
+// From the slot of this parent and token, and from sibling `first`, on.
+fn search_in_turn(
+    space: &[u32],
+    nodes: usize,
+    links: usize,
+    parent: usize,
+    first: usize,
+    token: u32,
+    index: &[u32],
+) -> Search
+    requires { ⌜ NodesIn (now space) nodes × (parent < nodes) × (first < nodes) × powered (now index) ⌝ }
+    ensures { λ r.
+        ⌜ r ≡ turnedIn (now (space .entry)) nodes links parent first token (now (index .entry)) ⌝ }
+{
+    let mut n = first;
+    let mut slot = slot_of(index.len(), parent, token);
+    let found = loop {
+        let x = wide(index[slot]);
+        if x == 0 {
+            break search_siblings(space, nodes, links, parent, n, token);
+        }
+        if confirms(space, nodes, parent, token, x) {
+            break judge(space, nodes, links, x);
+        }
+        let NodeRead::Sound(y) = read_node(space, nodes, links, n) else {
+            break Search::Damaged;
+        };
+        if y.parent != parent {
+            break Search::Damaged;
+        }
+        if y.token == token {
+            break Search::Found(n);
+        }
+        if y.sibling == 0 {
+            break Search::Last(n);
+        }
+        n = y.sibling;
+        slot = slot_after(index.len(), slot);
+    };
+    found
+}
+
+// All children of a node that was read and found sound; along the siblings alone where there is no slot.
+pub fn search_indexed(
+    space: &[u32],
+    nodes: usize,
+    links: usize,
+    parent: usize,
+    token: u32,
+    index: &[u32],
+) -> Search
+    requires { ⌜ NodesIn (now space) nodes × (parent < nodes) × Slotted (now index) ⌝ }
+    requires { ⌜ sound (trieIn sizes (now space) nodes links) parent ≡ true ⌝ }
+    ensures { λ r. ⌜
+        r ≡ searchIndexed (now (index .entry)) (trieIn sizes (now (space .entry)) nodes links) parent token
+        ⌝ }
+{
+    if index.len() == 0 {
+        return search_children(space, nodes, links, parent, token);
+    }
+    let y = node_in(space, nodes, parent);
+    if y.child == 0 {
+        return Search::Last(0);
+    }
+    search_in_turn(space, nodes, links, parent, y.child, token, index)
+}
