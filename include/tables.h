@@ -576,7 +576,7 @@ uint64_t tables_join(uint32_t *space, size_t space_cells, uint32_t first, uint32
  * Every node is read, and no subgoal or answer. The space is not written. The time
  * grows with the nodes, but where many nodes with near numbers have many children
  * each with small integers, their sums crowd, and it grows with the square of these
- * children: 255 such nodes of 256 children take seconds. On a damaged space it may
+ * children: 255 such nodes of 256 children take over a second. On a damaged space it may
  * grow with the square of the nodes.
  */
 TABLES_MUST_CHECK
