@@ -55,7 +55,8 @@ abbrev pub withLink : Node → ℕ → Node
 withLink y x = record { token = y .token; child = y .child; sibling = y .sibling; parent = y .parent; link = x }
 
 abbrev pub withState : Subgoal → ℕ → Subgoal
-withState g x = record { leaf = g .leaf; root = g .root; variables = g .variables; state = x; first = g .first; last = g .last }
+withState g x =
+    record { leaf = g .leaf; root = g .root; variables = g .variables; state = x; first = g .first; last = g .last }
 
 -- a is its last answer, and its first where it had none
 abbrev pub withLast : Subgoal → ℕ → Subgoal

@@ -115,7 +115,8 @@ module _ (c : Coding) (v : View) where
   unfoldable pub linkWhole : ℕ → Bool
   linkWhole i =
       let k = v .node i .link in
-      eqb k 0 || (leb k (v .subgoals) && eqb (v .subgoal k .leaf) i) || (leb k (v .answers) && eqb (v .answer k .leaf) i)
+      eqb k 0 || (leb k (v .subgoals) && eqb (v .subgoal k .leaf) i)
+      || (leb k (v .answers) && eqb (v .answer k .leaf) i)
 
   -- judged as a call judges it; its first child is its own
   unfoldable pub nodeWhole : ℕ → Bool

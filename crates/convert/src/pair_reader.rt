@@ -51,9 +51,9 @@ fn insert(out: &mut [u32], to: usize, end: usize, x: u32)
     out[i] = moved;
 }
 
-// Reads n terms from `from` on and writes their compact forms from `start` on. A list counts as a term without arguments,
-// since the two that its pair has are read with it. The places are numbers, and not one struct as in the form reader:
-// handed over in memory, an element of a list took a quarter longer.
+// Reads n terms from `from` on and writes their compact forms from `start` on. A list counts as a term without
+// arguments, since the two that its pair has are read with it. The places are numbers, and not one struct as in the
+// form reader: handed over in memory, an element of a list took a quarter longer.
 pub fn terms(
     s: &[u32],
     from: usize,
@@ -65,8 +65,8 @@ pub fn terms(
     edition: u32,
 ) -> Step
     requires { ⌜ PairRoom (now s) (placed from start known) (now vars) (now out) × (n ≤ 256 + 256 * from) ⌝ }
-    ensures { λ r. ⌜ ReadsTerms edition (now (s .entry)) (placed from start known) n (now (vars .entry)) (now (out .entry))
-        (now (vars .exit)) (now (out .exit)) r ⌝ }
+    ensures { λ r. ⌜ ReadsTerms edition (now (s .entry)) (placed from start known) n
+        (now (vars .entry)) (now (out .entry)) (now (vars .exit)) (now (out .exit)) r ⌝ }
 {
     let mut at = from;
     let mut due = n;

@@ -160,7 +160,8 @@ fits t n = leb (nodes t) n
 
 -- a record more: 10 where the nodes used would be above N, then 11 where no record is left
 unfoldable pub appended : Table → Table → Bool → ℕ → Result Table
-appended t more room n = pick (fits more (t .N)) (pick room (becomes more (new n)) (becomes t (refused 11))) (becomes t (refused 10))
+appended t more room n =
+    pick (fits more (t .N)) (pick room (becomes more (new n)) (becomes t (refused 11))) (becomes t (refused 10))
 
 -- an equal form is old, else it is appended, open
 unfoldable pub called : Table → Reading → Result Table
@@ -182,7 +183,8 @@ answered t s (refused r) = becomes t (refused r)
 answered t s (accepted w m) =
     let n = answerOf t s w in
     let count = length (t .answers) in
-    pick (eqb n 0) (whileOpen t (subgoalAt t s .state) (appended t (withEntry t s w) (ltb count (t .A)) (suc count))) (becomes t (oldAnswer n))
+    pick (eqb n 0) (whileOpen t (subgoalAt t s .state) (appended t (withEntry t s w) (ltb count (t .A)) (suc count)))
+    (becomes t (oldAnswer n))
 
 -- where next may start: from 0, or from an answer of the subgoal
 unfoldable pub starting : Table → ℕ → ℕ → Bool
@@ -220,7 +222,8 @@ joining t s (declined r) = becomes t (refused r)
 joining t s (formed ws) =
     let more = entered t s ws in
     pick (fits more (t .N))
-    (pick (leb (length (more .answers)) (t .A)) (becomes more (joined (length (more .answers) - length (t .answers)))) (becomes t (refused 11)))
+    (pick (leb (length (more .answers)) (t .A)) (becomes more (joined (length (more .answers) - length (t .answers))))
+    (becomes t (refused 11)))
     (becomes t (refused 10))
 
 -- what each call leaves; 7 is checked before the cells are read, a join's 8 too

@@ -102,13 +102,16 @@ pub fn respond(line: &[u8], space: &mut [u32], out: &mut [u32], text: &mut [u8])
         r ≡ responding (now (line .entry)) (now (text .entry)) (now (space .entry)) (now (out .entry)) .printed
         ⌝ }
     ensures { λ r. ⌜
-        now (text .exit) ≡ responding (now (line .entry)) (now (text .entry)) (now (space .entry)) (now (out .entry)) .text
+        now (text .exit)
+        ≡ responding (now (line .entry)) (now (text .entry)) (now (space .entry)) (now (out .entry)) .text
         ⌝ }
     ensures { λ r. ⌜
-        now (space .exit) ≡ responding (now (line .entry)) (now (text .entry)) (now (space .entry)) (now (out .entry)) .space
+        now (space .exit)
+        ≡ responding (now (line .entry)) (now (text .entry)) (now (space .entry)) (now (out .entry)) .space
         ⌝ }
     ensures { λ r. ⌜
-        now (out .exit) ≡ responding (now (line .entry)) (now (text .entry)) (now (space .entry)) (now (out .entry)) .out
+        now (out .exit)
+        ≡ responding (now (line .entry)) (now (text .entry)) (now (space .entry)) (now (out .entry)) .out
         ⌝ }
     ensures { λ r. ⌜ r ≤ length (now (text .exit)) ⌝ }
 {

@@ -84,8 +84,8 @@ unfoldable pub cellStep : Sizes → Coding → List ℕ → Request → Result (
 cellStep z c cs q = under z c cs q (headerOf z cs)
 
 -- On the cells `before` the call q, by this way of finding a child, answers r, and leaves `out` of the out that was
--- lent to it and `after` of the cells: the contract of every call. A space that is lent to read alone is afterwards what
--- it was, so there `after` is `before`.
+-- lent to it and `after` of the cells: the contract of every call. A space that is lent to read alone is afterwards
+-- what it was, so there `after` is `before`.
 abbrev pub AnswersBy : Finding → List ℕ → Request → Reply → List ℕ → List ℕ → Type 0
 AnswersBy find before q r out after =
     (r ≡ spaceStepBy find before q .reply) × (out ≡ spaceStepBy find before q .out)
