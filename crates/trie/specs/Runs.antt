@@ -17,7 +17,7 @@ use Rattle.trie.specs.declared.Short.the-variants as short
 
 -- the levels of a run
 abbrev pub levels : ℕ
-levels = 12
+levels = 64
 
 -- the cells of a whole path, one more than it has tokens at most: a whole number of runs
 abbrev pub pathCells : ℕ

@@ -16,7 +16,7 @@ ghost use Rattle.space.specs.Sound.{NodesIn};
 ghost use Rattle.trie.specs.Runs.{levels, pathCells, Climbs, RunCopied, ClimbsRuns, Ends, Begun, GoesOn};
 
 // The levels of a run.
-pub const LEVELS: usize = 12;
+pub const LEVELS: usize = 64;
 
 // The cells of a whole path: one more than it has tokens at most, which is a whole number of runs.
 pub const CELLS: usize = MOST_TOKENS + 1;
@@ -35,7 +35,7 @@ const ON: usize = LEVELS + 2;
 // behind. Where the root is reached: how many cells are left; where no cell is: ON and the node to go on from. A plain
 // number is answered, and not an enum, since that comes back in a register at every level.
 fn climb(
-    space: &[u32],
+    space: &&[u32],
     nodes: usize,
     links: usize,
     root: usize,
@@ -43,11 +43,12 @@ fn climb(
     left: usize,
     run: &mut [u32; LEVELS],
 ) -> usize
-    requires { ⌜ NodesIn (now space) nodes × (n < nodes) ⌝ }
+    requires { ⌜ NodesIn (now (now space)) nodes × (n < nodes) ⌝ }
     requires { ⌜ (1 ≤ left) × (left ≤ levels) × (length (now run) ≡ levels) ⌝ }
-    ensures { λ r. ⌜ Climbs (now (space .entry)) nodes links root n left (now (run .entry)) (now (run .exit)) r ⌝ }
+    ensures { λ r.
+        ⌜ Climbs (now (now (space .entry))) nodes links root n left (now (run .entry)) (now (run .exit)) r ⌝ }
 {
-    let NodeRead::Sound(y) = read_node(space, nodes, links, n) else {
+    let NodeRead::Sound(y) = read_node(*space, nodes, links, n) else {
         return LOST;
     };
     if y.parent == n {
@@ -61,8 +62,7 @@ fn climb(
     if at == 0 {
         return ON + y.parent;
     }
-    // Lent anew, not handed on: the space would then be copied at each level before its address is read.
-    climb(&space[..], nodes, links, root, y.parent, at, run)
+    climb(space, nodes, links, root, y.parent, at, run)
 }
 
 // The path in the cells of a run, which hold its last tokens where it is longer.
@@ -71,7 +71,7 @@ pub fn short_path(space: &[u32], end: End, cells: &mut [u32; LEVELS]) -> Short
     ensures { λ r. ⌜ Begun (now (space .entry)) end r (now (cells .exit)) × (length (now (cells .exit)) ≡ levels) ⌝ }
 {
     let r = climb(
-        space,
+        &space,
         end.nodes,
         end.links,
         end.root,
@@ -103,7 +103,7 @@ fn copy_run(run: &[u32; LEVELS], from: usize, path: &mut [u32])
 // The tokens of node n and of those above it, written to the cells of so many runs from behind: where they start, or 0
 // for none.
 fn climb_runs(
-    space: &[u32],
+    space: &&[u32],
     nodes: usize,
     links: usize,
     root: usize,
@@ -111,12 +111,12 @@ fn climb_runs(
     runs: usize,
     path: &mut [u32],
 ) -> usize
-    requires { ⌜ NodesIn (now space) nodes × (n < nodes) × (1 ≤ runs) × (levels * runs ≤ length (now path)) ⌝ }
+    requires { ⌜ NodesIn (now (now space)) nodes × (n < nodes) × (1 ≤ runs) × (levels * runs ≤ length (now path)) ⌝ }
     ensures { λ r.
-        ⌜ ClimbsRuns (now (space .entry)) nodes links root n runs (now (path .entry)) (now (path .exit)) r ⌝ }
+        ⌜ ClimbsRuns (now (now (space .entry))) nodes links root n runs (now (path .entry)) (now (path .exit)) r ⌝ }
 {
     let mut run = [0u32; LEVELS];
-    let r = climb(&space[..], nodes, links, root, n, LEVELS, &mut run);
+    let r = climb(space, nodes, links, root, n, LEVELS, &mut run);
     let from = LEVELS * (runs - 1);
     copy_run(&run, from, path);
     if r < LOST {
@@ -128,7 +128,7 @@ fn climb_runs(
     if runs == 1 {
         return 0;
     }
-    climb_runs(&space[..], nodes, links, root, r - ON, runs - 1, path)
+    climb_runs(space, nodes, links, root, r - ON, runs - 1, path)
 }
 
 // A path that goes on from node n above its last tokens, which are given, in the last cells of path.
@@ -144,7 +144,7 @@ pub fn long_path(
     ensures { λ r. ⌜ GoesOn (now (space .entry)) end n (now (last .entry)) r (now (path .exit)) ⌝ }
 {
     copy_run(last, HIGHER_CELLS, path);
-    let k = climb_runs(space, end.nodes, end.links, end.root, n, HIGHER_RUNS, path);
+    let k = climb_runs(&space, end.nodes, end.links, end.root, n, HIGHER_RUNS, path);
     if k == 0 {
         return Gathered::Damaged;
     }

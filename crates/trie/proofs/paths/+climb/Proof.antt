@@ -16,14 +16,14 @@ use Rattle.space.proofs.records.read_node.Reads as read-node-reads
 use Rattle.trie.proofs.paths.+climb.{statement}
 use Rattle.trie.proofs.paths.+climb.Tie.{close}
 
-abbrev μ-climb : Measures 2 climb-kinds.ps ℕ
+abbrev μ-climb : Measures 3 climb-kinds.ps ℕ
 μ-climb κs a = a .1 .1 .1 .1 .0
 
-abbrev climb-at : ℕ → In 2 climb-kinds.ps
-climb-at t = and 2 climb-kinds.ps (is 2 climb-kinds.ps μ-climb t) climb.Pre
+abbrev climb-at : ℕ → In 3 climb-kinds.ps
+climb-at t = and 3 climb-kinds.ps (is 3 climb-kinds.ps μ-climb t) climb.Pre
 
-abbrev climb-below : ℕ → In 2 climb-kinds.ps
-climb-below t = and 2 climb-kinds.ps (falls 2 climb-kinds.ps _<_ μ-climb t) climb.Pre
+abbrev climb-below : ℕ → In 3 climb-kinds.ps
+climb-below t = and 3 climb-kinds.ps (falls 3 climb-kinds.ps _<_ μ-climb t) climb.Pre
 
 climb-read-node-requires : (t : ℕ) → climb-lts.Need-read-node-requires (
   read-node-reads.Asked,
@@ -55,7 +55,7 @@ climb-returns : (t : ℕ) → climb-lts.Need-returns (
   climb-below t,
   climb.Post,
 ) (climb-at t) climb.Post
-climb-returns t c = climb-damaged _ (trieIn sizes (c .before .before .before .before .args .space .now) (c .before .before .before .before .args .nodes) (c .before .before .before .before .args .links)) _ _ _ (search needs) (cc)
+climb-returns t c = climb-damaged _ (trieIn sizes (c .before .before .before .before .args .space .now .now) (c .before .before .before .before .args .nodes) (c .before .before .before .before .args .links)) _ _ _ (search needs) (cc)
 
 climb-returns-2 : (t : ℕ) → climb-lts.Need-returns-2 (
   read-node-reads.Asked,
@@ -63,7 +63,7 @@ climb-returns-2 : (t : ℕ) → climb-lts.Need-returns-2 (
   climb-below t,
   climb.Post,
 ) (climb-at t) climb.Post
-climb-returns-2 t c = climb-root _ (trieIn sizes (c .before .before .before .before .before .before .before .before .args .space .now) (c .before .before .before .before .before .before .before .before .args .nodes) (c .before .before .before .before .before .before .before .before .args .links)) _ _ _ (search needs) (c .before .before .before .before .y .given .0 .0) (cc) (search needs) (search needs)
+climb-returns-2 t c = climb-root _ (trieIn sizes (c .before .before .before .before .before .before .before .before .args .space .now .now) (c .before .before .before .before .before .before .before .before .args .nodes) (c .before .before .before .before .before .before .before .before .args .links)) _ _ _ (search needs) (c .before .before .before .before .y .given .0 .0) (cc) (search needs) (search needs)
 
 climb-returns-3 : (t : ℕ) → climb-lts.Need-returns-3 (
   read-node-reads.Asked,
@@ -71,7 +71,7 @@ climb-returns-3 : (t : ℕ) → climb-lts.Need-returns-3 (
   climb-below t,
   climb.Post,
 ) (climb-at t) climb.Post
-climb-returns-3 t c = climb-other _ (trieIn sizes (c .before .before .before .before .before .before .before .before .args .space .now) (c .before .before .before .before .before .before .before .before .args .nodes) (c .before .before .before .before .before .before .before .before .args .links)) _ _ _ (search needs) (c .before .before .before .before .y .given .0 .0) (cc) (search needs) (search needs)
+climb-returns-3 t c = climb-other _ (trieIn sizes (c .before .before .before .before .before .before .before .before .args .space .now .now) (c .before .before .before .before .before .before .before .before .args .nodes) (c .before .before .before .before .before .before .before .before .args .links)) _ _ _ (search needs) (c .before .before .before .before .y .given .0 .0) (cc) (search needs) (search needs)
 
 climb-sub-at : (t : ℕ) → climb-lts.Need-sub-at (
   read-node-reads.Asked,
@@ -103,7 +103,7 @@ climb-add-result : (t : ℕ) → climb-lts.Need-add-result (
   climb-below t,
   climb.Post,
 ) (climb-at t) climb.Post
-climb-add-result t c = let l = climb-lower 1 (trieIn sizes (c .before .before .before .before .before .before .before .before .before .args .space .now) (c .before .before .before .before .before .before .before .before .before .args .nodes) (c .before .before .before .before .before .before .before .before .before .args .links)) 0 (c .before .before .before .before .before .before .before .before .before .args .n) [] (omega arith) (c .before .before .before .before .before .y .given .0 .0) (cc) in omega arith
+climb-add-result t c = let l = climb-lower 1 (trieIn sizes (c .before .before .before .before .before .before .before .before .before .args .space .now .now) (c .before .before .before .before .before .before .before .before .before .args .nodes) (c .before .before .before .before .before .before .before .before .before .args .links)) 0 (c .before .before .before .before .before .before .before .before .before .args .n) [] (omega arith) (c .before .before .before .before .before .y .given .0 .0) (cc) in omega arith
 
 climb-returns-4 : (t : ℕ) → climb-lts.Need-returns-4 (
   read-node-reads.Asked,
@@ -111,7 +111,7 @@ climb-returns-4 : (t : ℕ) → climb-lts.Need-returns-4 (
   climb-below t,
   climb.Post,
 ) (climb-at t) climb.Post
-climb-returns-4 t c = climb-cut _ (trieIn sizes (c .before .before .before .before .before .before .before .before .before .args .space .now) (c .before .before .before .before .before .before .before .before .before .args .nodes) (c .before .before .before .before .before .before .before .before .before .args .links)) _ _ _ (search needs) (c .before .before .before .before .before .y .given .0 .0) (cc) (search needs) (omega arith) (search needs)
+climb-returns-4 t c = climb-cut _ (trieIn sizes (c .before .before .before .before .before .before .before .before .before .args .space .now .now) (c .before .before .before .before .before .before .before .before .before .args .nodes) (c .before .before .before .before .before .before .before .before .before .args .links)) _ _ _ (search needs) (c .before .before .before .before .before .y .given .0 .0) (cc) (search needs) (omega arith) (search needs)
 
 climb-climb-requires : (t : ℕ) → climb-lts.Need-climb-requires (
   read-node-reads.Asked,
@@ -119,7 +119,7 @@ climb-climb-requires : (t : ℕ) → climb-lts.Need-climb-requires (
   climb-below t,
   climb.Post,
 ) (climb-at t) climb.Post
-climb-climb-requires t c κs = let l = climb-lower 1 (trieIn sizes (c .before .before .before .before .before .before .before .before .before .args .space .now) (c .before .before .before .before .before .before .before .before .before .args .nodes) (c .before .before .before .before .before .before .before .before .before .args .links)) 0 (c .before .before .before .before .before .before .before .before .before .args .n) [] (omega arith) (c .before .before .before .before .before .y .given .0 .0) (cc) in simp length-set (search needs)
+climb-climb-requires t c κs = let l = climb-lower 1 (trieIn sizes (c .before .before .before .before .before .before .before .before .before .args .space .now .now) (c .before .before .before .before .before .before .before .before .before .args .nodes) (c .before .before .before .before .before .before .before .before .before .args .links)) 0 (c .before .before .before .before .before .before .before .before .before .args .n) [] (omega arith) (c .before .before .before .before .before .y .given .0 .0) (cc) in simp length-set (search needs)
 
 climb-returns-5 : (t : ℕ) → climb-lts.Need-returns-5 (
   read-node-reads.Asked,
@@ -127,7 +127,7 @@ climb-returns-5 : (t : ℕ) → climb-lts.Need-returns-5 (
   climb-below t,
   climb.Post,
 ) (climb-at t) climb.Post
-climb-returns-5 t c = climb-more _ (trieIn sizes (c .before .before .before .before .before .before .before .before .before .before .args .space .now) (c .before .before .before .before .before .before .before .before .before .before .args .nodes) (c .before .before .before .before .before .before .before .before .before .before .args .links)) _ _ _ (search needs) (c .before .before .before .before .before .before .y .given .0 .0) (cc) (search needs) (omega arith) _ _ (c .climb .ensures)
+climb-returns-5 t c = climb-more _ (trieIn sizes (c .before .before .before .before .before .before .before .before .before .before .args .space .now .now) (c .before .before .before .before .before .before .before .before .before .before .args .nodes) (c .before .before .before .before .before .before .before .before .before .before .args .links)) _ _ _ (search needs) (c .before .before .before .before .before .before .y .given .0 .0) (cc) (search needs) (omega arith) _ _ (c .climb .ensures)
 
 pub +climb-spec : {M : Type 1} → statement M
 +climb-spec = close μ-climb λ t. climb-lts.spec (
