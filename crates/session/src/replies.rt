@@ -17,7 +17,7 @@ ghost use mathlib.Core.Path.{_≡_};
 ghost use mathlib.Core.List.{_∷_};
 ghost use Prim.Native.Nat.{ℕ, _+_, _≤_, _<_};
 ghost use lib.ListN.{length};
-ghost use Rattle.plain.specs.Requests.{cells};
+ghost use Rattle.plain.specs.Requests.{cells, lacksNext};
 ghost use Rattle.store.specs.Replies.{saidState, saidCall, saidAnswer, saidFinish, saidNext, saidCells, saidCounts};
 ghost use Rattle.text.specs.Fields.{space};
 ghost use Rattle.text.specs.Digits.{numbered, Puts};
@@ -89,15 +89,25 @@ pub fn print_finish(answer: FinishAnswer, text: &mut [u8]) -> usize
     }
 }
 
-// The number of the answer, or whether one may still come.
+// Where no answer is left, the state tells whether one may still come.
+fn print_lacking(state: State, text: &mut [u8]) -> usize
+    requires { ⌜ replyBytes ≤ length (now text) ⌝ }
+    ensures { λ r. ⌜ PrintsReply (lacksNext (saidState state)) (now (text .entry)) r (now (text .exit)) ⌝ }
+{
+    match state {
+        State::Open => return put(b"none yet", text, 0),
+        State::Finished => return put(b"no more", text, 0),
+    }
+}
+
+// The number of the answer, or that none is left.
 pub fn print_next(answer: NextAnswer, text: &mut [u8]) -> usize
     requires { ⌜ replyBytes ≤ length (now text) ⌝ }
     ensures { λ r. ⌜ PrintsReply (saidNext answer) (now (text .entry)) r (now (text .exit)) ⌝ }
 {
     match answer {
         NextAnswer::At(n) => return put_numbered(b"at", n, text, 0),
-        NextAnswer::NoneYet => return put(b"none yet", text, 0),
-        NextAnswer::NoMore => return put(b"no more", text, 0),
+        NextAnswer::Lacking(state) => return print_lacking(state, text),
         NextAnswer::Refused(r) => return print_refused(r, text),
     }
 }

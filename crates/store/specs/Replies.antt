@@ -1,7 +1,7 @@
 -- What each answer of the code says: the number and values that the request's paper gives for each case.
 use mathlib.Core.List.{List}
-use Rattle.plain.specs.Requests.{State, Open, Finished, Counts, Reply, new, oldSubgoal, oldAnswer, done, at, noneYet}
-use Rattle.plain.specs.Requests.{noMore, cells, used, joined, refused, short}
+use Rattle.plain.specs.Requests.{State, Open, Finished, Counts, Reply, new, oldSubgoal, oldAnswer, done, at}
+use Rattle.plain.specs.Requests.{lacksNext, cells, used, joined, refused, short}
 use Rattle.forms.specs.declared.Answer.{Answer}
 use Rattle.forms.specs.declared.Answer.the-variants as converted
 use Rattle.store.specs.declared.State as declared-state
@@ -40,8 +40,7 @@ saidFinish (finish.Refused r) = refused r
 
 abbrev pub saidNext : NextAnswer → Reply
 saidNext (next.At n) = at n
-saidNext next.NoneYet = noneYet
-saidNext next.NoMore = noMore
+saidNext (next.Lacking s) = lacksNext (saidState s)
 saidNext (next.Refused r) = refused r
 
 abbrev pub saidJoin : JoinAnswer → Reply

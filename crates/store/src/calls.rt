@@ -112,7 +112,7 @@ pub fn finish(space: &mut [u32], subgoal: u32) -> FinishAnswer
 // ---- call
 
 // What a subgoal's state cell says.
-fn state_of(x: usize) -> State
+pub fn state_of(x: usize) -> State
     ensures { λ r. ⌜ saidState r ≡ stateOf x ⌝ }
 {
     if x == 0 {

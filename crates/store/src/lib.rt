@@ -27,11 +27,11 @@ pub enum FinishAnswer {
     Refused(u32),
 }
 
-// What next answers: the number of the next answer, that none is there yet, or that no more will be.
+// What next answers: the number of the next answer, or the state of the subgoal where none is left, which tells whether
+// one may still come.
 pub enum NextAnswer {
     At(u32),
-    NoneYet,
-    NoMore,
+    Lacking(State),
     Refused(u32),
 }
 

@@ -133,15 +133,24 @@ pub fn finish_word(answer: FinishAnswer) -> u64
     }
 }
 
-// That none is left is no refusal, and no answer has number 0.
+// That none is left is no refusal: it has a word for each state.
+fn lacking_word(state: State) -> u64
+    ensures { λ w. ⌜ w ≡ word (request.lacksNext (saidState state)) ⌝ }
+{
+    match state {
+        State::Open => return result_word(NONE_YET, 0),
+        State::Finished => return result_word(NO_MORE, 0),
+    }
+}
+
+// The number is that of an answer, and never 0.
 pub fn next_word(answer: NextAnswer) -> u64
     requires { ⌜ Bounded (saidNext answer) ⌝ }
     ensures { λ w. ⌜ w ≡ word (saidNext answer) ⌝ }
 {
     match answer {
         NextAnswer::At(n) => return result_word(AT, n),
-        NextAnswer::NoneYet => return result_word(NONE_YET, 0),
-        NextAnswer::NoMore => return result_word(NO_MORE, 0),
+        NextAnswer::Lacking(state) => return lacking_word(state),
         NextAnswer::Refused(r) => return refusal_word(r),
     }
 }

@@ -17,35 +17,24 @@ returns : tie.Need-returns
 unfolding word
 returns c = said-word saidNext (c .before .before .answer .given .1) _ (c .result-word .ensures)
 
-enum-told : tie.Need-enum-told
-enum-told c = search needs
-
-result-word-requires-2 : tie.Need-result-word-requires-2
-result-word-requires-2 c κs = search needs
-
-returns-2 : tie.Need-returns-2
-unfolding word
-returns-2 c = said-word saidNext (c .before .enum-told .given .1) _ (c .result-word2 .ensures)
-
-enum-told-2 : tie.Need-enum-told-2
-enum-told-2 c = search needs
-
-result-word-requires-3 : tie.Need-result-word-requires-3
-result-word-requires-3 c κs = search needs
-
-returns-3 : tie.Need-returns-3
-unfolding word
-returns-3 c = said-word saidNext (c .before .enum-told2 .given .1) _ (c .result-word3 .ensures)
-
 enum-known-answer-2 : tie.Need-enum-known-answer-2
 enum-known-answer-2 c = search needs
 
-refusal-word-requires : tie.Need-refusal-word-requires
-refusal-word-requires c κs = let h = said-bounded saidNext (c .before .answer2 .given .1) (c .before .before .before .pre) in omega arith
+lacking-word-requires : tie.Need-lacking-word-requires
+lacking-word-requires c κs = search needs
 
-returns-4 : tie.Need-returns-4
+returns-2 : tie.Need-returns-2
+returns-2 c = said-word saidNext (c .before .before .answer2 .given .1) _ (c .lacking-word .ensures)
+
+enum-known-answer-3 : tie.Need-enum-known-answer-3
+enum-known-answer-3 c = search needs
+
+refusal-word-requires : tie.Need-refusal-word-requires
+refusal-word-requires c κs = let h = said-bounded saidNext (c .before .answer3 .given .1) (c .before .before .before .pre) in omega arith
+
+returns-3 : tie.Need-returns-3
 unfolding word
-returns-4 c = said-word saidNext (c .before .before .answer2 .given .1) _ (c .refusal-word .ensures)
+returns-3 c = said-word saidNext (c .before .before .answer3 .given .1) _ (c .refusal-word .ensures)
 
 pub next-word-spec : {M : Type 1} → statement M
 next-word-spec =
@@ -54,12 +43,9 @@ next-word-spec =
     enum-known-answer
     result-word-requires
     returns
-    enum-told
-    result-word-requires-2
-    returns-2
-    enum-told-2
-    result-word-requires-3
-    returns-3
     enum-known-answer-2
+    lacking-word-requires
+    returns-2
+    enum-known-answer-3
     refusal-word-requires
-    returns-4)
+    returns-3)
