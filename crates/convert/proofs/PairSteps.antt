@@ -1,6 +1,6 @@
 -- One law for each branch of the term reader and the list reader of pair form.
 use Prim.Native.Nat.{ℕ, suc, zero, _+_, _*_, _-_, _≤_, _<_}
-use mathlib.Core.List.{List, [], _∷_, _++_, append-assoc, append-nil}
+use mathlib.Core.List.{List, [], _∷_, _++_, append-nil}
 use mathlib.Core.Bool.{Bool, true, false}
 use mathlib.Core.Path.{_≡_, refl, sym, ap, _∙_, subst}
 use native.Mathlib.Omega.{arith}
@@ -9,23 +9,22 @@ use native.Mathlib.Numerals.{add-one}
 use lib.ListN.{length, take, drop, getD, set, length-append, length-drop, drop-of-length-le}
 use lib.Seq.{sets, drop-cons, drop-drop, length-take-le}
 use lib.Dec.{eqb, leb}
-use borrow.Author.Tests.{ne-eqb, eqb-true, leb-true, leb-false}
-use Rattle.basis.specs.Choice.{pick}
+use borrow.Author.Tests.{ne-eqb, leb-true, leb-false}
 use Rattle.forms.specs.declared.Shape.{Shape}
 use Rattle.forms.specs.declared.Shape.the-variants.{Symbol, Pair, Illegal}
 use Rattle.convert.specs.declared.Step.{Step}
 use Rattle.convert.specs.declared.Step.the-variants.{Done, Malformed}
-use Rattle.forms.specs.Cells.{shapeOf, variable, nil, PAIR, BLIST, ELIST, EPAIR}
+use Rattle.forms.specs.Cells.{shapeOf, nil, PAIR, BLIST, ELIST, EPAIR}
 use Rattle.forms.specs.Terms.{Term, cell, arg, pair, pairs, every, applied, paired, begun, reads}
-use Rattle.forms.specs.Numbering.{seen, met, renamed}
+use Rattle.forms.specs.Numbering.{met}
 use Rattle.forms.specs.Due.{dueAfter}
 use Rattle.forms.specs.Compact.{compact, elements}
 use Rattle.forms.proofs.ShapeLaws.{pair-cell-of}
-use Rattle.forms.proofs.ReadLaws.{applied-short, applied-length, applied-drop, applied-every, pairs-joins, compact-joins, compact-size, elements-size, reads-after, reads-within}
+use Rattle.forms.proofs.ReadLaws.{applied-short, applied-length, applied-every, pairs-joins, compact-joins, compact-size, reads-after, reads-within}
 use Rattle.forms.proofs.DueLaws.{due-after}
 use Rattle.forms.proofs.NumberingLaws.{met-length}
-use Rattle.forms.proofs.FormLaws.{met-compact, met-elements}
-use Rattle.convert.specs.Readers.{numberedFrom, Stored, termsAt, TermsRan, ListRan, elementsOf}
+use Rattle.forms.proofs.FormLaws.{met-compact}
+use Rattle.convert.specs.Readers.{Stored, termsAt, TermsRan, ListRan, elementsOf}
 use Rattle.convert.proofs.Storing.{stored-none, stored-cell, stored-append, stored-last}
 
 module _ (arity : ℕ → ℕ) (s : List ℕ) where
@@ -107,35 +106,22 @@ module _ (arity : ℕ → ℕ) (s : List ℕ) where
       terms-symbol vars₁ count₁ out₁ to₁ k due r e d v w =
           symbol-ran vars₁ count₁ out₁ to₁ k (termsAt arity s (at + 1)) (n - 1) (omega arith) r (at-symbol k e) refl v (subst (λ x. TermsRan arity s (at + 1) x vars₁ count₁ out₁ to₁ vars′ out′ r) (d ∙ due-after n k some) w)
 
-      pair-ran : (vars₁ : List ℕ) (count₁ : ℕ) (out₁ : List ℕ) (next end : ℕ) (ts : List Term) (m : ℕ) → n ≡ suc m → (r : Step)
-          → termsAt arity s at ≡ paired ts → 2 ≤ length ts → next ≡ at + 1 + length (every pairs (take 2 ts))
-          → Stored (BLIST ∷ elementsOf ts) vars count out to vars₁ count₁ out₁ end
-          → termsAt arity s next ≡ drop 2 ts
-          → TermsRan arity s next m vars₁ count₁ out₁ end vars′ out′ r → TermsRan arity s at n vars count out to vars′ out′ r
-      unfolding pairs compact paired every elementsOf
-      pair-ran vars₁ count₁ out₁ next end [] m p r e g q v e″ w = absurd (not-suc-le-zero g)
-      pair-ran vars₁ count₁ out₁ next end (x ∷ []) m p r e g q v e″ w = absurd (omega arith)
-      pair-ran vars₁ count₁ out₁ next end (x ∷ y ∷ ts) m p (Done next′ end′ count′) e g q v e″ w =
-          let w₁ : m ≤ length ts = rw e″ at (w .0) in
-          let a : next′ ≡ next + length (every pairs (take m ts)) = rw e″ at (w .1) in
-          let u : Stored (every compact (take m ts)) vars₁ count₁ out₁ end vars′ count′ out′ end′ = rw e″ at (w .2) in
-          rw (e, p) (
-            omega arith,
-            simp length-append (omega (arith, simp length-append at q)),
-            stored-append (BLIST ∷ elements (compact x) y) (every compact (take m ts)) vars count out to vars₁ count₁ out₁ end vars′ count′ out′ end′ v u,
-          )
-      pair-ran vars₁ count₁ out₁ next end (x ∷ y ∷ ts) m p Malformed e g q v e″ w = let w₁ : length ts < m = rw e″ at w in rw (e, p) (omega arith)
+  module _ (at : ℕ) (vars : List ℕ) (count : ℕ) (out : List ℕ) (to : ℕ) (vars₁ : List ℕ) (count₁ : ℕ) (out₁ : List ℕ) (next end : ℕ) where
+    pair-ran : (ts : List Term) → termsAt arity s at ≡ paired ts → 2 ≤ length ts → next ≡ at + 1 + length (every pairs (take 2 ts))
+        → Stored (BLIST ∷ elementsOf ts) vars count out to vars₁ count₁ out₁ end → TermsRan arity s at 1 vars count out to vars₁ out₁ (Done next end count₁)
+    unfolding pairs compact paired every elementsOf
+    pair-ran [] e g q v = absurd (not-suc-le-zero g)
+    pair-ran (x ∷ []) e g q v = absurd (omega arith)
+    pair-ran (x ∷ y ∷ ts) e g q v = rw e (omega arith, simp length-append (omega (arith, simp length-append at q)), rw append-nil v)
 
-      -- a list is stored, which is one of the terms due
-      pub terms-pair : (vars₁ : List ℕ) (count₁ : ℕ) (out₁ : List ℕ) (next end due : ℕ) (r : Step) → shapeOf arity (getD s at 0) ≡ Pair → due ≡ dueAfter n 0 → count ≤ length vars
-          → ListRan arity s (at + 1) vars count (set out to BLIST) (to + 1) vars₁ out₁ (Done next end count₁)
-          → TermsRan arity s next due vars₁ count₁ out₁ end vars′ out′ r → TermsRan arity s at n vars count out to vars′ out′ r
-      terms-pair vars₁ count₁ out₁ next end due r e d g v w =
-          pair-ran vars₁ count₁ out₁ next end (termsAt arity s (at + 1)) (n - 1) (omega arith) r (at-pair e) (v .0) (v .1)
-          (stored-append (BLIST ∷ []) (elementsOf (termsAt arity s (at + 1))) vars count out to vars count (set out to BLIST) (to + 1) vars₁ count₁ out₁ end (stored-cell vars count out to BLIST refl g) (v .2))
-          (at-after (at + 1) 2 next (v .0) (v .1)) (subst (λ x. TermsRan arity s next x vars₁ count₁ out₁ end vars′ out′ r) (d ∙ omega arith) w)
+    -- a list is stored, which is one term
+    pub terms-pair : at < length s → shapeOf arity (getD s at 0) ≡ Pair → count ≤ length vars
+        → ListRan arity s (at + 1) vars count (set out to BLIST) (to + 1) vars₁ out₁ (Done next end count₁) → TermsRan arity s at 1 vars count out to vars₁ out₁ (Done next end count₁)
+    terms-pair h e g v =
+        pair-ran (termsAt arity s (at + 1)) (at-pair at 1 (omega arith) h e) (v .0) (v .1)
+        (stored-append (BLIST ∷ []) (elementsOf (termsAt arity s (at + 1))) vars count out to vars count (set out to BLIST) (to + 1) vars₁ count₁ out₁ end (stored-cell vars count out to BLIST refl g) (v .2))
 
-  -- ---- the list reader
+  -- ---- behind one term: the others, or the rest of the list that it is an element of
 
   -- a term that a list may end in behind EPAIR
   Ending : Term → Type 0
@@ -167,7 +153,7 @@ module _ (arity : ℕ → ℕ) (s : List ℕ) where
 
   module _ (at : ℕ) (vars : List ℕ) (count : ℕ) (out : List ℕ) (to : ℕ) (vars₁ : List ℕ) (count₁ : ℕ) (out₁ : List ℕ) (next end : ℕ)
       (v : TermsRan arity s at 1 vars count out to vars₁ out₁ (Done next end count₁)) where
-    -- the element, and what stands behind it
+    -- the term, and what stands behind it
     element : (t : Term) × (termsAt arity s at ≡ t ∷ termsAt arity s next)
     element = first (termsAt arity s at) (termsAt arity s next) (v .0) (at-after at 1 next (v .0) (v .1))
 
@@ -182,6 +168,19 @@ module _ (arity : ℕ → ℕ) (s : List ℕ) where
       first-stored : Stored (compact x) vars count out to vars₁ count₁ out₁ end
       unfolding every
       first-stored = let q : Stored (compact x ++ []) vars count out to vars₁ count₁ out₁ end = rw e at (v .2) in rw append-nil at q
+
+      one-ran : (vars′ out′ : List ℕ) (m : ℕ) (r : Step) → TermsRan arity s next m vars₁ count₁ out₁ end vars′ out′ r → TermsRan arity s at (suc m) vars count out to vars′ out′ r
+      unfolding every
+      one-ran vars′ out′ m (Done a b d) w =
+          let k : m ≤ length us = rw e′ at (w .0) in
+          let l : a ≡ next + length (every pairs (take m us)) = rw e′ at (w .1) in
+          let o : Stored (every compact (take m us)) vars₁ count₁ out₁ end vars′ d out′ b = rw e′ at (w .2) in
+          rw e (
+            omega arith,
+            simp length-append (omega (arith, first-next)),
+            stored-append (compact x) (every compact (take m us)) vars count out to vars₁ count₁ out₁ end vars′ d out′ b first-stored o,
+          )
+      one-ran vars′ out′ m Malformed w = let k : length us < m = rw e′ at w in rw e (omega arith)
 
       nil-ran : (out′ : List ℕ) (ts : List Term) → us ≡ cell nil ∷ ts → end < length out
           → out′ ≡ sets out₁ to (ELIST ∷ take (end - to) (drop to out₁)) → ListRan arity s at vars count out to vars₁ out′ (Done (next + 1) (end + 1) count₁)
@@ -229,6 +228,13 @@ module _ (arity : ℕ → ℕ) (s : List ℕ) where
       first-count h =
           omega (arith, first-stored .count-at, ap length (met-compact x (take count vars)), met-length (pairs x) (take count vars), length-take-le count vars h)
 
+    -- it is one of n terms, and the others follow
+    pub terms-one : (vars′ out′ : List ℕ) (n due : ℕ) (r : Step) → 0 < n → due ≡ n - 1
+        → TermsRan arity s next due vars₁ count₁ out₁ end vars′ out′ r → TermsRan arity s at n vars count out to vars′ out′ r
+    terms-one vars′ out′ n due r h d w =
+        let z : suc due ≡ n = omega arith in
+        subst (λ x. TermsRan arity s at x vars count out to vars′ out′ r) z (one-ran (element .0) (termsAt arity s next) (element .1) refl vars′ out′ due r w)
+
     -- the element is the last one
     pub list-nil : (out′ : List ℕ) → next < length s → getD s next 0 ≡ nil → end < length out
         → out′ ≡ sets out₁ to (ELIST ∷ take (end - to) (drop to out₁)) → ListRan arity s at vars count out to vars₁ out′ (Done (next + 1) (end + 1) count₁)
@@ -248,30 +254,18 @@ module _ (arity : ℕ → ℕ) (s : List ℕ) where
         tail-ran (element .0) (termsAt arity s next) (element .1) refl vars′ out′ (termsAt arity s next) r refl
         (λ t ts′ q. ending-begun (getD s next 0) (shapeOf arity (getD s next 0)) t (termsAt arity s (next + 1)) ts′ f (λ z. g (pair-cell-of arity (getD s next 0) z)) (sym (at-cons next h) ∙ q)) k w
 
-    -- the room that the element leaves
-    pub list-room : 2 * to + 1 ≤ 3 * at → count ≤ at → count ≤ length vars → (2 * end + 2 ≤ 3 * next) × (at < next) × (to ≤ end) × (count₁ ≤ next) × (length vars₁ ≡ length vars)
-    list-room h k j =
+    -- the room that it leaves
+    pub term-room : at ≤ length s → count ≤ at → count ≤ length vars
+        → (2 * end + 3 * at + 1 ≤ 3 * next + 2 * to) × (at < next) × (to ≤ end) × (count₁ ≤ next) × (length vars₁ ≡ length vars) × (next ≤ length s)
+    term-room h k j =
         omega (
           arith,
           compact-size (element .0),
           first-next (element .0) (termsAt arity s next) (element .1) refl,
           first-stored (element .0) (termsAt arity s next) (element .1) refl .end-at,
           first-count (element .0) (termsAt arity s next) (element .1) refl j,
+          v .1,
           v .2 .kept,
+          length-drop at s,
+          reads-within (shapeOf arity) (pair-cell-of arity) (drop at s) 1 (v .0),
         )
-
-  list-sizes : (ts : List Term) (vs : List ℕ) → 2 ≤ length ts → (2 * length (elementsOf ts) ≤ 3 * length (every pairs (take 2 ts))) × (length (met vs (elementsOf ts)) ≤ length vs + length (every pairs (take 2 ts)))
-  unfolding elementsOf every
-  list-sizes [] vs h = absurd (not-suc-le-zero h)
-  list-sizes (x ∷ []) vs h = absurd (omega arith)
-  list-sizes (x ∷ y ∷ ts) vs h = (
-    simp length-append (omega (arith, compact-size x, elements-size y (compact x))),
-    simp length-append (omega (arith, ap length (met-elements y (compact x) vs), met-length (pairs y) (met vs (compact x)), ap length (met-compact x vs), met-length (pairs x) vs)),
-  )
-
-  -- the room that a list leaves
-  pub pair-room : (at : ℕ) (vars : List ℕ) (count : ℕ) (out : List ℕ) (to : ℕ) (vars₁ : List ℕ) (count₁ : ℕ) (out₁ : List ℕ) (next end : ℕ) → ListRan arity s at vars count out to vars₁ out₁ (Done next end count₁)
-      → 2 * to + 1 ≤ 3 * at → at ≤ length s → count ≤ at → count ≤ length vars → (2 * end + 1 ≤ 3 * next) × (at ≤ next) × (next ≤ length s) × (count₁ ≤ next) × (length vars₁ ≡ length vars)
-  pair-room at vars count out to vars₁ count₁ out₁ next end v h k j i =
-      let z = list-sizes (termsAt arity s at) (take count vars) (v .0) in
-      omega (arith, z .0, z .1, v .1, v .2 .end-at, v .2 .count-at, v .2 .kept, length-take-le count vars i, length-drop at s, reads-within (shapeOf arity) (pair-cell-of arity) (drop at s) 2 (v .0))

@@ -58,6 +58,10 @@ ListRan arity s at vars count out to vars′ out′ Malformed = length (termsAt 
 abbrev pub Ranks : (vars : List ℕ) (count c r : ℕ) (vars′ : List ℕ) → Type 0
 Ranks vars count c r vars′ = (r ≡ rank (take count vars) c) × (vars′ ≡ set vars count c)
 
+-- the cell c, or the number of the variable c, is written at `to`
+abbrev pub Stores : ℕ → List ℕ → ℕ → List ℕ → ℕ → List ℕ → ℕ → List ℕ → Type 0
+Stores c vars count out to vars′ count′ out′ = Stored (c ∷ []) vars count out to vars′ count′ out′ (to + 1)
+
 -- a place by its numbers
 abbrev pub placed : (at to count : ℕ) → Place
 placed at to count = record { at = at; to = to; count = count }

@@ -75,8 +75,7 @@ pub fn read_terms(s: &[u32], m: usize, vars: &mut [u32], form: &mut [u32], editi
     if n < m {
         return Reading::Refusal(TERM);
     }
-    let Step::Done(next, end, variables) = pair_reader::terms(s, 0, m, vars, 0, form, 0, edition)
-    else {
+    let Step::Done(next, end, variables) = pair_reader::terms(s, m, vars, form, edition) else {
         return Reading::Refusal(TERM);
     };
     if next < n {

@@ -8,7 +8,7 @@ ghost use lib.ListN.{length, take, drop, set};
 ghost use lib.Seq.{sets};
 ghost use lib.Dec.{ltb};
 ghost use Rattle.basis.specs.Choice.{pick};
-ghost use Rattle.convert.specs.Readers.{placed, Ranks, PairRoom, ReadsTerms, ReadsList};
+ghost use Rattle.convert.specs.Readers.{placed, Ranks, Stores, PairRoom, ReadsTerms, ReadsList};
 
 // The rank of the variable c among the first `count` cells of vars, or count. Puts c behind them,
 // so that the search always ends at it.
@@ -51,25 +51,60 @@ fn insert(out: &mut [u32], to: usize, end: usize, x: u32)
     out[i] = moved;
 }
 
-// Reads n terms from `from` on and writes their compact forms from `start` on. A list counts as a term without
+// Writes the cell c at `to`, or the number of the variable c, and gives how many variables are known then.
+fn store(c: u32, vars: &mut [u32], count: usize, out: &mut [u32], to: usize) -> usize
+    requires { ⌜ (count < 256) × (count < length (now vars)) × (to < length (now out)) ⌝ }
+    ensures { λ n. ⌜ Stores c (now (vars .entry)) count (now (out .entry)) to (now (vars .exit)) n (now (out .exit)) ⌝ }
+{
+    if forms::is_variable(c) {
+        let r = number(vars, count, c);
+        out[to] = forms::VARIABLE + r as u32;
+        return known_after(r, count);
+    }
+    out[to] = c;
+    count
+}
+
+// Reads the first n terms in s, and leaves their compact forms at the start of out.
+pub fn terms(s: &[u32], n: usize, vars: &mut [u32], out: &mut [u32], edition: u32) -> Step
+    requires { ⌜ PairRoom (now s) (placed 0 0 0) (now vars) (now out) ⌝ }
+    ensures { λ r. ⌜ ReadsTerms edition (now (s .entry)) (placed 0 0 0) n (now (vars .entry)) (now (out .entry))
+        (now (vars .exit)) (now (out .exit)) r ⌝ }
+{
+    let mut at = 0;
+    let mut due = n;
+    let mut count = 0;
+    let mut to = 0;
+    while 0 < due {
+        let Step::Done(next, end, met) = element(s, at, vars, count, out, to, edition) else {
+            return Step::Malformed;
+        };
+        at = next;
+        to = end;
+        count = met;
+        due -= 1;
+    }
+    Step::Done(at, to, count)
+}
+
+// Reads one term from `from` on and writes its compact form from `start` on. A list counts as a term without
 // arguments, since the two that its pair has are read with it. The places are numbers, and not one struct as in the
 // form reader: handed over in memory, an element of a list took a quarter longer.
-pub fn terms(
+fn term(
     s: &[u32],
     from: usize,
-    n: usize,
     vars: &mut [u32],
     known: usize,
     out: &mut [u32],
     start: usize,
     edition: u32,
 ) -> Step
-    requires { ⌜ PairRoom (now s) (placed from start known) (now vars) (now out) × (n ≤ 256 + 256 * from) ⌝ }
-    ensures { λ r. ⌜ ReadsTerms edition (now (s .entry)) (placed from start known) n
+    requires { ⌜ PairRoom (now s) (placed from start known) (now vars) (now out) ⌝ }
+    ensures { λ r. ⌜ ReadsTerms edition (now (s .entry)) (placed from start known) 1
         (now (vars .entry)) (now (out .entry)) (now (vars .exit)) (now (out .exit)) r ⌝ }
 {
     let mut at = from;
-    let mut due = n;
+    let mut due = 1;
     let mut count = known;
     let mut to = start;
     while 0 < due {
@@ -77,18 +112,9 @@ pub fn terms(
             return Step::Malformed;
         }
         let c = s[at];
-        if forms::is_variable(c) {
-            let r = number(vars, count, c);
-            out[to] = forms::VARIABLE + r as u32;
-            count = known_after(r, count);
-            at += 1;
-            to += 1;
-            due = forms::due_after(due, 0);
-            continue;
-        }
         match forms::shape_of(c, edition) {
             forms::Shape::Symbol(k) => {
-                out[to] = c;
+                count = store(c, vars, count, out, to);
                 at += 1;
                 to += 1;
                 due = forms::due_after(due, k);
@@ -141,7 +167,7 @@ fn list(
         }
         if c != forms::PAIR {
             out[end] = forms::EPAIR;
-            return terms(s, next, 1, vars, met, out, end + 1, edition);
+            return term(s, next, vars, met, out, end + 1, edition);
         }
         at = next + 1;
         to = end;
@@ -149,7 +175,7 @@ fn list(
     }
 }
 
-// Reads one element of a list. Most are constants, and take no call of the term reader.
+// Reads one term, in a list or outside. Most are constants, and take no call of the term reader.
 fn element(
     s: &[u32],
     at: usize,
@@ -170,5 +196,5 @@ fn element(
             return Step::Done(at + 1, to + 1, count);
         }
     }
-    terms(s, at, 1, vars, count, out, to, edition)
+    term(s, at, vars, count, out, to, edition)
 }

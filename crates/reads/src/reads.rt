@@ -28,7 +28,7 @@ ghost use Rattle.space.specs.Sound.{Bounds};
 ghost use Rattle.store.specs.Decisions.{says, soundPair, starting, handed, onward};
 ghost use Rattle.store.specs.Calls.{Answers};
 ghost use Rattle.store.specs.Replies.{saidNext, saidCells, saidCounts};
-ghost use Rattle.reads.specs.Reading.{viewIn, decided, loadedAnswer, instancedAnswer, Fills};
+ghost use Rattle.reads.specs.Reading.{viewIn, decided, loadedAnswer, instancedAnswer, Fills, sized};
 
 // Nodes, subgoals and answers used.
 pub fn counts(space: &[u32]) -> CountsAnswer
@@ -186,6 +186,20 @@ pub fn load(space: &[u32], answer: u32, out: &mut [u32]) -> Answer
     }
 }
 
+// The answer to a number of cells that were to be written to so much room: 0 is damage, any other one more than they are.
+fn cells_answer(room: usize, n: usize) -> Answer
+    ensures { λ r. ⌜ saidCells r ≡ sized room n ⌝ }
+{
+    if n == 0 {
+        return Answer::Refused(RECORDS);
+    }
+    let cells = n - 1;
+    if room < cells {
+        return Answer::Short(cells);
+    }
+    Answer::Cells(cells)
+}
+
 // Instance of an answer whose records are sound.
 fn instance_with(space: &[u32], h: Head, a: usize, out: &mut [u32]) -> Answer
     requires { ⌜ Bounds (now space) h × (1 ≤ a) × (a ≤ h .answers) ⌝ }
@@ -206,7 +220,9 @@ fn instance_with(space: &[u32], h: Head, a: usize, out: &mut [u32]) -> Answer
         root: 0,
         leaf: g.leaf,
     };
-    instance_paths(space, end, subgoal, g.variables, out, h.edition)
+    let room = out.len();
+    let n = instance_paths(space, end, subgoal, g.variables, out, h.edition);
+    cells_answer(room, n)
 }
 
 // Instance, under a sound header.
