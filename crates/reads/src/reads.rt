@@ -17,15 +17,15 @@ use space::records::subgoal_in;
 use store::Counts;
 use store::CountsAnswer;
 use store::NextAnswer;
-use store::calls::state_of;
+use store::State;
 use trie::End;
 ghost use mathlib.Core.Path.{_≡_};
 ghost use mathlib.Core.Bool.{true};
 ghost use mathlib.Core.List.{[]};
 ghost use Prim.Native.Nat.{_≤_, _<_};
-ghost use Rattle.plain.specs.Requests.{next, load, instance, counts};
+ghost use Rattle.plain.specs.Requests.{next, load, instance, counts, lacksNext};
 ghost use Rattle.space.specs.Sound.{Bounds};
-ghost use Rattle.store.specs.Decisions.{says, soundPair, starting, handed, onward};
+ghost use Rattle.store.specs.Decisions.{says, stateOf, soundPair, starting, handed, onward};
 ghost use Rattle.store.specs.Calls.{Answers};
 ghost use Rattle.store.specs.Replies.{saidNext, saidCells, saidCounts};
 ghost use Rattle.reads.specs.Reading.{viewIn, decided, loadedAnswer, instancedAnswer, Fills, sized};
@@ -45,13 +45,23 @@ pub fn counts(space: &[u32]) -> CountsAnswer
     }
 }
 
+// What next says of a subgoal of this state where no answer is left.
+fn lacking(state: usize) -> NextAnswer
+    ensures { λ r. ⌜ saidNext r ≡ lacksNext (stateOf state) ⌝ }
+{
+    if state == 0 {
+        return NextAnswer::Lacking(State::Open);
+    }
+    NextAnswer::Lacking(State::Finished)
+}
+
 // Answer a, which a record names, is handed out: it is to be the subgoal's. Where there is none, its state is told.
 fn hand_out(space: &[u32], h: Head, s: usize, state: usize, a: usize) -> NextAnswer
     requires { ⌜ Bounds (now space) h × (a ≤ h .answers) × (state ≡ viewIn (now space) h .subgoal s .state) ⌝ }
     ensures { λ r. ⌜ says (saidNext r) ≡ handed (viewIn (now (space .entry)) h) s a ⌝ }
 {
     if a == 0 {
-        return NextAnswer::Lacking(state_of(state));
+        return lacking(state);
     }
     let AnswerRead::Sound(y) = read_answer(space, h, a) else {
         return NextAnswer::Refused(RECORDS);

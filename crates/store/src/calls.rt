@@ -112,7 +112,7 @@ pub fn finish(space: &mut [u32], subgoal: u32) -> FinishAnswer
 // ---- call
 
 // What a subgoal's state cell says.
-pub fn state_of(x: usize) -> State
+fn state_of(x: usize) -> State
     ensures { λ r. ⌜ saidState r ≡ stateOf x ⌝ }
 {
     if x == 0 {

@@ -5,11 +5,11 @@ use borrow.Author.Needs.{needs}
 use Rattle.reads.proofs.reads.hand_out.Statement.{statement}
 use Rattle.reads.proofs.reads.hand_out.Tie as tie
 
-state-of-requires : tie.Need-state-of-requires
-state-of-requires c κs = search needs
+lacking-requires : tie.Need-lacking-requires
+lacking-requires c κs = search needs
 
 returns : tie.Need-returns
-returns c = handed-none _ _ _ _ (c .before .before .before .args .state) (c .state-of .ensures) (search needs) (search needs)
+returns c = handed-none _ _ _ _ (c .before .before .before .args .state) (c .lacking .ensures) (search needs) (search needs)
 
 read-answer-requires : tie.Need-read-answer-requires
 read-answer-requires c κs = search needs
@@ -36,7 +36,7 @@ pub hand-out-spec : {M : Type 1} → statement M
 hand-out-spec =
     tie.close
     (tie.spec
-    state-of-requires
+    lacking-requires
     returns
     read-answer-requires
     enum-known-y
