@@ -17,11 +17,15 @@ use Rattle.forms.specs.declared.Answer.the-variants.{Cells, Refused, Short}
 use Rattle.forms.specs.Terms.{areTerms}
 use Rattle.forms.specs.Numbering.{met}
 use Rattle.forms.specs.Compact.{compactForm, pairForm, legalForm}
-use Rattle.forms.specs.Converting.{reading, loading, fitting, fittingForm, fittingTerms, compacting, expanding, converterEdition, inEdition, written}
+use Rattle.forms.specs.Converting.{reading, loading, fitting, fittingForm, fittingTerms, compacting, expanding, converterEdition, inEdition, written, refusalOf}
 
 -- what stands at the start of a buffer is no longer than the buffer
 pub taken-room : (n : ℕ) (buffer form : List ℕ) → take n buffer ≡ form → n ≡ length form → n ≤ length buffer
 taken-room n buffer form e l = omega (arith, simp length-take at (ap length e))
+
+-- a refusal by the reader is handed on
+pub handed-on : (q t : Reading) (k r : ℕ) → q ≡ Refusal k → r ≡ refusalOf q → q ≡ t → Refusal r ≡ t
+handed-on q t k r e f g = ap Refusal (f ∙ ap refusalOf e) ∙ sym e ∙ g
 
 -- what fits or does not fit
 module _ (need : ℕ) (form out : List ℕ) where

@@ -146,7 +146,7 @@ pub fn copy(from: &[u32], n: usize, out: &mut [u32])
     }
 }
 
-// Compacts with buffers that are long enough for s. The last arm is never reached, since a form is bound above it.
+// Compacts with buffers that are long enough for s.
 fn compact_with(
     s: &[u32],
     m: usize,
@@ -160,10 +160,7 @@ fn compact_with(
 {
     let read = read_terms(s, m, vars, form, edition);
     let Reading::Form(n, _) = read else {
-        match read {
-            Reading::Refusal(r) => return Answer::Refused(r),
-            Reading::Form(_, _) => return Answer::Refused(0),
-        }
+        return Answer::Refused(forms::refused_by(read));
     };
     if out.len() < n {
         return Answer::Short(n);

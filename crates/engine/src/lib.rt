@@ -86,8 +86,8 @@ fn deliver(cells: &[u32], n: usize, out: &mut [u8]) -> u32
     n as u32
 }
 
-// Compacts the n cells of input, with buffers that are long enough for them: their form has at most
-// three tokens for two cells. The last arm is never reached, since a form is bound above it.
+// Compacts the n cells of input, with buffers that are long enough for them: their form has at most three tokens for
+// two cells.
 fn compact_with(
     input: &[u8],
     n: usize,
@@ -103,10 +103,7 @@ fn compact_with(
     decode(input, n, cells);
     let read = convert::read_terms(&cells[..n], 1, vars, form, edition);
     let Reading::Form(k, _) = read else {
-        match read {
-            Reading::Refusal(r) => return REFUSED + r,
-            Reading::Form(_, _) => return 0,
-        }
+        return REFUSED + forms::refused_by(read);
     };
     deliver(form, k, out)
 }

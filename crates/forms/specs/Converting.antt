@@ -23,6 +23,11 @@ reading arity m cs =
     (pick (ltb 32 (length (met [] cs))) (Refusal 5) (Form (length (compactForm arity cs)) (length (met [] cs))))
     (Refusal 3))
 
+-- the number of a refusal by the reader, which others hand on; 0 for none
+abbrev pub refusalOf : Reading → ℕ
+refusalOf (Refusal r) = r
+refusalOf (Form n m) = 0
+
 -- loading the form of m terms: the cells of their pair form, where it is legal
 unfoldable pub loading : (ℕ → ℕ) → ℕ → List ℕ → Loading
 loading arity m cs = pick (legalForm arity m cs) (Terms (length (pairForm arity cs))) NoForm

@@ -2,7 +2,7 @@
 ghost use mathlib.Core.Path.{_≡_};
 ghost use Prim.Native.Nat.{_+_, _^_, _≤_, _<_};
 ghost use Rattle.forms.specs.Cells.{shapeOf, arityOf, payload, variable, constant, callable};
-ghost use Rattle.forms.specs.Converting.{converterEdition};
+ghost use Rattle.forms.specs.Converting.{converterEdition, refusalOf};
 ghost use Rattle.forms.specs.Due.{arguments, dueAfter};
 
 // What a cell of pair form stands for: a symbol that takes some arguments (a variable, an atom and
@@ -161,4 +161,14 @@ pub fn due_after(due: usize, arity: usize) -> usize
     ensures { λ r. ⌜ r ≡ dueAfter due arity ⌝ }
 {
     due + arity - 1
+}
+
+// The number by which the reader of terms refused, for who hands the refusal on; 0 where it did not.
+pub fn refused_by(read: Reading) -> u32
+    ensures { λ r. ⌜ r ≡ refusalOf read ⌝ }
+{
+    match read {
+        Reading::Refusal(r) => return r,
+        Reading::Form(_, _) => return 0,
+    }
 }

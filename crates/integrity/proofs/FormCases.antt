@@ -1,55 +1,53 @@
--- A law for each case of testing a path.
-use Prim.Native.Nat.{ℕ}
-use mathlib.Core.Path.{_≡_, refl, sym, _∙_}
-use mathlib.Core.Bool.{Bool, true, false, _&&_}
-use mathlib.Core.List.{List, [], _∷_}
+-- A law for each case of testing a path, by what it is worth.
+use Prim.Native.Nat.{ℕ, _+_, _-_}
+use mathlib.Core.Path.{_≡_, refl, sym, ap, _∙_}
+use mathlib.Core.Bool.{Bool, true, false}
+use mathlib.Core.List.{[]}
 use native.Mathlib.Omega.{arith}
-use lib.Dec.{eqb}
-use lib.ListN.{length, getD}
-use Rattle.forms.specs.Cells.{callable}
+use lib.Dec.{eqb, ltb}
+use lib.ListN.{length}
+use borrow.Author.Tests.{lt-ltb}
+use Rattle.basis.proofs.Cases.{by-cases}
+use Rattle.forms.specs.Cells.{arityOf}
 use Rattle.forms.specs.Compact.{legalForm}
 use Rattle.forms.specs.Numbering.{met}
-use Rattle.plain.specs.Words.{Word}
 use Rattle.plain.specs.Coding.{predicate}
 use Rattle.trie.specs.Paths.{Path, none, tokens}
-use Rattle.reads.proofs.ReadsForms.{subgoal-form}
+use Rattle.reads.specs.Reading.{worth}
 use Rattle.agreement.specs.Whole.{pathPasses}
 use Rattle.integrity.specs.Tests.{calledForm, formWhole}
 
-pub begins-none : (w : Word) → length w ≡ 0 → false ≡ predicate w
-unfolding predicate
-begins-none [] e = refl
-begins-none (c ∷ w) e = absurd (omega arith)
+module _ (edition m : ℕ) where
+  -- a subgoal's path
+  pub called-worthless : (p : Path) (n : ℕ) → n ≡ worth edition 1 true p → n ≡ 0 → false ≡ pathPasses p (formWhole (arityOf edition) true m)
+  unfolding formWhole calledForm
+  called-worthless none n e z = refl
+  called-worthless (tokens w) n e z =
+      by-cases (legalForm (arityOf edition) 1 w)
+      (λ l. by-cases (predicate w)
+      (λ c. let d : n ≡ length (met [] w) + 1 = rw (l, c) at e in absurd (omega arith))
+      (λ c. rw (l, c) refl))
+      (λ l. rw l refl)
 
-pub begins-first : (w : Word) (b : Bool) → (length w ≡ 0 → ⊥) → b ≡ callable (getD w 0 0) → b ≡ predicate w
-unfolding predicate
-begins-first [] b z e = absurd (z refl)
-begins-first (c ∷ w) b z e = e
+  pub called-counted : (p : Path) (n : ℕ) → n ≡ worth edition 1 true p → (n ≡ 0 → ⊥) → eqb (n - 1) m ≡ pathPasses p (formWhole (arityOf edition) true m)
+  unfolding formWhole calledForm
+  called-counted none n e z = absurd (z e)
+  called-counted (tokens w) n e z =
+      by-cases (legalForm (arityOf edition) 1 w)
+      (λ l. by-cases (predicate w)
+      (λ c. let d : n ≡ length (met [] w) + 1 = rw (l, c) at e in let k : n - 1 ≡ length (met [] w) = omega arith in rw (l, c, k) refl)
+      (λ c. let d : n ≡ 0 = rw (l, c) at e in absurd (z d)))
+      (λ l. let d : n ≡ 0 = rw l at e in absurd (z d))
 
-module _ (arity : ℕ → ℕ) (m : ℕ) (w : Word) where
-  pub called-illegal : legalForm arity 1 w ≡ false → false ≡ calledForm arity m w
-  unfolding calledForm
-  called-illegal e = rw e
-
-  module _ (l : legalForm arity 1 w ≡ true) where
-    pub called-unbegun : predicate w ≡ false → false ≡ calledForm arity m w
-    unfolding calledForm
-    called-unbegun e = rw (l, e)
-
-    pub called-counted : predicate w ≡ true → (n : ℕ) → n ≡ length (met [] w) → eqb n m ≡ calledForm arity m w
-    unfolding calledForm
-    called-counted p n f = subgoal-form arity m w (sym l) n f ∙ rw (l, p)
-
-  pub form-called : (b : Bool) → b ≡ true → calledForm arity m w ≡ formWhole arity b m w
+  -- an answer's path
+  pub answered-worth : (p : Path) (n : ℕ) → n ≡ worth edition m false p → ltb 0 n ≡ pathPasses p (formWhole (arityOf edition) false m)
   unfolding formWhole
-  form-called b e = rw e
+  answered-worth none n e = rw e refl
+  answered-worth (tokens w) n e =
+      by-cases (legalForm (arityOf edition) m w)
+      (λ l. let d : n ≡ length (met [] w) + 1 = rw l at e in rw (l, lt-ltb 0 n (omega arith)) refl)
+      (λ l. let d : n ≡ 0 = rw l at e in rw (l, d) refl)
 
-  pub form-answered : (b : Bool) → b ≡ false → legalForm arity m w ≡ formWhole arity b m w
-  unfolding formWhole
-  form-answered b e = rw e
-
-pub path-formed : (p : Path) (test : Word → Bool) (w : Word) (r : Bool) → tokens w ≡ p → r ≡ test w → r ≡ pathPasses p test
-path-formed p test w r e f = rw (← e) f
-
-pub path-none : (p : Path) (test : Word → Bool) → p ≡ none → false ≡ pathPasses p test
-path-none p test e = rw e
+  -- which of the two it is
+  pub passes-as : (p : Path) (b called : Bool) (r : Bool) → called ≡ b → r ≡ pathPasses p (formWhole (arityOf edition) b m) → r ≡ pathPasses p (formWhole (arityOf edition) called m)
+  passes-as p b called r e h = rw e h

@@ -1,5 +1,4 @@
 pub mod GroundForms
-pub mod GroundTest
 pub mod JoinedForms
 pub mod SegmentLaws
 pub mod EqualTokens

@@ -7,11 +7,6 @@ mod tokens;
 
 use basis::limits::MOST_CELLS;
 use basis::limits::MOST_TOKENS;
-ghost use mathlib.Core.Path.{_≡_};
-ghost use mathlib.Core.List.{[]};
-ghost use lib.ListN.{length};
-ghost use lib.Dec.{eqb};
-ghost use Rattle.forms.specs.Numbering.{met};
 ghost use Rattle.parts.specs.Hands.{Takeable, Taken, Comparable, Compares, Copyable, Copies};
 
 // Where the tokens of an answer in hand begin: behind the places of 32 terms and an end.
@@ -21,20 +16,6 @@ pub const HANDED: usize = 33;
 pub enum Together {
     Form(usize),
     TooLong,
-}
-
-// Whether a form holds no variable.
-pub fn is_ground(form: &[u32]) -> bool
-    ensures { λ r. ⌜ r ≡ eqb (length (met [] (now (form .entry)))) 0 ⌝ }
-{
-    let mut at = 0;
-    while at < form.len() {
-        if forms::is_variable(form[at]) {
-            return false;
-        }
-        at += 1;
-    }
-    true
 }
 
 // Takes a form of m terms in hand. A term ends where no argument is due and no list is open. Within a list nothing is

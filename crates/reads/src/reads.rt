@@ -196,7 +196,8 @@ pub fn load(space: &[u32], answer: u32, out: &mut [u32]) -> Answer
     }
 }
 
-// The answer to a number of cells that were to be written to so much room: 0 is damage, any other one more than they are.
+// The answer to a number of cells that were to be written to so much room: 0 is damage, any other one more than they
+// are.
 fn cells_answer(room: usize, n: usize) -> Answer
     ensures { λ r. ⌜ saidCells r ≡ sized room n ⌝ }
 {

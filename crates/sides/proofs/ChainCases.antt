@@ -4,9 +4,11 @@ use mathlib.Core.Path.{_≡_, refl, sym, ap, _∙_}
 use mathlib.Core.Bool.{Bool, true, false, _&&_}
 use mathlib.Core.List.{List, [], _∷_, _++_, append-assoc, append-nil}
 use native.Mathlib.Omega.{arith}
+use lib.ListN.{length}
 use lib.Dec.{eqb}
 use borrow.Author.Tests.{eq-eqb, ne-eqb, eqb-false}
 use Rattle.basis.specs.Choice.{pick}
+use Rattle.forms.specs.Numbering.{met}
 use Rattle.basis.proofs.Cases.{by-cases}
 use Rattle.forms.specs.Cells.{arityOf}
 use Rattle.forms.specs.Compact.{legalForm}
@@ -25,28 +27,38 @@ use Rattle.trie.specs.Runs.{pathTo}
 use Rattle.trie.specs.declared.End.{End}
 use Rattle.store.specs.Contracts.{viewIn}
 use Rattle.store.specs.Decisions.{Chain, broken, unbroken, headed, chainFrom, chainOf}
+use Rattle.reads.specs.Reading.{worth}
 use Rattle.reads.proofs.ReadsCases.{reads-answer, read-answer-damaged}
-use Rattle.sides.specs.Chains.{free, PathBroken, PathHeld, PathJudged, prepended, chainIn, Onward, AnswerJudged, ChainHeld}
-use Rattle.sides.specs.declared.Judged.{Judged}
+use Rattle.sides.specs.Chains.{free, PathBroken, PathHeld, prepended, chainIn, Onward, AnswerJudged, ChainHeld}
 use Rattle.sides.specs.declared.Member.the-variants as member
 
 -- ---- a path
 
 module _ (edition m : ℕ) where
-  pub form-broken : (w : Word) → legalForm (arityOf edition) m w ≡ false → PathBroken edition (tokens w) m
+  pub path-broken : (p : Path) (n : ℕ) → n ≡ worth edition m false p → n ≡ 0 → PathBroken edition p m
   unfolding headed
-  form-broken w e broken = refl
-  form-broken w e (unbroken ws) = rw e refl
+  path-broken none n e z later = refl
+  path-broken (tokens w) n e z broken = refl
+  path-broken (tokens w) n e z (unbroken ws) =
+      by-cases (legalForm (arityOf edition) m w)
+      (λ l. let d : n ≡ length (met [] w) + 1 = rw l at e in absurd (omega arith))
+      (λ l. rw l refl)
 
-  pub form-held : (w : Word) (b : Bool) → legalForm (arityOf edition) m w ≡ true → free w ≡ b → PathHeld edition (tokens w) m b
-  form-held w b e f = (w, refl, e, f)
+  -- a form that is worth something
+  held : (p : Path) (n : ℕ) → n ≡ worth edition m false p → (n ≡ 0 → ⊥)
+      → (w : Word) × (p ≡ tokens w) × (legalForm (arityOf edition) m w ≡ true) × (n ≡ length (met [] w) + 1)
+  held none n e z = absurd (z e)
+  held (tokens w) n e z =
+      by-cases (legalForm (arityOf edition) m w)
+      (λ l. (w, refl, l, rw l at e))
+      (λ l. let d : n ≡ 0 = rw l at e in absurd (z d))
 
-  pub path-same : (p q : Path) (r : Judged) → p ≡ q → PathJudged edition p m r → PathJudged edition q m r
-  path-same p q r e j = rw e at j
+  module _ (p : Path) (n : ℕ) (e : n ≡ worth edition m false p) (z : n ≡ 0 → ⊥) where
+    pub path-ground : n ≡ 1 → PathHeld edition p m true
+    path-ground o = let h = held p n e z in (h .0, h .1, h .2, eq-eqb (length (met [] (h .0))) 0 (omega (arith, h .3)))
 
-  pub path-broken : (p : Path) → p ≡ none → PathBroken edition p m
-  unfolding headed
-  path-broken p e later = rw e refl
+    pub path-variable : (n ≡ 1 → ⊥) → PathHeld edition p m false
+    path-variable o = let h = held p n e z in (h .0, h .1, h .2, ne-eqb (length (met [] (h .0))) 0 (λ x. o (omega (arith, h .3, x))))
 
 -- ---- an answer
 

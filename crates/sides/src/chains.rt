@@ -1,31 +1,16 @@
 // The answers of a source, judged one after another: each record as next judges it, each path as load does, and whether
-// a form holds a variable. A path is gathered as reads gathers it: in the few cells that suffice for most.
+// a form holds a variable.
 use super::Judged;
 use super::Member;
-use convert::buffers::FEW_TOKENS;
-use convert::buffers::SOME_TOKENS;
-use convert::buffers::TERMS_OF_FEW;
-use convert::buffers::TERMS_OF_MOST;
-use convert::buffers::TERMS_OF_SOME;
-use parts::is_ground;
-use reads::paths::is_legal_with;
+use reads::paths::path_worth;
 use space::AnswerRead;
 use space::Head;
 use space::Subgoal;
 use space::records::read_answer;
 use trie::End;
-use trie::Gathered;
-use trie::Short;
-use trie::paths::CELLS;
-use trie::paths::LEVELS;
-use trie::paths::long_path;
-use trie::paths::short_path;
 ghost use mathlib.Core.Path.{_≡_};
 ghost use mathlib.Core.Bool.{_&&_};
 ghost use Prim.Native.Nat.{_≤_};
-ghost use Rattle.forms.specs.Cells.{arityOf};
-ghost use Rattle.forms.specs.Compact.{legalForm};
-ghost use Rattle.trie.specs.Paths.{tokens};
 ghost use Rattle.trie.specs.Runs.{Ends, pathTo};
 ghost use Rattle.store.specs.Contracts.{Held};
 ghost use Rattle.sides.specs.Chains.{PathJudged, AnswerJudged, ChainJudged};
@@ -39,54 +24,19 @@ fn both(a: bool, b: bool) -> bool
     false
 }
 
-// The same with a buffer of its own. Short forms get short ones.
-fn is_legal(form: &[u32], m: usize, edition: u32) -> bool
-    ensures { λ r. ⌜ r ≡ legalForm (arityOf edition) m (now (form .entry)) ⌝ }
-{
-    if form.len() <= FEW_TOKENS {
-        let mut cells = [0u32; TERMS_OF_FEW];
-        return is_legal_with(form, m, &mut cells, edition);
-    }
-    if form.len() <= SOME_TOKENS {
-        let mut cells = [0u32; TERMS_OF_SOME];
-        return is_legal_with(form, m, &mut cells, edition);
-    }
-    let mut cells = [0u32; TERMS_OF_MOST];
-    is_legal_with(form, m, &mut cells, edition)
-}
-
-// A gathered path of m terms.
-fn judge_form(form: &[u32], m: usize, edition: u32) -> Judged
-    ensures { λ r. ⌜ PathJudged edition (tokens (now (form .entry))) m r ⌝ }
-{
-    if is_legal(form, m, edition) {
-        if is_ground(form) {
-            return Judged::Ground;
-        }
-        return Judged::Variable;
-    }
-    Judged::Damaged
-}
-
 // The path of an answer, from its leaf up.
 fn judge_path(space: &[u32], end: End, m: usize, edition: u32) -> Judged
     requires { ⌜ Ends (now space) end ⌝ }
     ensures { λ r. ⌜ PathJudged edition (pathTo (now (space .entry)) end) m r ⌝ }
 {
-    let mut cells = [0u32; LEVELS];
-    let short = short_path(space, end, &mut cells);
-    match short {
-        Short::Whole(k) => judge_form(&cells[k..], m, edition),
-        Short::Longer(n) => {
-            let mut path = [0u32; CELLS];
-            let long = long_path(space, end, n, &cells, &mut path);
-            match long {
-                Gathered::Tokens(k) => judge_form(&path[k..], m, edition),
-                Gathered::Damaged => Judged::Damaged,
-            }
-        }
-        Short::Damaged => Judged::Damaged,
+    let n = path_worth(space, end, m, false, edition);
+    if n == 0 {
+        return Judged::Damaged;
     }
+    if n == 1 {
+        return Judged::Ground;
+    }
+    Judged::Variable
 }
 
 // Answer a, which is to be the subgoal's. What follows it is judged also where its form holds a variable.

@@ -39,11 +39,6 @@ AnswersUnder find before h q r after =
     (r ≡ underBy find (sizesOf (h .edition)) (codingOf (h .edition)) before q (header.Sound h) .reply)
     × (after ≡ underBy find (sizesOf (h .edition)) (codingOf (h .edition)) before q (header.Sound h) .state)
 
--- the number by which the reader of terms refused; 0 where it did not
-abbrev pub refusalOf : Reading → ℕ
-refusalOf (Refusal r) = r
-refusalOf (Form n m) = 0
-
 -- a path stopped below `parent`, behind `last`; the term has m variables
 abbrev pub StoppedAt : List ℕ → Head → ℕ → ℕ → ℕ → Type 0
 StoppedAt cs h parent last m = Bounds cs h × (parent < h .nodes) × (last < h .nodes) × (m ≤ 32)

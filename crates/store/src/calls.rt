@@ -18,6 +18,7 @@ use convert::buffers::FORM_OF_MOST;
 use convert::read_terms;
 use forms::Reading;
 use forms::is_callable;
+use forms::refused_by;
 use space::Answer;
 use space::AnswerRead;
 use space::Head;
@@ -60,19 +61,9 @@ ghost use Rattle.trie.specs.Index.{searchIndexed};
 ghost use Rattle.store.specs.Calls.{Answers, AnswersIndexed};
 ghost use Rattle.convert.specs.Holds.{RoomForForm};
 ghost use Rattle.store.specs.Contracts.{viewIn, Does, AnswersUnder, StoppedAt};
-ghost use Rattle.store.specs.Contracts.{Held, HeldLast, RefusedBy, refusalOf, calledFrom};
+ghost use Rattle.store.specs.Contracts.{Held, HeldLast, RefusedBy, calledFrom};
 ghost use Rattle.store.specs.Contracts.{enteredBelow, answeredFrom, answeredTerms, FormIn, DoesRead};
 ghost use Rattle.store.specs.Replies.{saidState, saidCall, saidAnswer, saidFinish};
-
-// The number by which the reader of terms refused; 0 where it did not.
-fn refused_by(read: Reading) -> u32
-    ensures { λ r. ⌜ r ≡ refusalOf read ⌝ }
-{
-    match read {
-        Reading::Refusal(r) => return r,
-        Reading::Form(_, _) => return 0,
-    }
-}
 
 // ---- finish
 

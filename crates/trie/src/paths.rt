@@ -1,8 +1,8 @@
 // The tokens of a path, gathered from its end up to its root by recursion on the parent: the node number falls at each
 // step until the root, within a run (`climb`) and from run to run (`climb_runs`). The space is lent as `&&[u32]`: a
-// slice itself would be copied to the stack for each call, which keeps the compiler from making a loop of the last call.
-// The cells of one run are all that most paths need, and few enough to be cleared in no time that was measured; a caller
-// lends the cells of a whole path only where the path turns out to be longer.
+// slice itself would be copied to the stack for each call, which keeps the compiler from making a loop of the last
+// call. The cells of one run are all that most paths need, and few enough to be cleared in no time that was measured; a
+// caller lends the cells of a whole path only where the path turns out to be longer.
 use super::End;
 use super::Gathered;
 use super::Short;

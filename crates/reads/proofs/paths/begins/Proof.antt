@@ -1,8 +1,8 @@
--- `integrity::paths::begins` meets its contract.
-use Rattle.integrity.proofs.FormCases.{begins-none, begins-first}
+-- `reads::paths::begins` meets its contract.
+use Rattle.reads.proofs.ReadsForms.{begins-none, begins-first}
 use borrow.Author.Needs.{needs}
-use Rattle.integrity.proofs.paths.begins.Statement.{statement}
-use Rattle.integrity.proofs.paths.begins.Tie as tie
+use Rattle.reads.proofs.paths.begins.Statement.{statement}
+use Rattle.reads.proofs.paths.begins.Tie as tie
 
 returns : tie.Need-returns
 returns c = begins-none _ (search needs)
