@@ -1,4 +1,4 @@
-/* Makes each call that does not enter anything once for every item of a table, by both sides: for callgrind to count. */
+/* Makes next, load and instance once for every answer of a table, by both sides: for callgrind to count. */
 #include "../include/tables.h"
 #include "plain_store.h"
 #include "workloads.h"

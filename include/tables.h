@@ -282,23 +282,23 @@ static inline uint32_t tables_edition(const uint32_t *space, size_t space_cells)
  * No call uses more bytes of the stack than this, whatever it is lent. Behind
  * each bound stands the most that was measured with the archive's code on
  * x86-64, by tests/stack_test.c, which searches for the worst input and fails
- * above the bound; the bounds leave a quarter to spare, or half a kilobyte. The
+ * above the bound; the bounds leave about a quarter to spare, or half a kilobyte. The
  * worst inputs are lists that begin in lists and do not end: 256 pairs for what
  * reads terms, and marks BLIST for what reads forms and paths.
  */
 enum tables_stack {
     TABLES_STACK_FRESH = 1024,     /* 56 */
-    TABLES_STACK_CALL = 92160,     /* 73,112; the same bound with an index */
-    TABLES_STACK_ANSWER = 92160,   /* 73,144; so too */
+    TABLES_STACK_CALL = 92160,     /* 69,016; the same bound with an index */
+    TABLES_STACK_ANSWER = 92160,   /* 68,952; so too */
     TABLES_STACK_FINISH = 1024,    /* 16 */
-    TABLES_STACK_NEXT = 1024,      /* 40 */
-    TABLES_STACK_LOAD = 58368,     /* 45,984 */
-    TABLES_STACK_INSTANCE = 62464, /* 49,936 */
+    TABLES_STACK_NEXT = 1024,      /* 48 */
+    TABLES_STACK_LOAD = 58368,     /* 46,192 */
+    TABLES_STACK_INSTANCE = 62464, /* 50,176 */
     TABLES_STACK_COUNTS = 1024,    /* 16 */
-    TABLES_STACK_JOIN = 72704,     /* 57,600; so too */
-    TABLES_STACK_BUILD = 1024,     /* 88 */
-    TABLES_STACK_CHECK = 58368,    /* 46,032 */
-    TABLES_STACK_COMPACT = 92160,  /* 73,624 */
+    TABLES_STACK_JOIN = 72704,     /* 57,632; so too */
+    TABLES_STACK_BUILD = 1024,     /* 104 */
+    TABLES_STACK_CHECK = 58368,    /* 46,960 */
+    TABLES_STACK_COMPACT = 92160,  /* 69,544 */
     TABLES_STACK_EXPAND = 57344    /* 45,744 */
 };
 
