@@ -31,7 +31,8 @@ abbrev pub termsAt : (ℕ → ℕ) → List ℕ → ℕ → List Term
 termsAt arity s at = reads (shapeOf arity) (drop at s)
 
 -- n terms were read, and their compact forms are stored; or there are fewer than n
-abbrev pub TermsRan : (ℕ → ℕ) → List ℕ → ℕ → ℕ → List ℕ → ℕ → List ℕ → ℕ → List ℕ → List ℕ → Step → Type 0
+abbrev pub TermsRan : (arity : ℕ → ℕ) (s : List ℕ) (at n : ℕ) (vars : List ℕ) (count : ℕ) (out : List ℕ) (to : ℕ)
+    (vars′ out′ : List ℕ) → Step → Type 0
 TermsRan arity s at n vars count out to vars′ out′ (Done next end count′) =
     (n ≤ length (termsAt arity s at))
     × (next ≡ at + length (every pairs (take n (termsAt arity s at))))
@@ -45,7 +46,8 @@ elementsOf (h ∷ []) = []
 elementsOf (h ∷ t ∷ ts) = elements (compact h) t
 
 -- an element and a tail were read, and the list's elements are stored; or there are fewer than two terms
-abbrev pub ListRan : (ℕ → ℕ) → List ℕ → ℕ → List ℕ → ℕ → List ℕ → ℕ → List ℕ → List ℕ → Step → Type 0
+abbrev pub ListRan : (arity : ℕ → ℕ) (s : List ℕ) (at : ℕ) (vars : List ℕ) (count : ℕ) (out : List ℕ) (to : ℕ)
+    (vars′ out′ : List ℕ) → Step → Type 0
 ListRan arity s at vars count out to vars′ out′ (Done next end count′) =
     (2 ≤ length (termsAt arity s at))
     × (next ≡ at + length (every pairs (take 2 (termsAt arity s at))))

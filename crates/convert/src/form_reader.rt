@@ -90,11 +90,7 @@ fn list(s: &[u32], from: Place, out: &mut [u32], edition: u32, limit: usize) -> 
         }
         if c == forms::EPAIR {
             if some {
-                let tail = Place {
-                    at: at,
-                    to: to,
-                    count: count,
-                };
+                let tail = Place { at, to, count };
                 return ending(s, tail, out, edition, limit);
             }
             return Step::Malformed;

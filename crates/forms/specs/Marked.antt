@@ -36,7 +36,8 @@ MarkedTerms =
     × (compactForm (arityOf 1) (PAIR ∷ int 1 ∷ PAIR ∷ int 2 ∷ PAIR ∷ int 3 ∷ nil ∷ [])
     ≡ BLIST ∷ int 1 ∷ int 2 ∷ ELIST ∷ int 3 ∷ [])
     -- M4 [1,2|3]
-    × (compactForm (arityOf 1) (PAIR ∷ int 1 ∷ PAIR ∷ int 2 ∷ int 3 ∷ []) ≡ BLIST ∷ int 1 ∷ int 2 ∷ EPAIR ∷ int 3 ∷ [])
+    × (compactForm (arityOf 1) (PAIR ∷ int 1 ∷ PAIR ∷ int 2 ∷ int 3 ∷ [])
+    ≡ BLIST ∷ int 1 ∷ int 2 ∷ EPAIR ∷ int 3 ∷ [])
     -- M5 [1,[2,3],[]]
     × (compactForm (arityOf 1) (PAIR ∷ int 1 ∷ PAIR ∷ PAIR ∷ int 2 ∷ PAIR ∷ int 3 ∷ nil ∷ PAIR ∷ nil ∷ nil ∷ [])
     ≡ BLIST ∷ int 1 ∷ BLIST ∷ int 2 ∷ ELIST ∷ int 3 ∷ ELIST ∷ nil ∷ [])

@@ -133,7 +133,8 @@ Long =
     ∷ join 5 2 [] 3 []
     ∷ join 1 5 [] 3 (0 ∷ 0 ∷ 0 ∷ 0 ∷ 1 ∷ 0 ∷ [])
     ∷ [])
-    ≡ new 1 ∷ new 2 ∷ new 3 ∷ new 4 ∷ new 5 ∷ new 1 ∷ new 2 ∷ done ∷ done ∷ done ∷ refused 4 ∷ joined 1 ∷ refused 15
+    ≡ new 1 ∷ new 2 ∷ new 3 ∷ new 4 ∷ new 5 ∷ new 1 ∷ new 2 ∷ done ∷ done ∷ done
+    ∷ refused 4 ∷ joined 1 ∷ refused 15
     ∷ refused 15 ∷ joined 0 ∷ [])
 
 pub join-examples : Joined × Refused × Long
