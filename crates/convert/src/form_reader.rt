@@ -5,12 +5,13 @@ use crate::Place;
 use crate::Step;
 use crate::met_after;
 ghost use mathlib.Core.Bool.{false, true};
+ghost use Rattle.basis.specs.Moments.{old, new};
 ghost use Rattle.convert.specs.Loading.{FormRoom, AtTail, ReadsForms, ReadsRest};
 
 // Reads the forms of n terms and writes their pair forms, up to the limit.
 pub fn terms(s: &[u32], from: Place, n: usize, out: &mut [u32], edition: u32, limit: usize) -> Step
     requires { ⌜ FormRoom (now s) from n limit (now out) ⌝ }
-    ensures { λ r. ⌜ ReadsForms edition (now (s .entry)) limit from n (now (out .entry)) (now (out .exit)) r ⌝ }
+    ensures { λ r. ⌜ ReadsForms edition (old s) limit from n (old out) (new out) r ⌝ }
 {
     let mut at = from.at;
     let mut due = n;
@@ -66,7 +67,7 @@ pub fn terms(s: &[u32], from: Place, n: usize, out: &mut [u32], edition: u32, li
 // Most elements are constants, and take no call of the term reader.
 fn list(s: &[u32], from: Place, out: &mut [u32], edition: u32, limit: usize) -> Step
     requires { ⌜ FormRoom (now s) from 1 limit (now out) ⌝ }
-    ensures { λ r. ⌜ ReadsRest edition (now (s .entry)) limit from false (now (out .entry)) (now (out .exit)) r ⌝ }
+    ensures { λ r. ⌜ ReadsRest edition (old s) limit from false (old out) (new out) r ⌝ }
 {
     let mut at = from.at;
     let mut some = false;
@@ -129,7 +130,7 @@ fn list(s: &[u32], from: Place, out: &mut [u32], edition: u32, limit: usize) -> 
 // Reads the EPAIR at which it stands and the term that a list ends in behind it: neither [] nor a list.
 fn ending(s: &[u32], from: Place, out: &mut [u32], edition: u32, limit: usize) -> Step
     requires { ⌜ FormRoom (now s) from 1 limit (now out) × AtTail (now s) from ⌝ }
-    ensures { λ r. ⌜ ReadsRest edition (now (s .entry)) limit from true (now (out .entry)) (now (out .exit)) r ⌝ }
+    ensures { λ r. ⌜ ReadsRest edition (old s) limit from true (old out) (new out) r ⌝ }
 {
     let at = from.at;
     if s.len() <= at + 1 {

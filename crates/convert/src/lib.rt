@@ -25,6 +25,7 @@ ghost use mathlib.Core.Path.{_≡_};
 ghost use mathlib.Core.List.{_++_};
 ghost use Prim.Native.Nat.{_+_, _^_, _≤_, _<_};
 ghost use lib.ListN.{length, take, drop};
+ghost use Rattle.basis.specs.Moments.{old, new};
 ghost use Rattle.convert.specs.Loading.{after};
 ghost use Rattle.convert.specs.Holds.{RoomForForm, RoomForTerms, Reads, Loads, LoadsCounted};
 ghost use Rattle.convert.specs.Holds.{Compacts, CompactsIn, Expands, ExpandsIn};
@@ -66,7 +67,7 @@ fn met_after(c: u32, count: usize) -> usize
 // variables that are met.
 pub fn read_terms(s: &[u32], m: usize, vars: &mut [u32], form: &mut [u32], edition: u32) -> Reading
     requires { ⌜ RoomForForm (now s) (now vars) (now form) ⌝ }
-    ensures { λ r. ⌜ Reads edition m (now (s .entry)) (now (form .exit)) r ⌝ }
+    ensures { λ r. ⌜ Reads edition m (old s) (new form) r ⌝ }
 {
     let n = s.len();
     if MOST_CELLS < n {
@@ -100,7 +101,7 @@ fn limit_of(room: usize) -> usize
 // Loads the m terms whose compact form is s, and leaves their pair form at the start of cells.
 pub fn load_counted(s: &[u32], m: usize, cells: &mut [u32], edition: u32) -> Loaded
     requires { ⌜ RoomForTerms (now s) (now cells) ⌝ }
-    ensures { λ r. ⌜ LoadsCounted edition m (now (s .entry)) (now (cells .exit)) r ⌝ }
+    ensures { λ r. ⌜ LoadsCounted edition m (old s) (new cells) r ⌝ }
 {
     let limit = limit_of(cells.len());
     if limit < m {
@@ -126,7 +127,7 @@ pub fn load_counted(s: &[u32], m: usize, cells: &mut [u32], edition: u32) -> Loa
 // The same without the count of variables.
 pub fn load_terms(s: &[u32], m: usize, cells: &mut [u32], edition: u32) -> Loading
     requires { ⌜ RoomForTerms (now s) (now cells) ⌝ }
-    ensures { λ r. ⌜ Loads edition m (now (s .entry)) (now (cells .exit)) r ⌝ }
+    ensures { λ r. ⌜ Loads edition m (old s) (new cells) r ⌝ }
 {
     let Loaded::Counted(n, _) = load_counted(s, m, cells, edition) else {
         return Loading::NoForm;
@@ -137,7 +138,7 @@ pub fn load_terms(s: &[u32], m: usize, cells: &mut [u32], edition: u32) -> Loadi
 // Copies the first n cells.
 pub fn copy(from: &[u32], n: usize, out: &mut [u32])
     requires { ⌜ (n ≤ length (now from)) × (n ≤ length (now out)) ⌝ }
-    ensures { λ _. ⌜ now (out .exit) ≡ take n (now (from .entry)) ++ drop n (now (out .entry)) ⌝ }
+    ensures { λ _. ⌜ new out ≡ take n (old from) ++ drop n (old out) ⌝ }
 {
     let mut i = 0;
     while i < n {
@@ -156,7 +157,7 @@ fn compact_with(
     edition: u32,
 ) -> Answer
     requires { ⌜ RoomForForm (now s) (now vars) (now form) ⌝ }
-    ensures { λ r. ⌜ Compacts edition m (now (s .entry)) (now (out .entry)) r (now (out .exit)) ⌝ }
+    ensures { λ r. ⌜ Compacts edition m (old s) (old out) r (new out) ⌝ }
 {
     let read = read_terms(s, m, vars, form, edition);
     let Reading::Form(n, _) = read else {
@@ -171,7 +172,7 @@ fn compact_with(
 
 // Compacts in an edition that there is. Short terms get short buffers.
 fn compact_terms(s: &[u32], m: usize, out: &mut [u32], edition: u32) -> Answer
-    ensures { λ r. ⌜ Compacts edition m (now (s .entry)) (now (out .entry)) r (now (out .exit)) ⌝ }
+    ensures { λ r. ⌜ Compacts edition m (old s) (old out) r (new out) ⌝ }
 {
     if s.len() <= FEW_CELLS {
         let mut vars = [0u32; FEW_CELLS];
@@ -185,7 +186,7 @@ fn compact_terms(s: &[u32], m: usize, out: &mut [u32], edition: u32) -> Answer
 
 // Compacts the m terms in s into out, in the edition of this number.
 pub fn compact(s: &[u32], m: usize, out: &mut [u32], edition: u32) -> Answer
-    ensures { λ r. ⌜ CompactsIn edition m (now (s .entry)) (now (out .entry)) r (now (out .exit)) ⌝ }
+    ensures { λ r. ⌜ CompactsIn edition m (old s) (old out) r (new out) ⌝ }
 {
     if forms::is_converter_edition(edition) {
         return compact_terms(s, m, out, edition);
@@ -196,7 +197,7 @@ pub fn compact(s: &[u32], m: usize, out: &mut [u32], edition: u32) -> Answer
 // Expands with a buffer that is long enough for s.
 fn expand_with(s: &[u32], m: usize, cells: &mut [u32], out: &mut [u32], edition: u32) -> Answer
     requires { ⌜ RoomForTerms (now s) (now cells) ⌝ }
-    ensures { λ r. ⌜ Expands edition m (now (s .entry)) (now (out .entry)) r (now (out .exit)) ⌝ }
+    ensures { λ r. ⌜ Expands edition m (old s) (old out) r (new out) ⌝ }
 {
     let Loading::Terms(k) = load_terms(s, m, cells, edition) else {
         return Answer::Refused(FORM);
@@ -210,7 +211,7 @@ fn expand_with(s: &[u32], m: usize, cells: &mut [u32], out: &mut [u32], edition:
 
 // Expands in an edition that there is, as a sound header names one. Short forms get short buffers.
 pub fn expand_terms(s: &[u32], m: usize, out: &mut [u32], edition: u32) -> Answer
-    ensures { λ r. ⌜ Expands edition m (now (s .entry)) (now (out .entry)) r (now (out .exit)) ⌝ }
+    ensures { λ r. ⌜ Expands edition m (old s) (old out) r (new out) ⌝ }
 {
     if s.len() <= FEW_TOKENS {
         let mut cells = [0u32; TERMS_OF_FEW];
@@ -226,7 +227,7 @@ pub fn expand_terms(s: &[u32], m: usize, out: &mut [u32], edition: u32) -> Answe
 
 // Expands the form of m terms in s into out, in the edition of this number.
 pub fn expand(s: &[u32], m: usize, out: &mut [u32], edition: u32) -> Answer
-    ensures { λ r. ⌜ ExpandsIn edition m (now (s .entry)) (now (out .entry)) r (now (out .exit)) ⌝ }
+    ensures { λ r. ⌜ ExpandsIn edition m (old s) (old out) r (new out) ⌝ }
 {
     if forms::is_converter_edition(edition) {
         return expand_terms(s, m, out, edition);

@@ -1,20 +1,20 @@
 // The readers of pair form, which write compact form and number variables as they read.
 use crate::Step;
 ghost use mathlib.Core.Path.{_≡_};
-ghost use mathlib.Core.Bool.{true};
 ghost use mathlib.Core.List.{_∷_};
-ghost use Prim.Native.Nat.{ℕ, _+_, _*_, _-_, _^_, _≤_, _<_};
-ghost use lib.ListN.{length, take, drop, set};
+ghost use Prim.Native.Nat.{_+_, _*_, _-_, _^_, _≤_, _<_};
+ghost use lib.ListN.{length, take, drop};
 ghost use lib.Seq.{sets};
 ghost use lib.Dec.{ltb};
 ghost use Rattle.basis.specs.Choice.{pick};
+ghost use Rattle.basis.specs.Moments.{old, new};
 ghost use Rattle.convert.specs.Readers.{placed, Ranks, Stores, PairRoom, ReadsTerms, ReadsList};
 
 // The rank of the variable c among the first `count` cells of vars, or count. Puts c behind them,
 // so that the search always ends at it.
 fn number(vars: &mut [u32], count: usize, c: u32) -> usize
     requires { ⌜ count < length (now vars) ⌝ }
-    ensures { λ r. ⌜ Ranks (now (vars .entry)) count c r (now (vars .exit)) ⌝ }
+    ensures { λ r. ⌜ Ranks (old vars) count c r (new vars) ⌝ }
 {
     vars[count] = c;
     let mut i = 0;
@@ -38,7 +38,7 @@ fn known_after(r: usize, count: usize) -> usize
 // Moves the cells from `to` up to `end` one place up and puts x before them.
 fn insert(out: &mut [u32], to: usize, end: usize, x: u32)
     requires { ⌜ (to ≤ end) × (end < length (now out)) ⌝ }
-    ensures { λ _. ⌜ now (out .exit) ≡ sets (now (out .entry)) to (x ∷ take (end - to) (drop to (now (out .entry)))) ⌝ }
+    ensures { λ _. ⌜ new out ≡ sets (old out) to (x ∷ take (end - to) (drop to (old out))) ⌝ }
 {
     let mut i = to;
     let mut moved = x;
@@ -54,7 +54,7 @@ fn insert(out: &mut [u32], to: usize, end: usize, x: u32)
 // Writes the cell c at `to`, or the number of the variable c, and gives how many variables are known then.
 fn store(c: u32, vars: &mut [u32], count: usize, out: &mut [u32], to: usize) -> usize
     requires { ⌜ (count < 256) × (count < length (now vars)) × (to < length (now out)) ⌝ }
-    ensures { λ n. ⌜ Stores c (now (vars .entry)) count (now (out .entry)) to (now (vars .exit)) n (now (out .exit)) ⌝ }
+    ensures { λ n. ⌜ Stores c (old vars) count (old out) to (new vars) n (new out) ⌝ }
 {
     if forms::is_variable(c) {
         let r = number(vars, count, c);
@@ -68,8 +68,7 @@ fn store(c: u32, vars: &mut [u32], count: usize, out: &mut [u32], to: usize) -> 
 // Reads the first n terms in s, and leaves their compact forms at the start of out.
 pub fn terms(s: &[u32], n: usize, vars: &mut [u32], out: &mut [u32], edition: u32) -> Step
     requires { ⌜ PairRoom (now s) (placed 0 0 0) (now vars) (now out) ⌝ }
-    ensures { λ r. ⌜ ReadsTerms edition (now (s .entry)) (placed 0 0 0) n (now (vars .entry)) (now (out .entry))
-        (now (vars .exit)) (now (out .exit)) r ⌝ }
+    ensures { λ r. ⌜ ReadsTerms edition (old s) (placed 0 0 0) n (old vars) (old out) (new vars) (new out) r ⌝ }
 {
     let mut at = 0;
     let mut due = n;
@@ -100,8 +99,8 @@ fn term(
     edition: u32,
 ) -> Step
     requires { ⌜ PairRoom (now s) (placed from start known) (now vars) (now out) ⌝ }
-    ensures { λ r. ⌜ ReadsTerms edition (now (s .entry)) (placed from start known) 1
-        (now (vars .entry)) (now (out .entry)) (now (vars .exit)) (now (out .exit)) r ⌝ }
+    ensures { λ r.
+        ⌜ ReadsTerms edition (old s) (placed from start known) 1 (old vars) (old out) (new vars) (new out) r ⌝ }
 {
     let mut at = from;
     let mut due = 1;
@@ -147,8 +146,7 @@ fn list(
     edition: u32,
 ) -> Step
     requires { ⌜ PairRoom (now s) (placed from start known) (now vars) (now out) × (2 * start + 1 ≤ 3 * from) ⌝ }
-    ensures { λ r. ⌜ ReadsList edition (now (s .entry)) (placed from start known) (now (vars .entry)) (now (out .entry))
-        (now (vars .exit)) (now (out .exit)) r ⌝ }
+    ensures { λ r. ⌜ ReadsList edition (old s) (placed from start known) (old vars) (old out) (new vars) (new out) r ⌝ }
 {
     let mut at = from;
     let mut count = known;
@@ -186,8 +184,7 @@ fn element(
     edition: u32,
 ) -> Step
     requires { ⌜ PairRoom (now s) (placed at to count) (now vars) (now out) ⌝ }
-    ensures { λ r. ⌜ ReadsTerms edition (now (s .entry)) (placed at to count) 1 (now (vars .entry)) (now (out .entry))
-        (now (vars .exit)) (now (out .exit)) r ⌝ }
+    ensures { λ r. ⌜ ReadsTerms edition (old s) (placed at to count) 1 (old vars) (old out) (new vars) (new out) r ⌝ }
 {
     if at < s.len() {
         let c = s[at];

@@ -16,6 +16,7 @@ use words::next_word;
 use words::refusal_word;
 use words::result_word;
 ghost use mathlib.Core.List.{[]};
+ghost use Rattle.basis.specs.Moments.{old, new};
 ghost use Rattle.plain.specs.Requests as request;
 ghost use Rattle.words.specs.Words.{ReturnsFresh, Returns, ReturnsIndexed, ReturnsCounts, ReturnsCheck};
 ghost use Rattle.words.specs.Words.{ReturnsBuild};
@@ -31,7 +32,7 @@ pub extern "C" fn tables_fresh(
     answers: u32,
     edition: u32,
 ) -> u64
-    ensures { λ w. ⌜ ReturnsFresh edition nodes subgoals answers (now (space .entry)) w (now (space .exit)) ⌝ }
+    ensures { λ w. ⌜ ReturnsFresh edition nodes subgoals answers (old space) w (new space) ⌝ }
 {
     fresh_word(space::fresh::fresh(space, nodes, subgoals, answers, edition))
 }
@@ -39,7 +40,7 @@ pub extern "C" fn tables_fresh(
 // Finds or enters the subgoal that a term calls, given in pair form.
 #[no_mangle]
 pub extern "C" fn tables_call(space: &mut [u32], term: &[u32]) -> u64
-    ensures { λ w. ⌜ Returns (now (space .entry)) (request.call (now (term .entry))) w [] (now (space .exit)) ⌝ }
+    ensures { λ w. ⌜ Returns (old space) (request.call (old term)) w [] (new space) ⌝ }
 {
     call_word(store::calls::call(space, term))
 }
@@ -47,8 +48,7 @@ pub extern "C" fn tables_call(space: &mut [u32], term: &[u32]) -> u64
 // Finds or enters an answer of a subgoal: its terms one after another, as many as the subgoal has variables.
 #[no_mangle]
 pub extern "C" fn tables_answer(space: &mut [u32], subgoal: u32, terms: &[u32]) -> u64
-    ensures { λ w. ⌜ Returns (now (space .entry)) (request.answer subgoal (now (terms .entry))) w []
-        (now (space .exit)) ⌝ }
+    ensures { λ w. ⌜ Returns (old space) (request.answer subgoal (old terms)) w [] (new space) ⌝ }
 {
     answer_word(store::calls::answer(space, subgoal, terms))
 }
@@ -56,7 +56,7 @@ pub extern "C" fn tables_answer(space: &mut [u32], subgoal: u32, terms: &[u32]) 
 // Finishes a subgoal; from then on it takes no answers.
 #[no_mangle]
 pub extern "C" fn tables_finish(space: &mut [u32], subgoal: u32) -> u64
-    ensures { λ w. ⌜ Returns (now (space .entry)) (request.finish subgoal) w [] (now (space .exit)) ⌝ }
+    ensures { λ w. ⌜ Returns (old space) (request.finish subgoal) w [] (new space) ⌝ }
 {
     finish_word(store::calls::finish(space, subgoal))
 }
@@ -71,10 +71,8 @@ pub extern "C" fn tables_join(
     target: u32,
     copies: &[u32],
 ) -> u64
-    ensures { λ w. ⌜
-        Returns (now (space .entry)) (request.join first second (now (pairs .entry)) target (now (copies .entry))) w []
-        (now (space .exit))
-        ⌝ }
+    ensures { λ w.
+        ⌜ Returns (old space) (request.join first second (old pairs) target (old copies)) w [] (new space) ⌝ }
 {
     join_word(join::joins::join(space, first, second, pairs, target, copies))
 }
@@ -84,10 +82,7 @@ pub extern "C" fn tables_join(
 // As `tables_call`.
 #[no_mangle]
 pub extern "C" fn tables_call_indexed(space: &mut [u32], index: &[u32], term: &[u32]) -> u64
-    ensures { λ w. ⌜
-        ReturnsIndexed (now (index .entry)) (now (space .entry)) (request.call (now (term .entry))) w []
-        (now (space .exit))
-        ⌝ }
+    ensures { λ w. ⌜ ReturnsIndexed (old index) (old space) (request.call (old term)) w [] (new space) ⌝ }
 {
     call_word(store::calls::call_indexed(space, term, index))
 }
@@ -100,10 +95,7 @@ pub extern "C" fn tables_answer_indexed(
     subgoal: u32,
     terms: &[u32],
 ) -> u64
-    ensures { λ w. ⌜
-        ReturnsIndexed (now (index .entry)) (now (space .entry)) (request.answer subgoal (now (terms .entry))) w []
-        (now (space .exit))
-        ⌝ }
+    ensures { λ w. ⌜ ReturnsIndexed (old index) (old space) (request.answer subgoal (old terms)) w [] (new space) ⌝ }
 {
     answer_word(store::calls::answer_indexed(space, subgoal, terms, index))
 }
@@ -119,10 +111,9 @@ pub extern "C" fn tables_join_indexed(
     target: u32,
     copies: &[u32],
 ) -> u64
-    ensures { λ w. ⌜
-        ReturnsIndexed (now (index .entry)) (now (space .entry))
-        (request.join first second (now (pairs .entry)) target (now (copies .entry))) w [] (now (space .exit))
-        ⌝ }
+    ensures { λ w.
+        ⌜ ReturnsIndexed (old index) (old space) (request.join first second (old pairs) target (old copies)) w []
+        (new space) ⌝ }
 {
     join_word(join::joins::join_indexed(space, first, second, pairs, target, copies, index))
 }
@@ -132,7 +123,7 @@ pub extern "C" fn tables_join_indexed(
 // The subgoal's answer after a given one; after 0 its first.
 #[no_mangle]
 pub extern "C" fn tables_next(space: &[u32], subgoal: u32, after: u32) -> u64
-    ensures { λ w. ⌜ Returns (now (space .entry)) (request.next subgoal after) w [] (now (space .entry)) ⌝ }
+    ensures { λ w. ⌜ Returns (old space) (request.next subgoal after) w [] (old space) ⌝ }
 {
     next_word(reads::reads::next(space, subgoal, after))
 }
@@ -140,8 +131,7 @@ pub extern "C" fn tables_next(space: &[u32], subgoal: u32, after: u32) -> u64
 // Writes the terms of an answer to the start of out, in pair form; the cells behind them stay.
 #[no_mangle]
 pub extern "C" fn tables_load(space: &[u32], answer: u32, out: &mut [u32]) -> u64
-    ensures { λ w. ⌜ Returns (now (space .entry)) (request.load answer (now (out .entry))) w (now (out .exit))
-        (now (space .entry)) ⌝ }
+    ensures { λ w. ⌜ Returns (old space) (request.load answer (old out)) w (new out) (old space) ⌝ }
 {
     cells_word(reads::reads::load(space, answer, out))
 }
@@ -149,8 +139,7 @@ pub extern "C" fn tables_load(space: &[u32], answer: u32, out: &mut [u32]) -> u6
 // Writes the subgoal of an answer with the answer's terms for its variables, in the same way.
 #[no_mangle]
 pub extern "C" fn tables_instance(space: &[u32], answer: u32, out: &mut [u32]) -> u64
-    ensures { λ w. ⌜ Returns (now (space .entry)) (request.instance answer (now (out .entry))) w (now (out .exit))
-        (now (space .entry)) ⌝ }
+    ensures { λ w. ⌜ Returns (old space) (request.instance answer (old out)) w (new out) (old space) ⌝ }
 {
     cells_word(reads::reads::instance(space, answer, out))
 }
@@ -159,7 +148,7 @@ pub extern "C" fn tables_instance(space: &[u32], answer: u32, out: &mut [u32]) -
 // the room.
 #[no_mangle]
 pub extern "C" fn tables_counts(space: &[u32], out: &mut [u32]) -> u64
-    ensures { λ w. ⌜ ReturnsCounts (now (space .entry)) w (now (out .entry)) (now (out .exit)) ⌝ }
+    ensures { λ w. ⌜ ReturnsCounts (old space) w (old out) (new out) ⌝ }
 {
     let answer = reads::reads::counts(space);
     match answer {
@@ -179,7 +168,7 @@ pub extern "C" fn tables_counts(space: &[u32], out: &mut [u32]) -> u64
 // Checks the whole space: refused by 9 where a record is broken, with the first that is as its value.
 #[no_mangle]
 pub extern "C" fn tables_check(space: &[u32]) -> u64
-    ensures { λ w. ⌜ ReturnsCheck (now (space .entry)) w ⌝ }
+    ensures { λ w. ⌜ ReturnsCheck (old space) w ⌝ }
 {
     check_word(integrity::check(space))
 }
@@ -187,7 +176,7 @@ pub extern "C" fn tables_check(space: &[u32]) -> u64
 // Fills an index from the nodes of a space; refused, the index stays as it was.
 #[no_mangle]
 pub extern "C" fn tables_build(space: &[u32], index: &mut [u32]) -> u64
-    ensures { λ w. ⌜ ReturnsBuild (now (space .entry)) (now (index .entry)) w (now (index .exit)) ⌝ }
+    ensures { λ w. ⌜ ReturnsBuild (old space) (old index) w (new index) ⌝ }
 {
     build_word(indexing::build(space, index))
 }

@@ -26,6 +26,7 @@ ghost use mathlib.Core.Path.{_≡_};
 ghost use mathlib.Core.List.{_++_};
 ghost use Prim.Native.Nat.{_*_, _^_, _/_, _≤_, _<_};
 ghost use lib.ListN.{length, take, drop};
+ghost use Rattle.basis.specs.Moments.{old, new};
 ghost use Rattle.engine.specs.Bytes.{cellOf, cellsOf, bytesOf};
 ghost use Rattle.engine.specs.Export.{CompactRoom, ExpandRoom, Delivers};
 ghost use Rattle.engine.specs.Export.{CompactsBytes, CompactsBytesIn, ExpandsBytes, ExpandsBytesIn};
@@ -43,7 +44,7 @@ fn cell_of(b0: u8, b1: u8, b2: u8, b3: u8) -> u32
 // Reads the n cells of bytes into the start of cells.
 fn decode(bytes: &[u8], n: usize, cells: &mut [u32])
     requires { ⌜ (n ≡ length (now bytes) / 4) × (n ≤ length (now cells)) ⌝ }
-    ensures { λ _. ⌜ now (cells .exit) ≡ cellsOf (now (bytes .entry)) ++ drop n (now (cells .entry)) ⌝ }
+    ensures { λ _. ⌜ new cells ≡ cellsOf (old bytes) ++ drop n (old cells) ⌝ }
 {
     let mut i = 0;
     while i < n {
@@ -60,7 +61,7 @@ fn decode(bytes: &[u8], n: usize, cells: &mut [u32])
 // Writes the first n cells to the start of out.
 fn encode(cells: &[u32], n: usize, out: &mut [u8])
     requires { ⌜ (n ≤ length (now cells)) × (4 * n ≤ length (now out)) ⌝ }
-    ensures { λ _. ⌜ now (out .exit) ≡ bytesOf (take n (now (cells .entry))) ++ drop (4 * n) (now (out .entry)) ⌝ }
+    ensures { λ _. ⌜ new out ≡ bytesOf (take n (old cells)) ++ drop (4 * n) (old out) ⌝ }
 {
     let mut i = 0;
     while i < n {
@@ -77,7 +78,7 @@ fn encode(cells: &[u32], n: usize, out: &mut [u8])
 // cell are no room. A count below 2^31 is told from a refusal.
 fn deliver(cells: &[u32], n: usize, out: &mut [u8]) -> u32
     requires { ⌜ (n ≤ length (now cells)) × (n < 2 ^ 31) ⌝ }
-    ensures { λ r. ⌜ Delivers (now (cells .entry)) n (now (out .entry)) r (now (out .exit)) ⌝ }
+    ensures { λ r. ⌜ Delivers (old cells) n (old out) r (new out) ⌝ }
 {
     if out.len() / 4 < n {
         return REFUSED + OUT;
@@ -98,7 +99,7 @@ fn compact_with(
     edition: u32,
 ) -> u32
     requires { ⌜ CompactRoom n (now input) (now cells) (now vars) (now form) ⌝ }
-    ensures { λ r. ⌜ CompactsBytes edition (now (input .entry)) (now (out .entry)) r (now (out .exit)) ⌝ }
+    ensures { λ r. ⌜ CompactsBytes edition (old input) (old out) r (new out) ⌝ }
 {
     decode(input, n, cells);
     let read = convert::read_terms(&cells[..n], 1, vars, form, edition);
@@ -111,7 +112,7 @@ fn compact_with(
 // Compacts one term. Short terms get short buffers, since making a buffer clears it; over 256 cells
 // nothing is read.
 fn compact_input(input: &[u8], out: &mut [u8], edition: u32) -> u32
-    ensures { λ r. ⌜ CompactsBytes edition (now (input .entry)) (now (out .entry)) r (now (out .exit)) ⌝ }
+    ensures { λ r. ⌜ CompactsBytes edition (old input) (old out) r (new out) ⌝ }
 {
     let bytes = input.len();
     if bytes % 4 != 0 {
@@ -150,7 +151,7 @@ fn expand_with(
     edition: u32,
 ) -> u32
     requires { ⌜ ExpandRoom n (now input) (now form) (now cells) ⌝ }
-    ensures { λ r. ⌜ ExpandsBytes edition (now (input .entry)) (now (out .entry)) r (now (out .exit)) ⌝ }
+    ensures { λ r. ⌜ ExpandsBytes edition (old input) (old out) r (new out) ⌝ }
 {
     decode(input, n, form);
     let Loading::Terms(k) = convert::load_terms(&form[..n], 1, cells, edition) else {
@@ -162,7 +163,7 @@ fn expand_with(
 // Expands the form of one term. Short forms get short buffers, since making a buffer clears it; no
 // legal form is over 383 tokens, so nothing longer is read.
 fn expand_input(input: &[u8], out: &mut [u8], edition: u32) -> u32
-    ensures { λ r. ⌜ ExpandsBytes edition (now (input .entry)) (now (out .entry)) r (now (out .exit)) ⌝ }
+    ensures { λ r. ⌜ ExpandsBytes edition (old input) (old out) r (new out) ⌝ }
 {
     let bytes = input.len();
     if bytes % 4 != 0 {
@@ -195,7 +196,7 @@ fn expand_input(input: &[u8], out: &mut [u8], edition: u32) -> u32
 // Compacts one term in the edition of this number.
 #[no_mangle]
 pub extern "C" fn tables_compact(input: &[u8], out: &mut [u8], edition: u32) -> u32
-    ensures { λ r. ⌜ CompactsBytesIn edition (now (input .entry)) (now (out .entry)) r (now (out .exit)) ⌝ }
+    ensures { λ r. ⌜ CompactsBytesIn edition (old input) (old out) r (new out) ⌝ }
 {
     if forms::is_converter_edition(edition) {
         return compact_input(input, out, edition);
@@ -206,7 +207,7 @@ pub extern "C" fn tables_compact(input: &[u8], out: &mut [u8], edition: u32) -> 
 // Expands the form of one term in the edition of this number.
 #[no_mangle]
 pub extern "C" fn tables_expand(input: &[u8], out: &mut [u8], edition: u32) -> u32
-    ensures { λ r. ⌜ ExpandsBytesIn edition (now (input .entry)) (now (out .entry)) r (now (out .exit)) ⌝ }
+    ensures { λ r. ⌜ ExpandsBytesIn edition (old input) (old out) r (new out) ⌝ }
 {
     if forms::is_converter_edition(edition) {
         return expand_input(input, out, edition);

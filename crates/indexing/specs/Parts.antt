@@ -83,3 +83,7 @@ module _ (cs : List ℕ) (h : Head) where
 -- a number of slots that an entry may be looked for in
 abbrev pub Slots : ℕ → Type 0
 Slots size = powerOfTwo size ≡ true
+
+-- the nodes of a space can enter an index of these slots
+abbrev pub Insertable : List ℕ → Head → List ℕ → Type 0
+Insertable cs h index = AllFit cs h × Slots (length index)

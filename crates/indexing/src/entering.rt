@@ -3,6 +3,7 @@
 use space::Head;
 use space::records::node_in;
 ghost use mathlib.Core.Path.{_≡_};
+ghost use Rattle.basis.specs.Moments.{old};
 ghost use Rattle.trie.specs.Index.{crowded};
 ghost use Rattle.trie.specs.Index as index;
 ghost use Rattle.indexing.specs.Parts.{triesIn, AllFit, AmongFit, EnteringCounted};
@@ -13,7 +14,7 @@ const FEW_CHILDREN: usize = 8;
 // Has node n more than a few children?
 fn is_crowded(space: &[u32], h: Head, n: usize) -> bool
     requires { ⌜ AmongFit (now space) h n ⌝ }
-    ensures { λ r. ⌜ r ≡ crowded (triesIn (now (space .entry)) h) n ⌝ }
+    ensures { λ r. ⌜ r ≡ crowded (triesIn (old space) h) n ⌝ }
 {
     let y = node_in(space, h.nodes, n);
     let mut child = y.child;
@@ -32,7 +33,7 @@ fn is_crowded(space: &[u32], h: Head, n: usize) -> bool
 // Is node n a child of a node that has more than a few?
 pub fn enters(space: &[u32], h: Head, n: usize) -> bool
     requires { ⌜ AmongFit (now space) h n ⌝ }
-    ensures { λ r. ⌜ r ≡ index.enters (triesIn (now (space .entry)) h) n ⌝ }
+    ensures { λ r. ⌜ r ≡ index.enters (triesIn (old space) h) n ⌝ }
 {
     let y = node_in(space, h.nodes, n);
     if y.parent == n {
@@ -44,7 +45,7 @@ pub fn enters(space: &[u32], h: Head, n: usize) -> bool
 // How many nodes enter.
 pub fn count_entering(space: &[u32], h: Head) -> usize
     requires { ⌜ AllFit (now space) h ⌝ }
-    ensures { λ r. ⌜ EnteringCounted (now (space .entry)) h r ⌝ }
+    ensures { λ r. ⌜ EnteringCounted (old space) h r ⌝ }
 {
     let mut count = 0;
     let mut n = 0;

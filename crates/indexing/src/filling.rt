@@ -8,12 +8,13 @@ use trie::slots::slot_of;
 ghost use mathlib.Core.Path.{_≡_};
 ghost use Prim.Native.Nat.{_<_};
 ghost use lib.ListN.{length};
+ghost use Rattle.basis.specs.Moments.{old, new};
 ghost use Rattle.trie.specs.Index.{insertFrom, emptyIndex};
-ghost use Rattle.indexing.specs.Parts.{entered, triesIn, AllFit, AmongFit, EntersAll, Fills, Slots};
+ghost use Rattle.indexing.specs.Parts.{entered, triesIn, AmongFit, EntersAll, Fills, Slots, Insertable};
 
 // Every slot free.
 fn clear(index: &mut [u32])
-    ensures { λ _. ⌜ now (index .exit) ≡ emptyIndex (length (now (index .entry))) ⌝ }
+    ensures { λ _. ⌜ new index ≡ emptyIndex (length (old index)) ⌝ }
 {
     let mut i = 0;
     while i < index.len() {
@@ -25,7 +26,7 @@ fn clear(index: &mut [u32])
 // Node n in the first free slot from `first` on, around; no slot is looked at twice.
 fn insert(index: &mut [u32], first: usize, n: u32)
     requires { ⌜ (first < length (now index)) × Slots (length (now index)) ⌝ }
-    ensures { λ _. ⌜ now (index .exit) ≡ insertFrom (length (now (index .entry))) (now (index .entry)) first n ⌝ }
+    ensures { λ _. ⌜ new index ≡ insertFrom (length (old index)) (old index) first n ⌝ }
 {
     let size = index.len();
     let mut slot = first;
@@ -43,7 +44,7 @@ fn insert(index: &mut [u32], first: usize, n: u32)
 // Node n, if it enters.
 fn enter(space: &[u32], h: Head, index: &mut [u32], n: usize)
     requires { ⌜ AmongFit (now space) h n × Slots (length (now index)) ⌝ }
-    ensures { λ _. ⌜ now (index .exit) ≡ entered (triesIn (now (space .entry)) h) (now (index .entry)) n ⌝ }
+    ensures { λ _. ⌜ new index ≡ entered (triesIn (old space) h) (old index) n ⌝ }
 {
     if enters(space, h, n) {
         let y = node_in(space, h.nodes, n);
@@ -54,8 +55,8 @@ fn enter(space: &[u32], h: Head, index: &mut [u32], n: usize)
 
 // All that enter.
 fn enter_all(space: &[u32], h: Head, index: &mut [u32])
-    requires { ⌜ AllFit (now space) h × Slots (length (now index)) ⌝ }
-    ensures { λ _. ⌜ EntersAll (now (space .entry)) h (now (index .entry)) (now (index .exit)) ⌝ }
+    requires { ⌜ Insertable (now space) h (now index) ⌝ }
+    ensures { λ _. ⌜ EntersAll (old space) h (old index) (new index) ⌝ }
 {
     let mut n = 0;
     while n < h.nodes {
@@ -66,8 +67,8 @@ fn enter_all(space: &[u32], h: Head, index: &mut [u32])
 
 // The index, whatever it held; but only if half of its slots stay free once `count` children are entered.
 pub fn fill(space: &[u32], h: Head, index: &mut [u32], count: usize) -> bool
-    requires { ⌜ AllFit (now space) h × Slots (length (now index)) ⌝ }
-    ensures { λ r. ⌜ Fills (now (space .entry)) h count (now (index .entry)) r (now (index .exit)) ⌝ }
+    requires { ⌜ Insertable (now space) h (now index) ⌝ }
+    ensures { λ r. ⌜ Fills (old space) h count (old index) r (new index) ⌝ }
 {
     let roomy = count <= index.len() / 2;
     if roomy {

@@ -13,6 +13,7 @@ use nodes::nodes_fit;
 use space::Head;
 use space::heading::read_header;
 use trie::slots::is_power_of_two;
+ghost use Rattle.basis.specs.Moments.{old, new};
 ghost use Rattle.space.specs.Sound.{Bounds};
 ghost use Rattle.space.specs.declared.Header.the-variants as header;
 ghost use Rattle.store.specs.Building.{buildOn, buildUnder};
@@ -27,7 +28,7 @@ pub enum BuildAnswer {
 // Where all nodes fit: the slots must be a power of two, and half of them stay free.
 fn build_on(space: &[u32], h: Head, index: &mut [u32]) -> BuildAnswer
     requires { ⌜ AllFit (now space) h ⌝ }
-    ensures { λ r. ⌜ Leaves (buildOn (triesIn (now (space .entry)) h) (now (index .entry))) r (now (index .exit)) ⌝ }
+    ensures { λ r. ⌜ Leaves (buildOn (triesIn (old space) h) (old index)) r (new index) ⌝ }
 {
     if is_power_of_two(index.len()) {
         let count = count_entering(space, h);
@@ -41,8 +42,7 @@ fn build_on(space: &[u32], h: Head, index: &mut [u32]) -> BuildAnswer
 // Under a sound header.
 fn build_in(space: &[u32], h: Head, index: &mut [u32]) -> BuildAnswer
     requires { ⌜ Bounds (now space) h ⌝ }
-    ensures { λ r. ⌜ Leaves (buildUnder (now (space .entry)) (now (index .entry)) (header.Sound h)) r
-        (now (index .exit)) ⌝ }
+    ensures { λ r. ⌜ Leaves (buildUnder (old space) (old index) (header.Sound h)) r (new index) ⌝ }
 {
     if nodes_fit(space, h) {
         return build_on(space, h, index);
@@ -52,7 +52,7 @@ fn build_in(space: &[u32], h: Head, index: &mut [u32]) -> BuildAnswer
 
 // Fills the index from the nodes of a space.
 pub fn build(space: &[u32], index: &mut [u32]) -> BuildAnswer
-    ensures { λ r. ⌜ Builds (now (space .entry)) (now (index .entry)) r (now (index .exit)) ⌝ }
+    ensures { λ r. ⌜ Builds (old space) (old index) r (new index) ⌝ }
 {
     let header = read_header(space);
     match header {

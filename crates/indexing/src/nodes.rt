@@ -6,6 +6,7 @@ use space::records::node_in;
 use space::records::read_node;
 use trie::siblings::parent_is;
 ghost use mathlib.Core.Path.{_≡_};
+ghost use Rattle.basis.specs.Moments.{old};
 ghost use Rattle.space.specs.Layout.{sizes, nodeIn};
 ghost use Rattle.space.specs.Sound.{Bounds, NodeOf};
 ghost use Rattle.store.specs.Contracts.{viewIn};
@@ -15,7 +16,7 @@ ghost use Rattle.indexing.specs.Parts.{Falling, linkFits, FitBefore};
 // The root that the parents of node n lead to.
 fn root_above(space: &[u32], nodes: usize, n: usize) -> usize
     requires { ⌜ NodeOf (now space) nodes n × Falling (nodeIn sizes (now space)) n ⌝ }
-    ensures { λ r. ⌜ r ≡ rootAbove nodes (nodeIn sizes (now (space .entry))) n ⌝ }
+    ensures { λ r. ⌜ r ≡ rootAbove nodes (nodeIn sizes (old space)) n ⌝ }
 {
     let mut root = n;
     loop {
@@ -31,7 +32,7 @@ fn root_above(space: &[u32], nodes: usize, n: usize) -> usize
 // for only where the link is within one of the counts and not the other.
 fn link_fits(space: &[u32], h: Head, n: usize, link: usize) -> bool
     requires { ⌜ NodeOf (now space) (h .nodes) n × Falling (nodeIn sizes (now space)) n ⌝ }
-    ensures { λ r. ⌜ r ≡ linkFits (viewIn (now (space .entry)) h) n link ⌝ }
+    ensures { λ r. ⌜ r ≡ linkFits (viewIn (old space) h) n link ⌝ }
 {
     if link <= h.subgoals {
         if link <= h.answers {
@@ -50,7 +51,7 @@ fn link_fits(space: &[u32], h: Head, n: usize, link: usize) -> bool
 // Node n; those before it fit.
 fn node_fits(space: &[u32], h: Head, n: usize) -> bool
     requires { ⌜ FitBefore (now space) h n ⌝ }
-    ensures { λ r. ⌜ r ≡ nodeFit (viewIn (now (space .entry)) h) n ⌝ }
+    ensures { λ r. ⌜ r ≡ nodeFit (viewIn (old space) h) n ⌝ }
 {
     let NodeRead::Sound(y) = read_node(space, h.nodes, h.subgoals + h.answers, n) else {
         return false;
@@ -66,7 +67,7 @@ fn node_fits(space: &[u32], h: Head, n: usize) -> bool
 // All nodes used.
 pub fn nodes_fit(space: &[u32], h: Head) -> bool
     requires { ⌜ Bounds (now space) h ⌝ }
-    ensures { λ r. ⌜ r ≡ nodesFit (viewIn (now (space .entry)) h) (h .nodes) ⌝ }
+    ensures { λ r. ⌜ r ≡ nodesFit (viewIn (old space) h) (h .nodes) ⌝ }
 {
     let mut n = 0;
     while n < h.nodes {

@@ -116,6 +116,10 @@ module _ (cs : List ℕ) (h : Head) where
   abbrev pub ChainsWhole : Type 0
   ChainsWhole = Bounds cs h × SubgoalsWhole (h .subgoals) × AnswersWhole (h .answers)
 
+  -- and a chain starts with an answer, or with none
+  abbrev pub ChainStarts : ℕ → Type 0
+  ChainStarts first = ChainsWhole × (first ≤ h .answers)
+
   -- the chain from an answer on
   abbrev pub answersFrom : ℕ → List ℕ
   answersFrom first = chain (codingOf (h .edition)) (viewIn cs h) (h .answers) first
@@ -146,6 +150,10 @@ module _ (cs : List ℕ) (h : Head) where
   -- the nodes of all tries
   abbrev pub triesIn : Trie
   triesIn = trieIn sizes cs (h .nodes) (h .subgoals + h .answers)
+
+  -- a number that a record can have
+  abbrev pub RecordNumber : ℕ → Type 0
+  RecordNumber k = Bounds cs h × (1 ≤ k)
 
   -- a record that was read under its number
   abbrev pub NodeOfNumber : ℕ → Node → Type 0

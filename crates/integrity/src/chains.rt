@@ -5,15 +5,17 @@ use space::records::answer_in;
 use space::records::subgoal_in;
 ghost use mathlib.Core.Path.{_≡_};
 ghost use Prim.Native.Nat.{_≤_};
+ghost use Rattle.basis.specs.Moments.{old};
 ghost use Rattle.plain.specs.Coding.{codingOf};
 ghost use Rattle.store.specs.Contracts.{viewIn};
 ghost use Rattle.agreement.specs.Faults.{answerLost};
 ghost use Rattle.integrity.specs.Tests.{ChainsWhole, ChainCounted, ChainSearched, chainedCount, chainedIn};
+ghost use Rattle.integrity.specs.Tests.{ChainStarts};
 
 // How many answers are on the chain from answer `first` on.
 fn chain_length(space: &[u32], h: Head, first: usize) -> usize
-    requires { ⌜ ChainsWhole (now space) h × (first ≤ h .answers) ⌝ }
-    ensures { λ r. ⌜ ChainCounted (now (space .entry)) h first r ⌝ }
+    requires { ⌜ ChainStarts (now space) h first ⌝ }
+    ensures { λ r. ⌜ ChainCounted (old space) h first r ⌝ }
 {
     let mut a = first;
     let mut count = 0;
@@ -28,7 +30,7 @@ fn chain_length(space: &[u32], h: Head, first: usize) -> usize
 // How many are on all chains together.
 pub fn chains_length(space: &[u32], h: Head) -> usize
     requires { ⌜ ChainsWhole (now space) h ⌝ }
-    ensures { λ r. ⌜ r ≡ chainedCount (now (space .entry)) h ⌝ }
+    ensures { λ r. ⌜ r ≡ chainedCount (old space) h ⌝ }
 {
     let mut count = 0;
     let mut i = 0;
@@ -42,8 +44,8 @@ pub fn chains_length(space: &[u32], h: Head) -> usize
 
 // Is answer a on the chain from answer `first` on?
 fn is_after(space: &[u32], h: Head, first: usize, a: usize) -> bool
-    requires { ⌜ ChainsWhole (now space) h × (first ≤ h .answers) ⌝ }
-    ensures { λ r. ⌜ ChainSearched (now (space .entry)) h first a r ⌝ }
+    requires { ⌜ ChainStarts (now space) h first ⌝ }
+    ensures { λ r. ⌜ ChainSearched (old space) h first a r ⌝ }
 {
     let mut b = first;
     while b != 0 {
@@ -59,7 +61,7 @@ fn is_after(space: &[u32], h: Head, first: usize, a: usize) -> bool
 // Is answer a on the chain of its subgoal?
 fn is_chained(space: &[u32], h: Head, a: usize) -> bool
     requires { ⌜ ChainsWhole (now space) h × (1 ≤ a) × (a ≤ h .answers) ⌝ }
-    ensures { λ r. ⌜ r ≡ chainedIn (now (space .entry)) h a ⌝ }
+    ensures { λ r. ⌜ r ≡ chainedIn (old space) h a ⌝ }
 {
     let y = answer_in(space, h, a);
     let g = subgoal_in(space, h, y.subgoal);
@@ -69,7 +71,7 @@ fn is_chained(space: &[u32], h: Head, a: usize) -> bool
 // One less than the first answer that is on no chain; the answers used where all are on one.
 pub fn first_lost(space: &[u32], h: Head) -> usize
     requires { ⌜ ChainsWhole (now space) h ⌝ }
-    ensures { λ r. ⌜ r ≡ answerLost (codingOf (h .edition)) (viewIn (now (space .entry)) h) ⌝ }
+    ensures { λ r. ⌜ r ≡ answerLost (codingOf (h .edition)) (viewIn (old space) h) ⌝ }
 {
     let mut i = 0;
     while i < h.answers {

@@ -13,6 +13,7 @@ use records::first_subgoal;
 use space::Head;
 use space::heading::read_header;
 ghost use mathlib.Core.Path.{_≡_};
+ghost use Rattle.basis.specs.Moments.{old};
 ghost use Rattle.plain.specs.Coding.{codingOf};
 ghost use Rattle.space.specs.Sound.{Bounds};
 ghost use Rattle.store.specs.Contracts.{viewIn};
@@ -31,7 +32,7 @@ pub enum CheckAnswer {
 // Where every record by itself is whole: the chains.
 fn check_chains(space: &[u32], h: Head) -> CheckAnswer
     requires { ⌜ ChainsWhole (now space) h ⌝ }
-    ensures { λ r. ⌜ saidCheck r ≡ chainsFault (now (space .entry)) h ⌝ }
+    ensures { λ r. ⌜ saidCheck r ≡ chainsFault (old space) h ⌝ }
 {
     if chains_length(space, h) == h.answers {
         return CheckAnswer::Whole;
@@ -43,7 +44,7 @@ fn check_chains(space: &[u32], h: Head) -> CheckAnswer
 // Under a sound header.
 fn check_in(space: &[u32], h: Head) -> CheckAnswer
     requires { ⌜ Bounds (now space) h ⌝ }
-    ensures { λ r. ⌜ saidCheck r ≡ faultIn (codingOf (h .edition)) (viewIn (now (space .entry)) h) ⌝ }
+    ensures { λ r. ⌜ saidCheck r ≡ faultIn (codingOf (h .edition)) (viewIn (old space) h) ⌝ }
 {
     let n = first_node(space, h);
     if n < h.nodes {
@@ -62,7 +63,7 @@ fn check_in(space: &[u32], h: Head) -> CheckAnswer
 
 // Is the space whole?
 pub fn check(space: &[u32]) -> CheckAnswer
-    ensures { λ r. ⌜ saidCheck r ≡ faultOf (now (space .entry)) ⌝ }
+    ensures { λ r. ⌜ saidCheck r ≡ faultOf (old space) ⌝ }
 {
     let header = read_header(space);
     match header {

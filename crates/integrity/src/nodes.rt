@@ -12,20 +12,21 @@ use trie::siblings::parent_is;
 use trie::siblings::search_children;
 ghost use mathlib.Core.Path.{_≡_};
 ghost use mathlib.Core.Bool.{true};
-ghost use Prim.Native.Nat.{_+_, _<_, _≤_};
+ghost use Prim.Native.Nat.{_+_, _<_};
+ghost use Rattle.basis.specs.Moments.{old};
 ghost use Rattle.plain.specs.Coding.{codingOf};
-ghost use Rattle.space.specs.Sound.{Bounds, NodeOf};
+ghost use Rattle.space.specs.Sound.{Bounds};
 ghost use Rattle.trie.specs.Siblings.{searchChildren};
 ghost use Rattle.store.specs.Contracts.{viewIn};
 ghost use Rattle.agreement.specs.Whole.{endsAt, rootWhole, childWhole};
 ghost use Rattle.agreement.specs.Faults.{nodeBroken};
-ghost use Rattle.integrity.specs.Tests.{subgoalEnds, answerEnds, leadsBack, rootNamed};
+ghost use Rattle.integrity.specs.Tests.{subgoalEnds, answerEnds, leadsBack, rootNamed, RecordNumber};
 ghost use Rattle.integrity.specs.Tests.{triesIn, nodeTest, NodesWhole, NodeOfNumber, ChildOfNumber};
 
 // Is k a subgoal whose form ends at node i?
 fn subgoal_ends(space: &[u32], h: Head, k: usize, i: usize) -> bool
-    requires { ⌜ Bounds (now space) h × (1 ≤ k) ⌝ }
-    ensures { λ r. ⌜ r ≡ subgoalEnds (viewIn (now (space .entry)) h) k i ⌝ }
+    requires { ⌜ RecordNumber (now space) h k ⌝ }
+    ensures { λ r. ⌜ r ≡ subgoalEnds (viewIn (old space) h) k i ⌝ }
 {
     if h.subgoals < k {
         return false;
@@ -36,8 +37,8 @@ fn subgoal_ends(space: &[u32], h: Head, k: usize, i: usize) -> bool
 
 // Is k an answer whose form ends there?
 fn answer_ends(space: &[u32], h: Head, k: usize, i: usize) -> bool
-    requires { ⌜ Bounds (now space) h × (1 ≤ k) ⌝ }
-    ensures { λ r. ⌜ r ≡ answerEnds (viewIn (now (space .entry)) h) k i ⌝ }
+    requires { ⌜ RecordNumber (now space) h k ⌝ }
+    ensures { λ r. ⌜ r ≡ answerEnds (viewIn (old space) h) k i ⌝ }
 {
     if h.answers < k {
         return false;
@@ -49,7 +50,7 @@ fn answer_ends(space: &[u32], h: Head, k: usize, i: usize) -> bool
 // Does the link k of node i lead back to it?
 fn leads_back(space: &[u32], h: Head, k: usize, i: usize) -> bool
     requires { ⌜ Bounds (now space) h ⌝ }
-    ensures { λ r. ⌜ r ≡ leadsBack (viewIn (now (space .entry)) h) k i ⌝ }
+    ensures { λ r. ⌜ r ≡ leadsBack (viewIn (old space) h) k i ⌝ }
 {
     if k == 0 {
         return true;
@@ -63,7 +64,7 @@ fn leads_back(space: &[u32], h: Head, k: usize, i: usize) -> bool
 // Is s a subgoal whose answer root is node i?
 fn root_named(space: &[u32], h: Head, s: usize, i: usize) -> bool
     requires { ⌜ Bounds (now space) h ⌝ }
-    ensures { λ r. ⌜ r ≡ rootNamed (viewIn (now (space .entry)) h) s i ⌝ }
+    ensures { λ r. ⌜ r ≡ rootNamed (viewIn (old space) h) s i ⌝ }
 {
     if s == 0 {
         return false;
@@ -78,7 +79,7 @@ fn root_named(space: &[u32], h: Head, s: usize, i: usize) -> bool
 // A root: that of the subgoals, or it follows the leaf of the subgoal that names it.
 fn root_whole(space: &[u32], h: Head, i: usize, y: Node) -> bool
     requires { ⌜ NodeOfNumber (now space) h i y ⌝ }
-    ensures { λ r. ⌜ r ≡ rootWhole (codingOf (h .edition)) (viewIn (now (space .entry)) h) i ⌝ }
+    ensures { λ r. ⌜ r ≡ rootWhole (codingOf (h .edition)) (viewIn (old space) h) i ⌝ }
 {
     if y.token != 0 {
         return false;
@@ -96,7 +97,7 @@ fn root_whole(space: &[u32], h: Head, i: usize, y: Node) -> bool
 // Does the search for its token among its parent's children find node i?
 fn is_found(space: &[u32], h: Head, i: usize, y: Node) -> bool
     requires { ⌜ ChildOfNumber (now space) h i y ⌝ }
-    ensures { λ r. ⌜ r ≡ endsAt i (searchChildren (triesIn (now (space .entry)) h) (y .parent) (y .token)) ⌝ }
+    ensures { λ r. ⌜ r ≡ endsAt i (searchChildren (triesIn (old space) h) (y .parent) (y .token)) ⌝ }
 {
     let found = search_children(space, h.nodes, h.subgoals + h.answers, y.parent, y.token);
     match found {
@@ -109,7 +110,7 @@ fn is_found(space: &[u32], h: Head, i: usize, y: Node) -> bool
 // A node below another; those before it are whole.
 fn child_whole(space: &[u32], h: Head, i: usize, y: Node) -> bool
     requires { ⌜ ChildOfNumber (now space) h i y ⌝ }
-    ensures { λ r. ⌜ r ≡ childWhole (codingOf (h .edition)) (viewIn (now (space .entry)) h) i ⌝ }
+    ensures { λ r. ⌜ r ≡ childWhole (codingOf (h .edition)) (viewIn (old space) h) i ⌝ }
 {
     if parent_is(space, h.nodes, y.sibling, y.parent) {
         if is_found(space, h, i, y) {
@@ -125,7 +126,7 @@ fn child_whole(space: &[u32], h: Head, i: usize, y: Node) -> bool
 // Node i; those before it are whole.
 fn node_whole(space: &[u32], h: Head, i: usize) -> bool
     requires { ⌜ Bounds (now space) h × (i < h .nodes) × NodesWhole (now space) h i ⌝ }
-    ensures { λ r. ⌜ r ≡ nodeTest (now (space .entry)) h i ⌝ }
+    ensures { λ r. ⌜ r ≡ nodeTest (old space) h i ⌝ }
 {
     let NodeRead::Sound(y) = read_node(space, h.nodes, h.subgoals + h.answers, i) else {
         return false;
@@ -144,7 +145,7 @@ fn node_whole(space: &[u32], h: Head, i: usize) -> bool
 // The first node that is not whole; the nodes used where all are.
 pub fn first_node(space: &[u32], h: Head) -> usize
     requires { ⌜ Bounds (now space) h ⌝ }
-    ensures { λ r. ⌜ r ≡ nodeBroken (codingOf (h .edition)) (viewIn (now (space .entry)) h) ⌝ }
+    ensures { λ r. ⌜ r ≡ nodeBroken (codingOf (h .edition)) (viewIn (old space) h) ⌝ }
 {
     let mut i = 0;
     while i < h.nodes {

@@ -9,7 +9,7 @@ use space::records::node_in;
 use space::records::subgoal_in;
 use trie::End;
 ghost use mathlib.Core.Path.{_≡_};
-ghost use Prim.Native.Nat.{_≤_};
+ghost use Rattle.basis.specs.Moments.{old};
 ghost use Rattle.plain.specs.Coding.{codingOf};
 ghost use Rattle.space.specs.Sound.{Bounds, SubgoalUsed, AnswerUsed};
 ghost use Rattle.store.specs.Contracts.{viewIn};
@@ -21,7 +21,7 @@ ghost use Rattle.integrity.specs.Tests.{subgoalTest, answerTest, Subgoal
 // Its leaf is linked to it, its answer root follows the leaf, and its state is one that there is.
 fn subgoal_stands(space: &[u32], h: Head, s: usize, g: Subgoal) -> bool
     requires { ⌜ SubgoalOfNumber (now space) h s g ⌝ }
-    ensures { λ r. ⌜ r ≡ subgoalStands (viewIn (now (space .entry)) h) s ⌝ }
+    ensures { λ r. ⌜ r ≡ subgoalStands (viewIn (old space) h) s ⌝ }
 {
     if h.nodes <= g.root {
         return false;
@@ -46,7 +46,7 @@ fn subgoal_stands(space: &[u32], h: Head, s: usize, g: Subgoal) -> bool
 // Is a an answer to subgoal s?
 fn answers_to(space: &[u32], h: Head, a: usize, s: usize) -> bool
     requires { ⌜ Bounds (now space) h ⌝ }
-    ensures { λ r. ⌜ r ≡ answersTo (viewIn (now (space .entry)) h) a s ⌝ }
+    ensures { λ r. ⌜ r ≡ answersTo (viewIn (old space) h) a s ⌝ }
 {
     if a == 0 {
         return false;
@@ -61,7 +61,7 @@ fn answers_to(space: &[u32], h: Head, a: usize, s: usize) -> bool
 // The first and the last answer of subgoal s.
 fn ends_whole(space: &[u32], h: Head, s: usize, g: Subgoal) -> bool
     requires { ⌜ SubgoalOfNumber (now space) h s g ⌝ }
-    ensures { λ r. ⌜ r ≡ endsWhole (codingOf (h .edition)) (viewIn (now (space .entry)) h) s ⌝ }
+    ensures { λ r. ⌜ r ≡ endsWhole (codingOf (h .edition)) (viewIn (old space) h) s ⌝ }
 {
     if g.last == 0 {
         return g.first == 0;
@@ -80,7 +80,7 @@ fn ends_whole(space: &[u32], h: Head, s: usize, g: Subgoal) -> bool
 // Subgoal s.
 fn subgoal_whole(space: &[u32], h: Head, s: usize) -> bool
     requires { ⌜ SubgoalUsed (now space) h s ⌝ }
-    ensures { λ r. ⌜ r ≡ subgoalTest (now (space .entry)) h s ⌝ }
+    ensures { λ r. ⌜ r ≡ subgoalTest (old space) h s ⌝ }
 {
     let g = subgoal_in(space, h, s);
     if subgoal_stands(space, h, s, g) {
@@ -100,7 +100,7 @@ fn subgoal_whole(space: &[u32], h: Head, s: usize) -> bool
 // One less than the first subgoal that is not whole; the subgoals used where all are.
 pub fn first_subgoal(space: &[u32], h: Head) -> usize
     requires { ⌜ Bounds (now space) h ⌝ }
-    ensures { λ r. ⌜ r ≡ subgoalBroken (codingOf (h .edition)) (viewIn (now (space .entry)) h) ⌝ }
+    ensures { λ r. ⌜ r ≡ subgoalBroken (codingOf (h .edition)) (viewIn (old space) h) ⌝ }
 {
     let mut i = 0;
     while i < h.subgoals {
@@ -116,7 +116,7 @@ pub fn first_subgoal(space: &[u32], h: Head) -> usize
 // Its subgoal is one that there is, and its leaf is linked to it.
 fn answer_stands(space: &[u32], h: Head, a: usize, y: Answer) -> bool
     requires { ⌜ AnswerOfNumber (now space) h a y ⌝ }
-    ensures { λ r. ⌜ r ≡ answerStands (viewIn (now (space .entry)) h) a ⌝ }
+    ensures { λ r. ⌜ r ≡ answerStands (viewIn (old space) h) a ⌝ }
 {
     if y.subgoal == 0 {
         return false;
@@ -134,7 +134,7 @@ fn answer_stands(space: &[u32], h: Head, a: usize, y: Answer) -> bool
 // Its next answer is above it, and one to the same subgoal.
 fn next_whole(space: &[u32], h: Head, a: usize, y: Answer) -> bool
     requires { ⌜ AnswerOfNumber (now space) h a y ⌝ }
-    ensures { λ r. ⌜ r ≡ nextWhole (viewIn (now (space .entry)) h) a ⌝ }
+    ensures { λ r. ⌜ r ≡ nextWhole (viewIn (old space) h) a ⌝ }
 {
     if y.next == 0 {
         return true;
@@ -152,7 +152,7 @@ fn next_whole(space: &[u32], h: Head, a: usize, y: Answer) -> bool
 // Answer a.
 fn answer_whole(space: &[u32], h: Head, a: usize) -> bool
     requires { ⌜ AnswerUsed (now space) h a ⌝ }
-    ensures { λ r. ⌜ r ≡ answerTest (now (space .entry)) h a ⌝ }
+    ensures { λ r. ⌜ r ≡ answerTest (old space) h a ⌝ }
 {
     let y = answer_in(space, h, a);
     if answer_stands(space, h, a, y) {
@@ -173,7 +173,7 @@ fn answer_whole(space: &[u32], h: Head, a: usize) -> bool
 // One less than the first answer that is not whole; the answers used where all are.
 pub fn first_answer(space: &[u32], h: Head) -> usize
     requires { ⌜ Bounds (now space) h ⌝ }
-    ensures { λ r. ⌜ r ≡ answerBroken (codingOf (h .edition)) (viewIn (now (space .entry)) h) ⌝ }
+    ensures { λ r. ⌜ r ≡ answerBroken (codingOf (h .edition)) (viewIn (old space) h) ⌝ }
 {
     let mut i = 0;
     while i < h.answers {

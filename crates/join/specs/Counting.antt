@@ -51,6 +51,10 @@ pub record Ready (cs : List ℕ) (x : Sides) (ps ks : List ℕ) : Type 0 where
 abbrev pub Fitting : List ℕ → Sides → List ℕ → List ℕ → Type 0
 Fitting cs x ps ks = allFit (arityOf (x .h .edition)) (allForms cs x ps ks) ≡ true
 
+-- both: the nodes and answers that the forms need can be counted
+abbrev pub ReadyToCount : List ℕ → Sides → List ℕ → List ℕ → Type 0
+ReadyToCount cs x ps ks = Ready cs x ps ks × Fitting cs x ps ks
+
 -- ---- by the searches alone
 
 -- 1 for a form that is lacking

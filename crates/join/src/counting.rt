@@ -16,8 +16,9 @@ ghost use mathlib.Core.Path.{_≡_};
 ghost use Prim.Native.Nat.{_+_, _^_, _<_, _≤_, min, max};
 ghost use mathlib.Core.Bool.{_&&_, _||_};
 ghost use lib.ListN.{length};
+ghost use Rattle.basis.specs.Moments.{old};
 ghost use Rattle.trie.specs.Index.{searchIndexed};
-ghost use Rattle.join.specs.Counting.{beginning, allForms, Ready, Fitting, oneMore, added, Counts};
+ghost use Rattle.join.specs.Counting.{beginning, allForms, Ready, oneMore, added, Counts, ReadyToCount};
 ghost use Rattle.join.specs.Counting.{EarlierOf, allShared, Meets, oneNew, needsMore, NeedsOf};
 
 // Where a join begins: nothing is in hand.
@@ -73,10 +74,7 @@ pub fn count(
     index: &[u32],
 ) -> Counted
     requires { ⌜ Ready (now space) x (now pairs) (now copies) × (root < x .h .nodes) ⌝ }
-    ensures { λ r. ⌜
-        Counts (searchIndexed (now (index .entry))) (now (space .entry)) x root
-        (now (pairs .entry)) (now (copies .entry)) r
-        ⌝ }
+    ensures { λ r. ⌜ Counts (searchIndexed (old index)) (old space) x root (old pairs) (old copies) r ⌝ }
 {
     let mut hands = [0u32; HANDS];
     let mut form = [0u32; MOST_TOKENS];
@@ -130,7 +128,7 @@ fn all_shared(k: usize, n: usize, m: usize) -> bool
 
 // What the form shares with those before it, with one of them more.
 fn meet(e: Earlier, other: &[u32], form: &[u32]) -> Earlier
-    ensures { λ r. ⌜ Meets e (now (other .entry)) (now (form .entry)) r ⌝ }
+    ensures { λ r. ⌜ Meets e (old other) (old form) r ⌝ }
 {
     let k = common(other, form);
     let shared = larger(k, e.shared);
@@ -150,10 +148,9 @@ fn earlier(
     own: &[u32],
     count: usize,
 ) -> Earlier
-    requires { ⌜ Ready (now space) x (now pairs) (now copies) × Fitting (now space) x (now pairs) (now copies) ⌝ }
+    requires { ⌜ ReadyToCount (now space) x (now pairs) (now copies) ⌝ }
     requires { ⌜ count ≤ length (allForms (now space) x (now pairs) (now copies)) ⌝ }
-    ensures { λ r. ⌜ EarlierOf (allForms (now (space .entry)) x (now (pairs .entry)) (now (copies .entry))) count
-        (now (own .entry)) r ⌝ }
+    ensures { λ r. ⌜ EarlierOf (allForms (old space) x (old pairs) (old copies)) count (old own) r ⌝ }
 {
     let mut hands = [0u32; HANDS];
     let mut form = [0u32; MOST_TOKENS];
@@ -222,12 +219,9 @@ pub fn needs(
     copies: &[u32],
     index: &[u32],
 ) -> Needs
-    requires { ⌜ Ready (now space) x (now pairs) (now copies) × Fitting (now space) x (now pairs) (now copies) ⌝ }
+    requires { ⌜ ReadyToCount (now space) x (now pairs) (now copies) ⌝ }
     requires { ⌜ root < x .h .nodes ⌝ }
-    ensures { λ r. ⌜
-        NeedsOf (searchIndexed (now (index .entry))) (now (space .entry)) x root
-        (now (pairs .entry)) (now (copies .entry)) r
-        ⌝ }
+    ensures { λ r. ⌜ NeedsOf (searchIndexed (old index)) (old space) x root (old pairs) (old copies) r ⌝ }
 {
     let mut hands = [0u32; HANDS];
     let mut form = [0u32; MOST_TOKENS];

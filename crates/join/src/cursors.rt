@@ -12,6 +12,7 @@ use space::records::node_in;
 use trie::End;
 use trie::paths::CELLS;
 ghost use mathlib.Core.Path.{_≡_};
+ghost use Rattle.basis.specs.Moments.{old, new};
 ghost use Rattle.join.specs.Pairing.{Gatherable, Gathers, Takeable, Takes};
 ghost use Rattle.join.specs.Pairing.{FirstTakeable, TakesFirst, SecondTakeable, TakesSecond};
 ghost use Rattle.join.specs.Pairing.{HandsComparable, HandsCompare, HandsCopyable, HandsCopied};
@@ -32,7 +33,7 @@ const FEW: usize = 32;
 // pass changes them.
 fn gather_path(space: &[u32], end: End, cells: &mut [u32]) -> usize
     requires { ⌜ Gatherable (now space) end ⌝ }
-    ensures { λ r. ⌜ Gathers (now (space .entry)) end (now (cells .entry)) (now (cells .exit)) r ⌝ }
+    ensures { λ r. ⌜ Gathers (old space) end (old cells) (new cells) r ⌝ }
 {
     let mut n = end.leaf;
     let mut at = cells.len();
@@ -51,7 +52,7 @@ fn gather_path(space: &[u32], end: End, cells: &mut [u32]) -> usize
 // The answer of m terms whose path ends here, taken in hand, however long the path is.
 fn take_long(space: &[u32], end: End, m: usize, held: &mut [u32], edition: u32)
     requires { ⌜ Takeable (now space) end m (now held) edition ⌝ }
-    ensures { λ _. ⌜ Takes (now (space .entry)) end m (now (held .entry)) (now (held .exit)) edition ⌝ }
+    ensures { λ _. ⌜ Takes (old space) end m (old held) (new held) edition ⌝ }
 {
     let mut path = [0u32; CELLS];
     let k = gather_path(space, end, &mut path);
@@ -61,7 +62,7 @@ fn take_long(space: &[u32], end: End, m: usize, held: &mut [u32], edition: u32)
 // The same, in few cells where they are enough.
 fn take_path(space: &[u32], end: End, m: usize, held: &mut [u32], edition: u32)
     requires { ⌜ Takeable (now space) end m (now held) edition ⌝ }
-    ensures { λ _. ⌜ Takes (now (space .entry)) end m (now (held .entry)) (now (held .exit)) edition ⌝ }
+    ensures { λ _. ⌜ Takes (old space) end m (old held) (new held) edition ⌝ }
 {
     let mut path = [0u32; FEW];
     let k = gather_path(space, end, &mut path);
@@ -75,7 +76,7 @@ fn take_path(space: &[u32], end: End, m: usize, held: &mut [u32], edition: u32)
 // The first's answer with this leaf.
 fn take_first(space: &[u32], x: Sides, leaf: usize, hands: &mut [u32])
     requires { ⌜ FirstTakeable (now space) x leaf (now hands) ⌝ }
-    ensures { λ _. ⌜ TakesFirst (now (space .entry)) x leaf (now (hands .entry)) (now (hands .exit)) ⌝ }
+    ensures { λ _. ⌜ TakesFirst (old space) x leaf (old hands) (new hands) ⌝ }
 {
     let end = End {
         nodes: x.h.nodes,
@@ -89,7 +90,7 @@ fn take_first(space: &[u32], x: Sides, leaf: usize, hands: &mut [u32])
 // The second's answer with this leaf.
 fn take_second(space: &[u32], x: Sides, leaf: usize, hands: &mut [u32])
     requires { ⌜ SecondTakeable (now space) x leaf (now hands) ⌝ }
-    ensures { λ _. ⌜ TakesSecond (now (space .entry)) x leaf (now (hands .entry)) (now (hands .exit)) ⌝ }
+    ensures { λ _. ⌜ TakesSecond (old space) x leaf (old hands) (new hands) ⌝ }
 {
     let end = End {
         nodes: x.h.nodes,
@@ -109,7 +110,7 @@ fn take_second(space: &[u32], x: Sides, leaf: usize, hands: &mut [u32])
 // Do the answers in both hands match?
 fn hands_match(pairs: &[u32], hands: &[u32]) -> bool
     requires { ⌜ HandsComparable (now pairs) (now hands) ⌝ }
-    ensures { λ r. ⌜ HandsCompare (now (pairs .entry)) (now (hands .entry)) r ⌝ }
+    ensures { λ r. ⌜ HandsCompare (old pairs) (old hands) r ⌝ }
 {
     matches(pairs, hands, &hands[HAND..])
 }
@@ -117,8 +118,7 @@ fn hands_match(pairs: &[u32], hands: &[u32]) -> bool
 // The terms that the copies name, of the answers in both hands.
 fn join_hands(copies: &[u32], hands: &[u32], form: &mut [u32], edition: u32) -> Together
     requires { ⌜ HandsCopyable edition (now copies) (now hands) (now form) ⌝ }
-    ensures { λ r. ⌜ HandsCopied edition (now (copies .entry)) (now (hands .entry)) (now (form .entry))
-        (now (form .exit)) r ⌝ }
+    ensures { λ r. ⌜ HandsCopied edition (old copies) (old hands) (old form) (new form) r ⌝ }
 {
     put_together(copies, hands, &hands[HAND..], form, edition)
 }
@@ -135,8 +135,7 @@ fn find_match(
 ) -> Found
     requires { ⌜ Known (now space) x (now pairs) (now copies) ⌝ }
     requires { ⌜ Compared (now space) x from (now hands) (now form) ⌝ }
-    ensures { λ r. ⌜ Finds (now (space .entry)) x (now (pairs .entry)) (now (copies .entry)) from
-        (now (hands .entry)) (now (hands .exit)) (now (form .exit)) r ⌝ }
+    ensures { λ r. ⌜ Finds (old space) x (old pairs) (old copies) from (old hands) (new hands) (new form) r ⌝ }
 {
     let mut b = from;
     while b != 0 {
@@ -183,8 +182,7 @@ pub fn advance(
 ) -> Match
     requires { ⌜ Known (now space) x (now pairs) (now copies) ⌝ }
     requires { ⌜ Stands (now space) x from (now hands) (now form) ⌝ }
-    ensures { λ r. ⌜ Advances (now (space .entry)) x (now (pairs .entry)) (now (copies .entry)) from
-        (now (hands .entry)) (now (hands .exit)) (now (form .exit)) r ⌝ }
+    ensures { λ r. ⌜ Advances (old space) x (old pairs) (old copies) from (old hands) (new hands) (new form) r ⌝ }
 {
     let mut outer = from.outer;
     let mut inner = from.inner;

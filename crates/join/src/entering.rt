@@ -12,6 +12,7 @@ use space::heading::read_header;
 use space::records::subgoal_in;
 use store::calls::answer_at;
 ghost use mathlib.Core.Path.{_≡_};
+ghost use Rattle.basis.specs.Moments.{old, new};
 ghost use Rattle.trie.specs.Index.{searchIndexed};
 ghost use Rattle.join.specs.Counting.{Givable, Gives, underHead, Enters};
 ghost use Rattle.join.specs.Joining.{Enterable};
@@ -19,9 +20,7 @@ ghost use Rattle.join.specs.Joining.{Enterable};
 // A form given to subgoal s, whatever comes of it.
 fn give(space: &mut [u32], h: Head, s: usize, tokens: &[u32], index: &[u32])
     requires { ⌜ Givable (now space) h s ⌝ }
-    ensures { λ _. ⌜
-        Gives (searchIndexed (now (index .entry))) (now (space .entry)) h s (now (tokens .entry)) (now (space .exit))
-        ⌝ }
+    ensures { λ _. ⌜ Gives (searchIndexed (old index)) (old space) h s (old tokens) (new space) ⌝ }
 {
     let g = subgoal_in(space, h, s);
     answer_at(space, h, s, g, tokens, index);
@@ -43,10 +42,7 @@ fn under(x: Sides, h: Head) -> Sides
 // All forms given to subgoal s.
 pub fn enter(space: &mut [u32], x: Sides, s: usize, pairs: &[u32], copies: &[u32], index: &[u32])
     requires { ⌜ Enterable (now space) x s (now pairs) (now copies) ⌝ }
-    ensures { λ _. ⌜
-        Enters (searchIndexed (now (index .entry))) (now (space .entry)) x s
-        (now (pairs .entry)) (now (copies .entry)) (now (space .exit))
-        ⌝ }
+    ensures { λ _. ⌜ Enters (searchIndexed (old index)) (old space) x s (old pairs) (old copies) (new space) ⌝ }
 {
     let mut hands = [0u32; HANDS];
     let mut form = [0u32; MOST_TOKENS];

@@ -33,17 +33,17 @@ use store::calls::last_sound;
 ghost use mathlib.Core.Path.{_≡_};
 ghost use mathlib.Core.List.{[]};
 ghost use Prim.Native.Nat.{_≤_, _<_, _^_};
-ghost use Rattle.plain.specs.Requests as request;
+ghost use Rattle.basis.specs.Moments.{old, new};
+ghost use Rattle.plain.specs.Requests.{join};
 ghost use Rattle.space.specs.Heading.{spaceHeader};
-ghost use Rattle.space.specs.Sound.{Bounds};
 ghost use Rattle.space.specs.declared.Header.the-variants as header;
 ghost use Rattle.trie.specs.Walks.{rootSound};
 ghost use Rattle.store.specs.Views.{answerTrie};
 ghost use Rattle.trie.specs.Index.{searchIndexed};
 ghost use Rattle.store.specs.Calls.{Answers, AnswersIndexed};
-ghost use Rattle.store.specs.Contracts.{viewIn};
+ghost use Rattle.store.specs.Contracts.{viewIn, RootIn};
 ghost use Rattle.store.specs.Replies.{saidJoin};
-ghost use Rattle.join.specs.Counting.{Ready, Fitting};
+ghost use Rattle.join.specs.Counting.{ReadyToCount};
 ghost use Rattle.join.specs.Joining.{isNumber, Numbered, PartiesIn, sidesOf, wholeAnswers, groundAnswers};
 ghost use Rattle.join.specs.Joining.{RulesOn, Rules, Grounded, JoinsUnder, JoinsNumbered, SomeNew, sumsFit};
 ghost use Rattle.join.specs.Joining.{Fills, Enterable, EntersAll};
@@ -83,8 +83,8 @@ fn is_number(subgoals: usize, s: usize) -> bool
 
 // Is the answer root of the target a sound root?
 fn is_root(space: &[u32], h: Head, root: usize) -> bool
-    requires { ⌜ Bounds (now space) h × (root < h .nodes) ⌝ }
-    ensures { λ r. ⌜ r ≡ rootSound (answerTrie (viewIn (now (space .entry)) h)) root ⌝ }
+    requires { ⌜ RootIn (now space) h root ⌝ }
+    ensures { λ r. ⌜ r ≡ rootSound (answerTrie (viewIn (old space) h)) root ⌝ }
 {
     let NodeRead::Sound(y) = read_node(space, h.nodes, h.answers, root) else {
         return false;
@@ -117,7 +117,7 @@ fn is_ground(j: Judged) -> bool
 // The refusal by the states, the sources' answers and the names; 0 for none.
 fn ruling(y: Parties, f: Judged, g: Judged, pairs: &[u32], copies: &[u32]) -> u32
     requires { ⌜ y .t .variables ≤ 32 ⌝ }
-    ensures { λ r. ⌜ RulesOn y f g (now (pairs .entry)) (now (copies .entry)) r ⌝ }
+    ensures { λ r. ⌜ RulesOn y f g (old pairs) (old copies) r ⌝ }
 {
     if y.t.state != 0 {
         return STATE;
@@ -142,7 +142,7 @@ fn ruling(y: Parties, f: Judged, g: Judged, pairs: &[u32], copies: &[u32]) -> u3
 // The same, after what is damaged.
 fn rule(y: Parties, f: Judged, g: Judged, pairs: &[u32], copies: &[u32]) -> u32
     requires { ⌜ y .t .variables ≤ 32 ⌝ }
-    ensures { λ r. ⌜ Rules y f g (now (pairs .entry)) (now (copies .entry)) r ⌝ }
+    ensures { λ r. ⌜ Rules y f g (old pairs) (old copies) r ⌝ }
 {
     if is_whole(f) {
         if is_whole(g) {
@@ -162,10 +162,7 @@ fn join_entered(
     index: &[u32],
 ) -> JoinAnswer
     requires { ⌜ Enterable (now space) x s (now pairs) (now copies) ⌝ }
-    ensures { λ r. ⌜
-        EntersAll (searchIndexed (now (index .entry))) (now (space .entry)) x s
-        (now (pairs .entry)) (now (copies .entry)) r (now (space .exit))
-        ⌝ }
+    ensures { λ r. ⌜ EntersAll (searchIndexed (old index)) (old space) x s (old pairs) (old copies) r (new space) ⌝ }
 {
     enter(space, x, s, pairs, copies, index);
     let header = read_header(space);
@@ -192,12 +189,9 @@ fn sums_fit(h: Head, y: Sums) -> bool
 
 // The refusal for want of room, by the exact needs; 0 for none.
 fn full(space: &[u32], x: Sides, root: usize, pairs: &[u32], copies: &[u32], index: &[u32]) -> u32
-    requires { ⌜ Ready (now space) x (now pairs) (now copies) × Fitting (now space) x (now pairs) (now copies) ⌝ }
+    requires { ⌜ ReadyToCount (now space) x (now pairs) (now copies) ⌝ }
     requires { ⌜ root < x .h .nodes ⌝ }
-    ensures { λ r. ⌜
-        Fills (searchIndexed (now (index .entry))) (now (space .entry)) x root
-        (now (pairs .entry)) (now (copies .entry)) r
-        ⌝ }
+    ensures { λ r. ⌜ Fills (searchIndexed (old index)) (old space) x root (old pairs) (old copies) r ⌝ }
 {
     let y = needs(space, x, root, pairs, copies, index);
     let nodes = (x.h.node_capacity - x.h.nodes) as u64;
@@ -222,10 +216,7 @@ fn join_new(
     index: &[u32],
 ) -> JoinAnswer
     requires { ⌜ SomeNew (searchIndexed (now index)) (now space) h y (now pairs) (now copies) sums ⌝ }
-    ensures { λ r. ⌜
-        JoinsUnder (searchIndexed (now (index .entry))) (now (space .entry)) h y
-        (now (pairs .entry)) (now (copies .entry)) r (now (space .exit))
-        ⌝ }
+    ensures { λ r. ⌜ JoinsUnder (searchIndexed (old index)) (old space) h y (old pairs) (old copies) r (new space) ⌝ }
 {
     if last_sound(space, h, y.target, y.t.last) {
         let x = sides_of(h, y);
@@ -251,10 +242,7 @@ fn join_ground(
     index: &[u32],
 ) -> JoinAnswer
     requires { ⌜ Grounded (now space) h y (now pairs) (now copies) ⌝ }
-    ensures { λ r. ⌜
-        JoinsUnder (searchIndexed (now (index .entry))) (now (space .entry)) h y
-        (now (pairs .entry)) (now (copies .entry)) r (now (space .exit))
-        ⌝ }
+    ensures { λ r. ⌜ JoinsUnder (searchIndexed (old index)) (old space) h y (old pairs) (old copies) r (new space) ⌝ }
 {
     let counted = count(space, sides_of(h, y), y.t.root, pairs, copies, index);
     let Counted::Sums(sums) = counted else {
@@ -279,10 +267,7 @@ fn join_parties(
     index: &[u32],
 ) -> JoinAnswer
     requires { ⌜ PartiesIn (now space) h y ⌝ }
-    ensures { λ r. ⌜
-        JoinsUnder (searchIndexed (now (index .entry))) (now (space .entry)) h y
-        (now (pairs .entry)) (now (copies .entry)) r (now (space .exit))
-        ⌝ }
+    ensures { λ r. ⌜ JoinsUnder (searchIndexed (old index)) (old space) h y (old pairs) (old copies) r (new space) ⌝ }
 {
     let f = judge(space, h, y.first, y.f);
     let g = judge(space, h, y.second, y.g);
@@ -303,10 +288,8 @@ fn join_known(
     index: &[u32],
 ) -> JoinAnswer
     requires { ⌜ Numbered (now space) h a ⌝ }
-    ensures { λ r. ⌜
-        JoinsNumbered (searchIndexed (now (index .entry))) (now (space .entry)) h a
-        (now (pairs .entry)) (now (copies .entry)) r (now (space .exit))
-        ⌝ }
+    ensures { λ r.
+        ⌜ JoinsNumbered (searchIndexed (old index)) (old space) h a (old pairs) (old copies) r (new space) ⌝ }
 {
     let SubgoalRead::Sound(f) = read_subgoal(space, h, a.first) else {
         return JoinAnswer::Refused(RECORDS);
@@ -341,10 +324,8 @@ fn join_in(
     index: &[u32],
 ) -> JoinAnswer
     requires { ⌜ header.Sound h ≡ spaceHeader (now space) ⌝ }
-    ensures { λ r. ⌜
-        JoinsNumbered (searchIndexed (now (index .entry))) (now (space .entry)) h a
-        (now (pairs .entry)) (now (copies .entry)) r (now (space .exit))
-        ⌝ }
+    ensures { λ r.
+        ⌜ JoinsNumbered (searchIndexed (old index)) (old space) h a (old pairs) (old copies) r (new space) ⌝ }
 {
     if is_number(h.subgoals, a.first) {
         if is_number(h.subgoals, a.second) {
@@ -366,11 +347,9 @@ pub fn join_indexed(
     copies: &[u32],
     index: &[u32],
 ) -> JoinAnswer
-    ensures { λ r. ⌜
-        AnswersIndexed (now (index .entry)) (now (space .entry))
-        (request.join first second (now (pairs .entry)) target (now (copies .entry)))
-        (saidJoin r) [] (now (space .exit))
-        ⌝ }
+    ensures { λ r.
+        ⌜ AnswersIndexed (old index) (old space) (join first second (old pairs) target (old copies))
+        (saidJoin r) [] (new space) ⌝ }
 {
     let header = read_header(space);
     match header {
@@ -395,10 +374,8 @@ pub fn join(
     target: u32,
     copies: &[u32],
 ) -> JoinAnswer
-    ensures { λ r. ⌜
-        Answers (now (space .entry)) (request.join first second (now (pairs .entry)) target (now (copies .entry)))
-        (saidJoin r) [] (now (space .exit))
-        ⌝ }
+    ensures { λ r.
+        ⌜ Answers (old space) (join first second (old pairs) target (old copies)) (saidJoin r) [] (new space) ⌝ }
 {
     join_indexed(space, first, second, pairs, target, copies, &pairs[..0])
 }

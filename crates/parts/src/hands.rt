@@ -4,13 +4,14 @@ use basis::wide;
 ghost use mathlib.Core.Path.{_≡_};
 ghost use lib.Dec.{eqb};
 ghost use Rattle.basis.specs.Choice.{pick};
+ghost use Rattle.basis.specs.Moments.{old, new};
 ghost use Rattle.forms.specs.Compact.{same};
 ghost use Rattle.parts.specs.Segments.{Spans, segment, Room, Extends};
 
 // Whether term x of the first answer and term y of the second have the same tokens.
 pub fn are_equal(outer: &[u32], x: usize, inner: &[u32], y: usize) -> bool
     requires { ⌜ Spans (now outer) x × Spans (now inner) y ⌝ }
-    ensures { λ r. ⌜ r ≡ same (segment (now (outer .entry)) x) (segment (now (inner .entry)) y) ⌝ }
+    ensures { λ r. ⌜ r ≡ same (segment (old outer) x) (segment (old inner) y) ⌝ }
 {
     let end = wide(outer[x + 1]);
     let mut at = wide(outer[x]);
@@ -31,7 +32,7 @@ pub fn are_equal(outer: &[u32], x: usize, inner: &[u32], y: usize) -> bool
 // Copies term x of an answer to place `to` of a form, where it ends within 383 tokens, and gives the place behind it.
 fn copy_term(held: &[u32], x: usize, form: &mut [u32], to: usize) -> usize
     requires { ⌜ Room (now held) x (now form) to ⌝ }
-    ensures { λ r. ⌜ Extends (now (form .entry)) to (segment (now (held .entry)) x) (now (form .exit)) r ⌝ }
+    ensures { λ r. ⌜ Extends (old form) to (segment (old held) x) (new form) r ⌝ }
 {
     let mut from = wide(held[x]);
     let end = wide(held[x + 1]);
@@ -58,8 +59,7 @@ pub fn copy_from(
     to: usize,
 ) -> usize
     requires { ⌜ Room (pick (eqb side 0) (now outer) (now inner)) x (now form) to ⌝ }
-    ensures { λ r. ⌜ Extends (now (form .entry)) to
-        (segment (pick (eqb side 0) (now (outer .entry)) (now (inner .entry))) x) (now (form .exit)) r ⌝ }
+    ensures { λ r. ⌜ Extends (old form) to (segment (pick (eqb side 0) (old outer) (old inner)) x) (new form) r ⌝ }
 {
     if side == 0 {
         return copy_term(outer, x, form, to);

@@ -7,6 +7,7 @@ mod tokens;
 
 use basis::limits::MOST_CELLS;
 use basis::limits::MOST_TOKENS;
+ghost use Rattle.basis.specs.Moments.{old, new};
 ghost use Rattle.parts.specs.Hands.{Takeable, Taken, Comparable, Compares, Copyable, Copies};
 
 // Where the tokens of an answer in hand begin: behind the places of 32 terms and an end.
@@ -22,7 +23,7 @@ pub enum Together {
 // due: the term behind its ELIST or EPAIR ends it and counts for it.
 pub fn take_in_hand(form: &[u32], m: usize, held: &mut [u32], edition: u32)
     requires { ⌜ Takeable edition m (now form) (now held) ⌝ }
-    ensures { λ _. ⌜ Taken edition m (now (form .entry)) (now (held .entry)) (now (held .exit)) ⌝ }
+    ensures { λ _. ⌜ Taken edition m (old form) (old held) (new held) ⌝ }
 {
     let mut at = 0;
     let mut begun = 0;
@@ -57,7 +58,7 @@ pub fn take_in_hand(form: &[u32], m: usize, held: &mut [u32], edition: u32)
 // Whether the terms that each pair names, of the first answer in hand and of the second, are equal.
 pub fn matches(pairs: &[u32], outer: &[u32], inner: &[u32]) -> bool
     requires { ⌜ Comparable (now pairs) (now outer) (now inner) ⌝ }
-    ensures { λ r. ⌜ Compares (now (pairs .entry)) (now (outer .entry)) (now (inner .entry)) r ⌝ }
+    ensures { λ r. ⌜ Compares (old pairs) (old outer) (old inner) r ⌝ }
 {
     let mut i = 0;
     while i < pairs.len() {
@@ -81,8 +82,7 @@ pub fn put_together(
     edition: u32,
 ) -> Together
     requires { ⌜ Copyable edition (now copies) (now outer) (now inner) (now form) ⌝ }
-    ensures { λ r. ⌜ Copies edition (now (copies .entry)) (now (outer .entry)) (now (inner .entry)) (now (form .entry))
-        (now (form .exit)) r ⌝ }
+    ensures { λ r. ⌜ Copies edition (old copies) (old outer) (old inner) (old form) (new form) r ⌝ }
 {
     let mut i = 0;
     let mut to = 0;

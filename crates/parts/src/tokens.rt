@@ -2,6 +2,7 @@
 ghost use mathlib.Core.Path.{_≡_};
 ghost use Prim.Native.Nat.{_≤_};
 ghost use lib.ListN.{take};
+ghost use Rattle.basis.specs.Moments.{old};
 ghost use Rattle.forms.specs.Cells.{arityOf};
 ghost use Rattle.parts.specs.Segments.{closing, weight, Countable, CountsTo};
 
@@ -32,7 +33,7 @@ fn weight_of(c: u32, edition: u32) -> usize
 // The cells of the k terms whose tokens are the first n of form.
 pub fn cells_of(form: &[u32], n: usize, k: usize, edition: u32) -> usize
     requires { ⌜ Countable (arityOf edition) (now form) n k ⌝ }
-    ensures { λ r. ⌜ CountsTo (arityOf edition) (take n (now (form .entry))) k r ⌝ }
+    ensures { λ r. ⌜ CountsTo (arityOf edition) (take n (old form)) k r ⌝ }
 {
     let mut at = 0;
     let mut cells = 0;

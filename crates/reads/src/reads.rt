@@ -23,16 +23,17 @@ ghost use mathlib.Core.Path.{_≡_};
 ghost use mathlib.Core.Bool.{true};
 ghost use mathlib.Core.List.{[]};
 ghost use Prim.Native.Nat.{_≤_, _<_};
+ghost use Rattle.basis.specs.Moments.{old, new};
 ghost use Rattle.plain.specs.Requests.{next, load, instance, counts, lacksNext};
 ghost use Rattle.space.specs.Sound.{Bounds};
 ghost use Rattle.store.specs.Decisions.{says, stateOf, soundPair, starting, handed, onward};
 ghost use Rattle.store.specs.Calls.{Answers};
 ghost use Rattle.store.specs.Replies.{saidNext, saidCells, saidCounts};
-ghost use Rattle.reads.specs.Reading.{viewIn, decided, loadedAnswer, instancedAnswer, Fills, sized};
+ghost use Rattle.reads.specs.Reading.{viewIn, decided, loadedAnswer, instancedAnswer, Fills, sized, HasAnswer};
 
 // Nodes, subgoals and answers used.
 pub fn counts(space: &[u32]) -> CountsAnswer
-    ensures { λ r. ⌜ Answers (now (space .entry)) counts (saidCounts r) [] (now (space .entry)) ⌝ }
+    ensures { λ r. ⌜ Answers (old space) counts (saidCounts r) [] (old space) ⌝ }
 {
     let header = read_header(space);
     match header {
@@ -58,7 +59,7 @@ fn lacking(state: usize) -> NextAnswer
 // Answer a, which a record names, is handed out: it is to be the subgoal's. Where there is none, its state is told.
 fn hand_out(space: &[u32], h: Head, s: usize, state: usize, a: usize) -> NextAnswer
     requires { ⌜ Bounds (now space) h × (a ≤ h .answers) × (state ≡ viewIn (now space) h .subgoal s .state) ⌝ }
-    ensures { λ r. ⌜ says (saidNext r) ≡ handed (viewIn (now (space .entry)) h) s a ⌝ }
+    ensures { λ r. ⌜ says (saidNext r) ≡ handed (viewIn (old space) h) s a ⌝ }
 {
     if a == 0 {
         return lacking(state);
@@ -76,7 +77,7 @@ fn hand_out(space: &[u32], h: Head, s: usize, state: usize, a: usize) -> NextAns
 // From answer a on, or from the subgoal's first answer.
 fn go_on(space: &[u32], h: Head, s: usize, a: usize) -> NextAnswer
     requires { ⌜ Bounds (now space) h × (1 ≤ s) × (s ≤ h .subgoals) × (a ≤ h .answers) ⌝ }
-    ensures { λ r. ⌜ says (saidNext r) ≡ onward (viewIn (now (space .entry)) h) s a ⌝ }
+    ensures { λ r. ⌜ says (saidNext r) ≡ onward (viewIn (old space) h) s a ⌝ }
 {
     let SubgoalRead::Sound(g) = read_subgoal(space, h, s) else {
         return NextAnswer::Refused(RECORDS);
@@ -93,7 +94,7 @@ fn go_on(space: &[u32], h: Head, s: usize, a: usize) -> NextAnswer
 // May next start at a? The record of a is taken as it stands.
 fn starts(space: &[u32], h: Head, s: usize, a: usize) -> bool
     requires { ⌜ Bounds (now space) h ⌝ }
-    ensures { λ r. ⌜ r ≡ starting (viewIn (now (space .entry)) h) s a ⌝ }
+    ensures { λ r. ⌜ r ≡ starting (viewIn (old space) h) s a ⌝ }
 {
     if a == 0 {
         return true;
@@ -108,7 +109,7 @@ fn starts(space: &[u32], h: Head, s: usize, a: usize) -> bool
 // Next, under a sound header.
 fn next_in(space: &[u32], h: Head, s: usize, a: usize) -> NextAnswer
     requires { ⌜ Bounds (now space) h ⌝ }
-    ensures { λ r. ⌜ says (saidNext r) ≡ decided (next s a) (now (space .entry)) h ⌝ }
+    ensures { λ r. ⌜ says (saidNext r) ≡ decided (next s a) (old space) h ⌝ }
 {
     if s == 0 {
         return NextAnswer::Refused(NUMBER);
@@ -124,7 +125,7 @@ fn next_in(space: &[u32], h: Head, s: usize, a: usize) -> NextAnswer
 
 // The subgoal's first answer after a given one, or after none.
 pub fn next(space: &[u32], subgoal: u32, after: u32) -> NextAnswer
-    ensures { λ r. ⌜ Answers (now (space .entry)) (next subgoal after) (saidNext r) [] (now (space .entry)) ⌝ }
+    ensures { λ r. ⌜ Answers (old space) (next subgoal after) (saidNext r) [] (old space) ⌝ }
 {
     let header = read_header(space);
     match header {
@@ -135,8 +136,8 @@ pub fn next(space: &[u32], subgoal: u32, after: u32) -> NextAnswer
 
 // Are answer a and the subgoal that it names sound?
 fn pair_sound(space: &[u32], h: Head, a: usize) -> bool
-    requires { ⌜ Bounds (now space) h × (1 ≤ a) × (a ≤ h .answers) ⌝ }
-    ensures { λ r. ⌜ r ≡ soundPair (viewIn (now (space .entry)) h) a ⌝ }
+    requires { ⌜ HasAnswer (now space) h a ⌝ }
+    ensures { λ r. ⌜ r ≡ soundPair (viewIn (old space) h) a ⌝ }
 {
     let AnswerRead::Sound(y) = read_answer(space, h, a) else {
         return false;
@@ -149,9 +150,9 @@ fn pair_sound(space: &[u32], h: Head, a: usize) -> bool
 
 // Load of an answer whose records are sound.
 fn load_with(space: &[u32], h: Head, a: usize, out: &mut [u32]) -> Answer
-    requires { ⌜ Bounds (now space) h × (1 ≤ a) × (a ≤ h .answers) ⌝ }
+    requires { ⌜ HasAnswer (now space) h a ⌝ }
     requires { ⌜ soundPair (viewIn (now space) h) a ≡ true ⌝ }
-    ensures { λ r. ⌜ Fills (loadedAnswer a) (now (space .entry)) h (now (out .entry)) r (now (out .exit)) ⌝ }
+    ensures { λ r. ⌜ Fills (loadedAnswer a) (old space) h (old out) r (new out) ⌝ }
 {
     let y = answer_in(space, h, a);
     let g = subgoal_in(space, h, y.subgoal);
@@ -167,9 +168,7 @@ fn load_with(space: &[u32], h: Head, a: usize, out: &mut [u32]) -> Answer
 // Load, under a sound header.
 fn load_in(space: &[u32], h: Head, a: usize, out: &mut [u32]) -> Answer
     requires { ⌜ Bounds (now space) h ⌝ }
-    ensures { λ r.
-        ⌜ Fills (decided (load a (now (out .entry)))) (now (space .entry)) h
-        (now (out .entry)) r (now (out .exit)) ⌝ }
+    ensures { λ r. ⌜ Fills (decided (load a (old out))) (old space) h (old out) r (new out) ⌝ }
 {
     if a == 0 {
         return Answer::Refused(NUMBER);
@@ -185,9 +184,7 @@ fn load_in(space: &[u32], h: Head, a: usize, out: &mut [u32]) -> Answer
 
 // The terms of an answer in pair form.
 pub fn load(space: &[u32], answer: u32, out: &mut [u32]) -> Answer
-    ensures { λ r.
-        ⌜ Answers (now (space .entry)) (load answer (now (out .entry)))
-        (saidCells r) (now (out .exit)) (now (space .entry)) ⌝ }
+    ensures { λ r. ⌜ Answers (old space) (load answer (old out)) (saidCells r) (new out) (old space) ⌝ }
 {
     let header = read_header(space);
     match header {
@@ -213,9 +210,9 @@ fn cells_answer(room: usize, n: usize) -> Answer
 
 // Instance of an answer whose records are sound.
 fn instance_with(space: &[u32], h: Head, a: usize, out: &mut [u32]) -> Answer
-    requires { ⌜ Bounds (now space) h × (1 ≤ a) × (a ≤ h .answers) ⌝ }
+    requires { ⌜ HasAnswer (now space) h a ⌝ }
     requires { ⌜ soundPair (viewIn (now space) h) a ≡ true ⌝ }
-    ensures { λ r. ⌜ Fills (instancedAnswer a) (now (space .entry)) h (now (out .entry)) r (now (out .exit)) ⌝ }
+    ensures { λ r. ⌜ Fills (instancedAnswer a) (old space) h (old out) r (new out) ⌝ }
 {
     let y = answer_in(space, h, a);
     let g = subgoal_in(space, h, y.subgoal);
@@ -239,9 +236,7 @@ fn instance_with(space: &[u32], h: Head, a: usize, out: &mut [u32]) -> Answer
 // Instance, under a sound header.
 fn instance_in(space: &[u32], h: Head, a: usize, out: &mut [u32]) -> Answer
     requires { ⌜ Bounds (now space) h ⌝ }
-    ensures { λ r.
-        ⌜ Fills (decided (instance a (now (out .entry)))) (now (space .entry)) h
-        (now (out .entry)) r (now (out .exit)) ⌝ }
+    ensures { λ r. ⌜ Fills (decided (instance a (old out))) (old space) h (old out) r (new out) ⌝ }
 {
     if a == 0 {
         return Answer::Refused(NUMBER);
@@ -257,9 +252,7 @@ fn instance_in(space: &[u32], h: Head, a: usize, out: &mut [u32]) -> Answer
 
 // The subgoal of an answer with variable i replaced by the answer's term i, in pair form.
 pub fn instance(space: &[u32], answer: u32, out: &mut [u32]) -> Answer
-    ensures { λ r.
-        ⌜ Answers (now (space .entry)) (instance answer (now (out .entry)))
-        (saidCells r) (now (out .exit)) (now (space .entry)) ⌝ }
+    ensures { λ r. ⌜ Answers (old space) (instance answer (old out)) (saidCells r) (new out) (old space) ⌝ }
 {
     let header = read_header(space);
     match header {

@@ -1,14 +1,27 @@
 -- What the functions behind `respond` leave: the names that their contracts use.
-use Prim.Native.Nat.{ℕ}
+use Prim.Native.Nat.{ℕ, _≤_}
 use mathlib.Core.List.{List}
 use mathlib.Core.Path.{_≡_}
+use lib.ListN.{length}
 use Rattle.store.specs.Calls.{spaceStep}
 use Rattle.text.specs.Digits.{Puts}
 use Rattle.text.specs.Fields.{fields}
-use Rattle.text.specs.Places.{restAt}
+use Rattle.text.specs.Places.{Ends, restAt}
 use Rattle.session.specs.Lines.{Meaning, meansCall, meansAnswer, meansFinish, meansNext, meansLoad}
-use Rattle.session.specs.Lines.{meansInstance, meansCounts, wordMeans, means}
+use Rattle.session.specs.Lines.{meansInstance, meansCounts, wordMeans, means, longestLine}
 use Rattle.session.specs.Session.{Said, says}
+use Rattle.session.specs.Texts.{replyBytes, textRoom}
+
+-- what is asked behind a word of a line can be printed: its fields begin behind a place, and the text has room for a
+-- reply of numbers; where the fields are cells, no more of them than a line has room for; or room for all cells of out
+abbrev pub Askable : List ℕ → ℕ → List ℕ → Type 0
+Askable line at text = Ends line at × (replyBytes ≤ length text)
+
+abbrev pub AskableCells : List ℕ → ℕ → List ℕ → Type 0
+AskableCells line at text = Ends line at × (length line ≤ longestLine) × (replyBytes ≤ length text)
+
+abbrev pub AskableOut : List ℕ → ℕ → List ℕ → List ℕ → Type 0
+AskableOut line at out text = Ends line at × (textRoom (length out) ≤ length text)
 
 -- a line is printed at the start of the text: the text before, the place behind the line, the text and the space after
 abbrev pub Prints : Said (List ℕ) → List ℕ → ℕ → List ℕ → List ℕ → Type 0

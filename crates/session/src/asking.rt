@@ -19,11 +19,8 @@ use text::fields::first_number;
 use text::fields::only_number;
 use text::fields::read_cells;
 ghost use mathlib.Core.Path.{_≡_};
-ghost use Prim.Native.Nat.{_≤_};
-ghost use lib.ListN.{length};
-ghost use Rattle.text.specs.Places.{Ends};
-ghost use Rattle.session.specs.Lines.{longestLine};
-ghost use Rattle.session.specs.Texts.{replyBytes, textRoom};
+ghost use Rattle.basis.specs.Moments.{old, new};
+ghost use Rattle.session.specs.Asking.{Askable, AskableCells, AskableOut};
 ghost use Rattle.session.specs.Asking.{Asks, AsksReading, callAt, answerAt, finishAt, nextAt, countsAt};
 ghost use Rattle.session.specs.Asking.{loadSaid, instanceSaid, LoadPrints, InstancePrints};
 
@@ -32,11 +29,8 @@ const LINE_CELLS: usize = 456;
 
 // call, with cells.
 pub fn ask_call(line: &[u8], at: usize, space: &mut [u32], text: &mut [u8]) -> usize
-    requires { ⌜ Ends (now line) at × (length (now line) ≤ longestLine) × (replyBytes ≤ length (now text)) ⌝ }
-    ensures { λ r. ⌜
-        Asks (callAt (now (line .entry)) at) (now (space .entry))
-        (now (text .entry)) r (now (text .exit)) (now (space .exit))
-        ⌝ }
+    requires { ⌜ AskableCells (now line) at (now text) ⌝ }
+    ensures { λ r. ⌜ Asks (callAt (old line) at) (old space) (old text) r (new text) (new space) ⌝ }
 {
     let mut cells = [0u32; LINE_CELLS];
     let CellsRead::Cells(n) = read_cells(line, at, &mut cells) else {
@@ -48,11 +42,8 @@ pub fn ask_call(line: &[u8], at: usize, space: &mut [u32], text: &mut [u8]) -> u
 
 // answer, with a number and cells.
 pub fn ask_answer(line: &[u8], at: usize, space: &mut [u32], text: &mut [u8]) -> usize
-    requires { ⌜ Ends (now line) at × (length (now line) ≤ longestLine) × (replyBytes ≤ length (now text)) ⌝ }
-    ensures { λ r. ⌜
-        Asks (answerAt (now (line .entry)) at) (now (space .entry))
-        (now (text .entry)) r (now (text .exit)) (now (space .exit))
-        ⌝ }
+    requires { ⌜ AskableCells (now line) at (now text) ⌝ }
+    ensures { λ r. ⌜ Asks (answerAt (old line) at) (old space) (old text) r (new text) (new space) ⌝ }
 {
     let Numeral::Value(subgoal, end) = first_number(line, at) else {
         return print_bad(text);
@@ -67,11 +58,8 @@ pub fn ask_answer(line: &[u8], at: usize, space: &mut [u32], text: &mut [u8]) ->
 
 // finish, with a number.
 pub fn ask_finish(line: &[u8], at: usize, space: &mut [u32], text: &mut [u8]) -> usize
-    requires { ⌜ Ends (now line) at × (replyBytes ≤ length (now text)) ⌝ }
-    ensures { λ r. ⌜
-        Asks (finishAt (now (line .entry)) at) (now (space .entry))
-        (now (text .entry)) r (now (text .exit)) (now (space .exit))
-        ⌝ }
+    requires { ⌜ Askable (now line) at (now text) ⌝ }
+    ensures { λ r. ⌜ Asks (finishAt (old line) at) (old space) (old text) r (new text) (new space) ⌝ }
 {
     let Numeral::Value(subgoal, _) = only_number(line, at) else {
         return print_bad(text);
@@ -82,10 +70,8 @@ pub fn ask_finish(line: &[u8], at: usize, space: &mut [u32], text: &mut [u8]) ->
 
 // next, with two numbers.
 pub fn ask_next(line: &[u8], at: usize, space: &[u32], text: &mut [u8]) -> usize
-    requires { ⌜ Ends (now line) at × (replyBytes ≤ length (now text)) ⌝ }
-    ensures { λ r. ⌜
-        AsksReading (nextAt (now (line .entry)) at) (now (space .entry)) (now (text .entry)) r (now (text .exit))
-        ⌝ }
+    requires { ⌜ Askable (now line) at (now text) ⌝ }
+    ensures { λ r. ⌜ AsksReading (nextAt (old line) at) (old space) (old text) r (new text) ⌝ }
 {
     let Numeral::Value(subgoal, end) = first_number(line, at) else {
         return print_bad(text);
@@ -99,14 +85,9 @@ pub fn ask_next(line: &[u8], at: usize, space: &[u32], text: &mut [u8]) -> usize
 
 // load, with a number. What was written to out is printed.
 pub fn ask_load(line: &[u8], at: usize, space: &[u32], out: &mut [u32], text: &mut [u8]) -> usize
-    requires { ⌜ Ends (now line) at × (textRoom (length (now out)) ≤ length (now text)) ⌝ }
-    ensures { λ r. ⌜
-        LoadPrints (now (line .entry)) at (now (space .entry)) (now (out .entry))
-        (now (text .entry)) r (now (text .exit))
-        ⌝ }
-    ensures { λ r. ⌜
-        now (out .exit) ≡ loadSaid (now (line .entry)) at (now (space .entry)) (now (out .entry)) .out
-        ⌝ }
+    requires { ⌜ AskableOut (now line) at (now out) (now text) ⌝ }
+    ensures { λ r. ⌜ LoadPrints (old line) at (old space) (old out) (old text) r (new text) ⌝ }
+    ensures { λ r. ⌜ new out ≡ loadSaid (old line) at (old space) (old out) .out ⌝ }
 {
     let Numeral::Value(number, _) = only_number(line, at) else {
         return print_bad(text);
@@ -123,14 +104,9 @@ pub fn ask_instance(
     out: &mut [u32],
     text: &mut [u8],
 ) -> usize
-    requires { ⌜ Ends (now line) at × (textRoom (length (now out)) ≤ length (now text)) ⌝ }
-    ensures { λ r. ⌜
-        InstancePrints (now (line .entry)) at (now (space .entry)) (now (out .entry))
-        (now (text .entry)) r (now (text .exit))
-        ⌝ }
-    ensures { λ r. ⌜
-        now (out .exit) ≡ instanceSaid (now (line .entry)) at (now (space .entry)) (now (out .entry)) .out
-        ⌝ }
+    requires { ⌜ AskableOut (now line) at (now out) (now text) ⌝ }
+    ensures { λ r. ⌜ InstancePrints (old line) at (old space) (old out) (old text) r (new text) ⌝ }
+    ensures { λ r. ⌜ new out ≡ instanceSaid (old line) at (old space) (old out) .out ⌝ }
 {
     let Numeral::Value(number, _) = only_number(line, at) else {
         return print_bad(text);
@@ -141,10 +117,8 @@ pub fn ask_instance(
 
 // counts, with no field: the line ends behind the word.
 pub fn ask_counts(line: &[u8], at: usize, space: &[u32], text: &mut [u8]) -> usize
-    requires { ⌜ Ends (now line) at × (replyBytes ≤ length (now text)) ⌝ }
-    ensures { λ r. ⌜
-        AsksReading (countsAt (now (line .entry)) at) (now (space .entry)) (now (text .entry)) r (now (text .exit))
-        ⌝ }
+    requires { ⌜ Askable (now line) at (now text) ⌝ }
+    ensures { λ r. ⌜ AsksReading (countsAt (old line) at) (old space) (old text) r (new text) ⌝ }
 {
     if at < line.len() {
         return print_bad(text);

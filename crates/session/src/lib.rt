@@ -18,6 +18,7 @@ ghost use mathlib.Core.Path.{_≡_};
 ghost use Prim.Native.Nat.{_≤_};
 ghost use lib.Dec.{leb};
 ghost use lib.ListN.{length};
+ghost use Rattle.basis.specs.Moments.{old, new};
 ghost use Rattle.session.specs.Lines.{longestLine};
 ghost use Rattle.session.specs.Texts.{textRoom};
 ghost use Rattle.session.specs.Asking.{wordSaid, lineSaid, WordPuts, LinePuts};
@@ -35,13 +36,9 @@ pub const REPLY_BYTES: usize = 64;
 // The reply to a line that is not too long, by its first word; without the newline.
 fn reply(line: &[u8], space: &mut [u32], out: &mut [u32], text: &mut [u8]) -> usize
     requires { ⌜ (length (now line) ≤ longestLine) × (textRoom (length (now out)) ≤ length (now text)) ⌝ }
-    ensures { λ r. ⌜
-        WordPuts (now (line .entry)) (now (space .entry)) (now (out .entry)) (now (text .entry)) r (now (text .exit))
-        ⌝ }
-    ensures { λ r. ⌜
-        now (space .exit) ≡ wordSaid (now (line .entry)) (now (space .entry)) (now (out .entry)) .state
-        ⌝ }
-    ensures { λ r. ⌜ now (out .exit) ≡ wordSaid (now (line .entry)) (now (space .entry)) (now (out .entry)) .out ⌝ }
+    ensures { λ r. ⌜ WordPuts (old line) (old space) (old out) (old text) r (new text) ⌝ }
+    ensures { λ r. ⌜ new space ≡ wordSaid (old line) (old space) (old out) .state ⌝ }
+    ensures { λ r. ⌜ new out ≡ wordSaid (old line) (old space) (old out) .out ⌝ }
 {
     let at = first_end(line);
     if is_word(&line[..at], b"call") {
@@ -71,13 +68,9 @@ fn reply(line: &[u8], space: &mut [u32], out: &mut [u32], text: &mut [u8]) -> us
 // The same of a line of any length: one that is too long is not read.
 fn reply_or_bad(line: &[u8], space: &mut [u32], out: &mut [u32], text: &mut [u8]) -> usize
     requires { ⌜ textRoom (length (now out)) ≤ length (now text) ⌝ }
-    ensures { λ r. ⌜
-        LinePuts (now (line .entry)) (now (space .entry)) (now (out .entry)) (now (text .entry)) r (now (text .exit))
-        ⌝ }
-    ensures { λ r. ⌜
-        now (space .exit) ≡ lineSaid (now (line .entry)) (now (space .entry)) (now (out .entry)) .state
-        ⌝ }
-    ensures { λ r. ⌜ now (out .exit) ≡ lineSaid (now (line .entry)) (now (space .entry)) (now (out .entry)) .out ⌝ }
+    ensures { λ r. ⌜ LinePuts (old line) (old space) (old out) (old text) r (new text) ⌝ }
+    ensures { λ r. ⌜ new space ≡ lineSaid (old line) (old space) (old out) .state ⌝ }
+    ensures { λ r. ⌜ new out ≡ lineSaid (old line) (old space) (old out) .out ⌝ }
 {
     if line.len() <= LONGEST_LINE {
         return reply(line, space, out, text);
@@ -87,7 +80,7 @@ fn reply_or_bad(line: &[u8], space: &mut [u32], out: &mut [u32], text: &mut [u8]
 
 // Has the text room for any reply? Divided, since the bytes for so many cells could overflow.
 fn has_room(out: &[u32], text: &[u8]) -> bool
-    ensures { λ r. ⌜ r ≡ leb (textRoom (length (now (out .entry)))) (length (now (text .entry))) ⌝ }
+    ensures { λ r. ⌜ r ≡ leb (textRoom (length (old out))) (length (old text)) ⌝ }
 {
     if text.len() < REPLY_BYTES {
         return false;
@@ -98,22 +91,11 @@ fn has_room(out: &[u32], text: &[u8]) -> bool
 // Answers a line: what is to be printed stands at the start of text, with its newline, and its length
 // is returned. A text without room for any reply gets none.
 pub fn respond(line: &[u8], space: &mut [u32], out: &mut [u32], text: &mut [u8]) -> usize
-    ensures { λ r. ⌜
-        r ≡ responding (now (line .entry)) (now (text .entry)) (now (space .entry)) (now (out .entry)) .printed
-        ⌝ }
-    ensures { λ r. ⌜
-        now (text .exit)
-        ≡ responding (now (line .entry)) (now (text .entry)) (now (space .entry)) (now (out .entry)) .text
-        ⌝ }
-    ensures { λ r. ⌜
-        now (space .exit)
-        ≡ responding (now (line .entry)) (now (text .entry)) (now (space .entry)) (now (out .entry)) .space
-        ⌝ }
-    ensures { λ r. ⌜
-        now (out .exit)
-        ≡ responding (now (line .entry)) (now (text .entry)) (now (space .entry)) (now (out .entry)) .out
-        ⌝ }
-    ensures { λ r. ⌜ r ≤ length (now (text .exit)) ⌝ }
+    ensures { λ r. ⌜ r ≡ responding (old line) (old text) (old space) (old out) .printed ⌝ }
+    ensures { λ r. ⌜ new text ≡ responding (old line) (old text) (old space) (old out) .text ⌝ }
+    ensures { λ r. ⌜ new space ≡ responding (old line) (old text) (old space) (old out) .space ⌝ }
+    ensures { λ r. ⌜ new out ≡ responding (old line) (old text) (old space) (old out) .out ⌝ }
+    ensures { λ r. ⌜ r ≤ length (new text) ⌝ }
 {
     if has_room(out, text) {
         let end = reply_or_bad(line, space, out, text);

@@ -17,6 +17,7 @@ ghost use mathlib.Core.Path.{_≡_};
 ghost use mathlib.Core.List.{_∷_};
 ghost use Prim.Native.Nat.{ℕ, _+_, _≤_, _<_};
 ghost use lib.ListN.{length};
+ghost use Rattle.basis.specs.Moments.{old, new};
 ghost use Rattle.plain.specs.Requests.{cells, lacksNext};
 ghost use Rattle.store.specs.Replies.{saidState, saidCall, saidAnswer, saidFinish, saidNext, saidCells, saidCounts};
 ghost use Rattle.text.specs.Fields.{space};
@@ -27,7 +28,7 @@ ghost use Rattle.session.specs.Texts.{replyText, replyBytes, textRoom, P
 // For a line that means nothing.
 pub fn print_bad(text: &mut [u8]) -> usize
     requires { ⌜ replyBytes ≤ length (now text) ⌝ }
-    ensures { λ r. ⌜ Puts 0 textBad (now (text .entry)) r (now (text .exit)) ⌝ }
+    ensures { λ r. ⌜ Puts 0 textBad (old text) r (new text) ⌝ }
 {
     put(b"bad", text, 0)
 }
@@ -35,7 +36,7 @@ pub fn print_bad(text: &mut [u8]) -> usize
 // A refusal prints its number alone, so one function serves every call.
 fn print_refused(number: u32, text: &mut [u8]) -> usize
     requires { ⌜ replyBytes ≤ length (now text) ⌝ }
-    ensures { λ r. ⌜ Puts 0 (numbered textRefused number) (now (text .entry)) r (now (text .exit)) ⌝ }
+    ensures { λ r. ⌜ Puts 0 (numbered textRefused number) (old text) r (new text) ⌝ }
 {
     put_numbered(b"refused", number, text, 0)
 }
@@ -43,7 +44,7 @@ fn print_refused(number: u32, text: &mut [u8]) -> usize
 // The state stands behind the number of an old subgoal, with its space.
 fn put_state(state: State, text: &mut [u8], at: usize) -> usize
     requires { ⌜ at + 9 < length (now text) ⌝ }
-    ensures { λ r. ⌜ Puts at (space ∷ stateText (saidState state)) (now (text .entry)) r (now (text .exit)) ⌝ }
+    ensures { λ r. ⌜ Puts at (space ∷ stateText (saidState state)) (old text) r (new text) ⌝ }
 {
     match state {
         State::Open => return put(b" open", text, at),
@@ -54,7 +55,7 @@ fn put_state(state: State, text: &mut [u8], at: usize) -> usize
 // Only an old subgoal has its state printed.
 pub fn print_call(answer: CallAnswer, text: &mut [u8]) -> usize
     requires { ⌜ replyBytes ≤ length (now text) ⌝ }
-    ensures { λ r. ⌜ PrintsReply (saidCall answer) (now (text .entry)) r (now (text .exit)) ⌝ }
+    ensures { λ r. ⌜ PrintsReply (saidCall answer) (old text) r (new text) ⌝ }
 {
     match answer {
         CallAnswer::New(n) => return put_numbered(b"new", n, text, 0),
@@ -69,7 +70,7 @@ pub fn print_call(answer: CallAnswer, text: &mut [u8]) -> usize
 // An old answer has no state.
 pub fn print_answer(answer: AnswerAnswer, text: &mut [u8]) -> usize
     requires { ⌜ replyBytes ≤ length (now text) ⌝ }
-    ensures { λ r. ⌜ PrintsReply (saidAnswer answer) (now (text .entry)) r (now (text .exit)) ⌝ }
+    ensures { λ r. ⌜ PrintsReply (saidAnswer answer) (old text) r (new text) ⌝ }
 {
     match answer {
         AnswerAnswer::New(n) => return put_numbered(b"new", n, text, 0),
@@ -81,7 +82,7 @@ pub fn print_answer(answer: AnswerAnswer, text: &mut [u8]) -> usize
 // A subgoal that was finished before prints the same.
 pub fn print_finish(answer: FinishAnswer, text: &mut [u8]) -> usize
     requires { ⌜ replyBytes ≤ length (now text) ⌝ }
-    ensures { λ r. ⌜ PrintsReply (saidFinish answer) (now (text .entry)) r (now (text .exit)) ⌝ }
+    ensures { λ r. ⌜ PrintsReply (saidFinish answer) (old text) r (new text) ⌝ }
 {
     match answer {
         FinishAnswer::Done => return put(b"done", text, 0),
@@ -92,7 +93,7 @@ pub fn print_finish(answer: FinishAnswer, text: &mut [u8]) -> usize
 // Where no answer is left, the state tells whether one may still come.
 fn print_lacking(state: State, text: &mut [u8]) -> usize
     requires { ⌜ replyBytes ≤ length (now text) ⌝ }
-    ensures { λ r. ⌜ PrintsReply (lacksNext (saidState state)) (now (text .entry)) r (now (text .exit)) ⌝ }
+    ensures { λ r. ⌜ PrintsReply (lacksNext (saidState state)) (old text) r (new text) ⌝ }
 {
     match state {
         State::Open => return put(b"none yet", text, 0),
@@ -103,7 +104,7 @@ fn print_lacking(state: State, text: &mut [u8]) -> usize
 // The number of the answer, or that none is left.
 pub fn print_next(answer: NextAnswer, text: &mut [u8]) -> usize
     requires { ⌜ replyBytes ≤ length (now text) ⌝ }
-    ensures { λ r. ⌜ PrintsReply (saidNext answer) (now (text .entry)) r (now (text .exit)) ⌝ }
+    ensures { λ r. ⌜ PrintsReply (saidNext answer) (old text) r (new text) ⌝ }
 {
     match answer {
         NextAnswer::At(n) => return put_numbered(b"at", n, text, 0),
@@ -115,8 +116,7 @@ pub fn print_next(answer: NextAnswer, text: &mut [u8]) -> usize
 // Nodes, subgoals and answers used, in this order.
 fn print_used(used: Counts, text: &mut [u8]) -> usize
     requires { ⌜ replyBytes ≤ length (now text) ⌝ }
-    ensures { λ r. ⌜ Puts 0 (countsText (used .nodes) (used .subgoals) (used .answers))
-        (now (text .entry)) r (now (text .exit)) ⌝ }
+    ensures { λ r. ⌜ Puts 0 (countsText (used .nodes) (used .subgoals) (used .answers)) (old text) r (new text) ⌝ }
 {
     let nodes_end = put_numbered(b"counts", used.nodes, text, 0);
     let subgoals_end = put_field(used.subgoals, DECIMAL, 1, text, nodes_end);
@@ -126,7 +126,7 @@ fn print_used(used: Counts, text: &mut [u8]) -> usize
 // What is used is printed, no capacity.
 pub fn print_counts(answer: CountsAnswer, text: &mut [u8]) -> usize
     requires { ⌜ replyBytes ≤ length (now text) ⌝ }
-    ensures { λ r. ⌜ PrintsReply (saidCounts answer) (now (text .entry)) r (now (text .exit)) ⌝ }
+    ensures { λ r. ⌜ PrintsReply (saidCounts answer) (old text) r (new text) ⌝ }
 {
     match answer {
         CountsAnswer::Used(used) => return print_used(used, text),
@@ -139,8 +139,7 @@ pub fn print_counts(answer: CountsAnswer, text: &mut [u8]) -> usize
 pub fn print_cells(answer: Answer, out: &[u32], text: &mut [u8]) -> usize
     requires { ⌜ textRoom (length (now out)) ≤ length (now text) ⌝ }
     requires { ⌜ ((n : ℕ) → saidCells answer ≡ cells n → n ≤ length (now out)) ⌝ }
-    ensures { λ r. ⌜ Puts 0 (replyText (saidCells answer) (now (out .entry)))
-        (now (text .entry)) r (now (text .exit)) ⌝ }
+    ensures { λ r. ⌜ Puts 0 (replyText (saidCells answer) (old out)) (old text) r (new text) ⌝ }
 {
     match answer {
         Answer::Cells(n) => {

@@ -6,6 +6,7 @@ use space::FreshAnswer;
 use space::fresh::fresh;
 ghost use mathlib.Core.Path.{_≡_};
 ghost use lib.ListN.{length};
+ghost use Rattle.basis.specs.Moments.{old, new};
 ghost use Rattle.session.specs.Numbers.{spaceCells, outCells, textBytes, lineBytes, startAnswer, startSpace};
 
 // The table's edition.
@@ -34,7 +35,7 @@ pub const LINE_BYTES: usize = LONGEST_LINE + 1;
 
 // Makes the table.
 pub fn start(space: &mut [u32]) -> FreshAnswer
-    ensures { λ r. ⌜ (r ≡ startAnswer (now (space .entry))) × (now (space .exit) ≡ startSpace (now (space .entry))) ⌝ }
+    ensures { λ r. ⌜ (r ≡ startAnswer (old space)) × (new space ≡ startSpace (old space)) ⌝ }
 {
     fresh(space, NODES, SUBGOALS, ANSWERS, EDITION)
 }

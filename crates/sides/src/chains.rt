@@ -11,6 +11,7 @@ use trie::End;
 ghost use mathlib.Core.Path.{_≡_};
 ghost use mathlib.Core.Bool.{_&&_};
 ghost use Prim.Native.Nat.{_≤_};
+ghost use Rattle.basis.specs.Moments.{old};
 ghost use Rattle.trie.specs.Runs.{Ends, pathTo};
 ghost use Rattle.store.specs.Contracts.{Held};
 ghost use Rattle.sides.specs.Chains.{PathJudged, AnswerJudged, ChainJudged};
@@ -27,7 +28,7 @@ fn both(a: bool, b: bool) -> bool
 // The path of an answer, from its leaf up.
 fn judge_path(space: &[u32], end: End, m: usize, edition: u32) -> Judged
     requires { ⌜ Ends (now space) end ⌝ }
-    ensures { λ r. ⌜ PathJudged edition (pathTo (now (space .entry)) end) m r ⌝ }
+    ensures { λ r. ⌜ PathJudged edition (pathTo (old space) end) m r ⌝ }
 {
     let n = path_worth(space, end, m, false, edition);
     if n == 0 {
@@ -42,7 +43,7 @@ fn judge_path(space: &[u32], end: End, m: usize, edition: u32) -> Judged
 // Answer a, which is to be the subgoal's. What follows it is judged also where its form holds a variable.
 fn judge_answer(space: &[u32], h: Head, s: usize, g: Subgoal, a: usize) -> Member
     requires { ⌜ Held (now space) h s g × (1 ≤ a) × (a ≤ h .answers) ⌝ }
-    ensures { λ r. ⌜ AnswerJudged (now (space .entry)) h s a r ⌝ }
+    ensures { λ r. ⌜ AnswerJudged (old space) h s a r ⌝ }
 {
     let AnswerRead::Sound(y) = read_answer(space, h, a) else {
         return Member::Damaged;
@@ -68,7 +69,7 @@ fn judge_answer(space: &[u32], h: Head, s: usize, g: Subgoal, a: usize) -> Membe
 pub fn judge(space: &[u32], h: Head, s: usize, g: Subgoal) -> Judged
     requires { ⌜ Held (now space) h s g ⌝ }
     requires { ⌜ g .first ≤ h .answers ⌝ }
-    ensures { λ r. ⌜ ChainJudged (now (space .entry)) h s r ⌝ }
+    ensures { λ r. ⌜ ChainJudged (old space) h s r ⌝ }
 {
     let mut a = g.first;
     let mut ground = true;

@@ -2,6 +2,7 @@
 use basis::wide;
 ghost use mathlib.Core.Path.{_≡_};
 ghost use Prim.Native.Nat.{_≤_};
+ghost use Rattle.basis.specs.Moments.{old};
 ghost use Rattle.plain.specs.Joins.{pairsNamed, copiesNamed, named};
 ghost use Rattle.sides.specs.Names.{variablesOf};
 
@@ -25,7 +26,7 @@ fn variables_of(side: u32, m: usize, n: usize) -> usize
 
 // Are both variables of each pair below their source's number of variables?
 fn pairs_named(pairs: &[u32], m: usize, n: usize) -> bool
-    ensures { λ r. ⌜ r ≡ pairsNamed m n (now (pairs .entry)) ⌝ }
+    ensures { λ r. ⌜ r ≡ pairsNamed m n (old pairs) ⌝ }
 {
     let mut i = 0;
     while i + 1 < pairs.len() {
@@ -42,7 +43,7 @@ fn pairs_named(pairs: &[u32], m: usize, n: usize) -> bool
 
 // Is the variable of each copy below the number of variables of the source on its side?
 fn copies_named(copies: &[u32], m: usize, n: usize) -> bool
-    ensures { λ r. ⌜ r ≡ copiesNamed m n (now (copies .entry)) ⌝ }
+    ensures { λ r. ⌜ r ≡ copiesNamed m n (old copies) ⌝ }
 {
     let mut i = 0;
     while i + 1 < copies.len() {
@@ -57,7 +58,7 @@ fn copies_named(copies: &[u32], m: usize, n: usize) -> bool
 // Do pairs and copies name variables of two sources with m and n variables, a copy for each of k variables?
 pub fn named(pairs: &[u32], copies: &[u32], m: usize, n: usize, k: usize) -> bool
     requires { ⌜ k ≤ 32 ⌝ }
-    ensures { λ r. ⌜ r ≡ named m n (now (pairs .entry)) k (now (copies .entry)) ⌝ }
+    ensures { λ r. ⌜ r ≡ named m n (old pairs) k (old copies) ⌝ }
 {
     if PAIR_CELLS < pairs.len() {
         return false;

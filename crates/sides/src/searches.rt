@@ -8,16 +8,17 @@ use trie::Walked;
 use trie::walks::walk_tokens;
 ghost use mathlib.Core.Path.{_≡_};
 ghost use Prim.Native.Nat.{_<_, _≤_};
+ghost use Rattle.basis.specs.Moments.{old};
 ghost use Rattle.plain.specs.Words.{common};
 ghost use Rattle.space.specs.Sound.{Bounds};
 ghost use Rattle.trie.specs.Index.{searchIndexed};
-ghost use Rattle.store.specs.Contracts.{viewIn};
+ghost use Rattle.store.specs.Contracts.{viewIn, RootIn};
 ghost use Rattle.sides.specs.Searches.{wholeSound, Searched};
 
 // A form of n tokens was found whole at a leaf whose link is a: that answer ends there, or the form is empty and new.
 fn whole_sound(space: &[u32], h: Head, n: usize, leaf: usize, a: usize) -> bool
     requires { ⌜ Bounds (now space) h × (a ≤ h .answers) ⌝ }
-    ensures { λ r. ⌜ r ≡ wholeSound (viewIn (now (space .entry)) h) n leaf a ⌝ }
+    ensures { λ r. ⌜ r ≡ wholeSound (viewIn (old space) h) n leaf a ⌝ }
 {
     if a == 0 {
         return n == 0;
@@ -30,10 +31,8 @@ fn whole_sound(space: &[u32], h: Head, n: usize, leaf: usize, a: usize) -> bool
 
 // The search from an answer root on.
 pub fn search(space: &[u32], h: Head, root: usize, tokens: &[u32], index: &[u32]) -> Met
-    requires { ⌜ Bounds (now space) h × (root < h .nodes) ⌝ }
-    ensures { λ r. ⌜
-        Searched (searchIndexed (now (index .entry))) (now (space .entry)) h root (now (tokens .entry)) r
-        ⌝ }
+    requires { ⌜ RootIn (now space) h root ⌝ }
+    ensures { λ r. ⌜ Searched (searchIndexed (old index)) (old space) h root (old tokens) r ⌝ }
 {
     let walked = walk_tokens(space, h.nodes, h.answers, root, tokens, index);
     match walked {
@@ -64,7 +63,7 @@ pub fn search(space: &[u32], h: Head, root: usize, tokens: &[u32], index: &[u32]
 
 // How many leading tokens two forms share.
 pub fn common(a: &[u32], b: &[u32]) -> usize
-    ensures { λ r. ⌜ r ≡ common (now (a .entry)) (now (b .entry)) ⌝ }
+    ensures { λ r. ⌜ r ≡ common (old a) (old b) ⌝ }
 {
     let mut i = 0;
     while i < a.len() {

@@ -39,6 +39,10 @@ AnswersUnder find before h q r after =
     (r ≡ underBy find (sizesOf (h .edition)) (codingOf (h .edition)) before q (header.Sound h) .reply)
     × (after ≡ underBy find (sizesOf (h .edition)) (codingOf (h .edition)) before q (header.Sound h) .state)
 
+-- a node of the table, as a root is
+abbrev pub RootIn : List ℕ → Head → ℕ → Type 0
+RootIn cs h root = Bounds cs h × (root < h .nodes)
+
 -- a path stopped below `parent`, behind `last`; the term has m variables
 abbrev pub StoppedAt : List ℕ → Head → ℕ → ℕ → ℕ → Type 0
 StoppedAt cs h parent last m = Bounds cs h × (parent < h .nodes) × (last < h .nodes) × (m ≤ 32)

@@ -49,6 +49,7 @@ ghost use mathlib.Core.Path.{_≡_};
 ghost use mathlib.Core.List.{[]};
 ghost use Prim.Native.Nat.{_+_, _<_, _≤_, _^_};
 ghost use lib.ListN.{length};
+ghost use Rattle.basis.specs.Moments.{old, new};
 ghost use Rattle.basis.specs.Writes.{writes};
 ghost use Rattle.plain.specs.Requests as request;
 ghost use Rattle.space.specs.Layout.{sizesOf};
@@ -70,9 +71,7 @@ ghost use Rattle.store.specs.Replies.{saidState, saidCall, saidAnswer, s
 // In a space whose header is sound.
 fn finish_in(space: &mut [u32], h: Head, s: usize) -> FinishAnswer
     requires { ⌜ Bounds (now space) h ⌝ }
-    ensures { λ r. ⌜
-        AnswersUnder searchChildren (now (space .entry)) h (request.finish s) (saidFinish r) (now (space .exit))
-        ⌝ }
+    ensures { λ r. ⌜ AnswersUnder searchChildren (old space) h (request.finish s) (saidFinish r) (new space) ⌝ }
 {
     if s == 0 {
         return FinishAnswer::Refused(NUMBER);
@@ -89,9 +88,7 @@ fn finish_in(space: &mut [u32], h: Head, s: usize) -> FinishAnswer
 
 // Finishes a subgoal; to finish it again changes nothing.
 pub fn finish(space: &mut [u32], subgoal: u32) -> FinishAnswer
-    ensures { λ r. ⌜
-        Answers (now (space .entry)) (request.finish subgoal) (saidFinish r) [] (now (space .exit))
-        ⌝ }
+    ensures { λ r. ⌜ Answers (old space) (request.finish subgoal) (saidFinish r) [] (new space) ⌝ }
 {
     let read = read_header(space);
     match read {
@@ -115,7 +112,7 @@ fn state_of(x: usize) -> State
 // The path was found whole at a leaf whose link is s.
 fn call_old(space: &[u32], h: Head, leaf: usize, s: usize) -> CallAnswer
     requires { ⌜ Bounds (now space) h × (s ≤ h .subgoals) ⌝ }
-    ensures { λ r. ⌜ says (saidCall r) ≡ calledOld (viewIn (now (space .entry)) h) leaf s ⌝ }
+    ensures { λ r. ⌜ says (saidCall r) ≡ calledOld (viewIn (old space) h) leaf s ⌝ }
 {
     if s == 0 {
         return CallAnswer::Refused(RECORDS);
@@ -135,10 +132,7 @@ fn enter_subgoal(space: &mut [u32], h: Head, parent: usize, last: usize, tokens:
     requires { ⌜
         (h .nodes + length (now tokens) < h .«node_capacity») × (h .subgoals < h .«subgoal_capacity»)
         ⌝ }
-    ensures { λ r. ⌜
-        now (space .exit)
-        ≡ subgoalEntered (sizesOf (h .edition)) (now (space .entry)) h parent last (now (tokens .entry)) m
-        ⌝ }
+    ensures { λ r. ⌜ new space ≡ subgoalEntered (sizesOf (h .edition)) (old space) h parent last (old tokens) m ⌝ }
 {
     let root = h.nodes + tokens.len();
     let leaf = root - 1;
@@ -175,10 +169,7 @@ fn call_new(
     m: usize,
 ) -> CallAnswer
     requires { ⌜ StoppedAt (now space) h parent last m ⌝ }
-    ensures { λ r. ⌜
-        Does (now (space .entry)) h (λ v. calledNew v parent last (now (tokens .entry)) m)
-        (saidCall r) (now (space .exit))
-        ⌝ }
+    ensures { λ r. ⌜ Does (old space) h (λ v. calledNew v parent last (old tokens) m) (saidCall r) (new space) ⌝ }
 {
     let free = h.node_capacity - h.nodes;
     if free <= tokens.len() {
@@ -195,10 +186,8 @@ fn call_new(
 // A term with this form and m variables is called.
 fn call_at(space: &mut [u32], h: Head, tokens: &[u32], m: usize, index: &[u32]) -> CallAnswer
     requires { ⌜ Bounds (now space) h × (m ≤ 32) ⌝ }
-    ensures { λ r. ⌜
-        Does (now (space .entry)) h (calledFrom (searchIndexed (now (index .entry))) (now (tokens .entry)) m)
-        (saidCall r) (now (space .exit))
-        ⌝ }
+    ensures { λ r.
+        ⌜ Does (old space) h (calledFrom (searchIndexed (old index)) (old tokens) m) (saidCall r) (new space) ⌝ }
 {
     let walked = walk_tokens(space, h.nodes, h.subgoals, 0, tokens, index);
     match walked {
@@ -225,10 +214,8 @@ fn call_with(
 ) -> CallAnswer
     requires { ⌜ Bounds (now space) h ⌝ }
     requires { ⌜ RoomForForm (now term) (now vars) (now form) ⌝ }
-    ensures { λ r. ⌜
-        AnswersUnder (searchIndexed (now (index .entry))) (now (space .entry)) h (request.call (now (term .entry)))
-        (saidCall r) (now (space .exit))
-        ⌝ }
+    ensures { λ r.
+        ⌜ AnswersUnder (searchIndexed (old index)) (old space) h (request.call (old term)) (saidCall r) (new space) ⌝ }
 {
     let read = read_terms(term, 1, vars, form, h.edition);
     let Reading::Form(n, m) = read else {
@@ -242,10 +229,7 @@ fn call_with(
 
 // Enters the subgoal that a callable term calls, or finds it.
 pub fn call_indexed(space: &mut [u32], term: &[u32], index: &[u32]) -> CallAnswer
-    ensures { λ r. ⌜
-        AnswersIndexed (now (index .entry)) (now (space .entry)) (request.call (now (term .entry)))
-        (saidCall r) [] (now (space .exit))
-        ⌝ }
+    ensures { λ r. ⌜ AnswersIndexed (old index) (old space) (request.call (old term)) (saidCall r) [] (new space) ⌝ }
 {
     let read = read_header(space);
     match read {
@@ -265,9 +249,7 @@ pub fn call_indexed(space: &mut [u32], term: &[u32], index: &[u32]) -> CallAnswe
 
 // The same without an index.
 pub fn call(space: &mut [u32], term: &[u32]) -> CallAnswer
-    ensures { λ r. ⌜
-        Answers (now (space .entry)) (request.call (now (term .entry))) (saidCall r) [] (now (space .exit))
-        ⌝ }
+    ensures { λ r. ⌜ Answers (old space) (request.call (old term)) (saidCall r) [] (new space) ⌝ }
 {
     call_indexed(space, term, &term[..0])
 }
@@ -279,7 +261,7 @@ pub fn last_sound(space: &[u32], h: Head, s: usize, last: usize) -> bool
     requires { ⌜
         Bounds (now space) h × (last ≤ h .answers) × (last ≡ subgoalUnder (now space) h s .last)
         ⌝ }
-    ensures { λ r. ⌜ r ≡ soundLast (viewIn (now (space .entry)) h) s ⌝ }
+    ensures { λ r. ⌜ r ≡ soundLast (viewIn (old space) h) s ⌝ }
 {
     if last == 0 {
         return true;
@@ -296,7 +278,7 @@ pub fn last_sound(space: &[u32], h: Head, s: usize, last: usize) -> bool
 // The refusal of a new answer that takes so many nodes more; 0 for none. A finished subgoal takes none.
 fn refusal(space: &[u32], h: Head, s: usize, g: Subgoal, more: usize) -> u32
     requires { ⌜ Held (now space) h s g ⌝ }
-    ensures { λ r. ⌜ RefusedBy (now (space .entry)) h s more r ⌝ }
+    ensures { λ r. ⌜ RefusedBy (old space) h s more r ⌝ }
 {
     if last_sound(space, h, s, g.last) {
         if g.state != 0 {
@@ -326,10 +308,8 @@ fn chain(
 )
     requires { ⌜ SubgoalRoom (now space) edition «subgoal_offset» s ⌝ }
     requires { ⌜ (answersEnd edition «answer_offset» last ≤ length (now space)) × (a < 2 ^ 32) ⌝ }
-    ensures { λ r. ⌜
-        now (space .exit)
-        ≡ writes (chained (sizesOf edition) «subgoal_offset» «answer_offset» s last a) (now (space .entry))
-        ⌝ }
+    ensures { λ r.
+        ⌜ new space ≡ writes (chained (sizesOf edition) «subgoal_offset» «answer_offset» s last a) (old space) ⌝ }
 {
     if last == 0 {
         write_first(space, subgoal_offset, s, a as u32, edition);
@@ -344,9 +324,7 @@ fn enter_answer(space: &mut [u32], h: Head, s: usize, g: Subgoal, leaf: usize, n
     requires { ⌜
         (leaf < h .«node_capacity») × (nodes ≤ h .«node_capacity») × (h .answers < h .«answer_capacity»)
         ⌝ }
-    ensures { λ r. ⌜
-        now (space .exit) ≡ answerEntered (sizesOf (h .edition)) (now (space .entry)) h s g leaf nodes
-        ⌝ }
+    ensures { λ r. ⌜ new space ≡ answerEntered (sizesOf (h .edition)) (old space) h s g leaf nodes ⌝ }
 {
     let a = h.answers + 1;
     write_link(space, h.node_capacity, leaf, a as u32);
@@ -372,9 +350,7 @@ fn enter_answer(space: &mut [u32], h: Head, s: usize, g: Subgoal, leaf: usize, n
 // A new answer whose leaf is the answer root: that of no terms. Its subgoal has no variables, and so no other answer.
 fn answer_empty(space: &mut [u32], h: Head, s: usize, g: Subgoal) -> AnswerAnswer
     requires { ⌜ Held (now space) h s g ⌝ }
-    ensures { λ r. ⌜
-        Does (now (space .entry)) h (λ v. answeredNew v s 0 (entersEmpty s)) (saidAnswer r) (now (space .exit))
-        ⌝ }
+    ensures { λ r. ⌜ Does (old space) h (λ v. answeredNew v s 0 (entersEmpty s)) (saidAnswer r) (new space) ⌝ }
 {
     let k = refusal(space, h, s, g, 0);
     if k == 0 {
@@ -398,10 +374,7 @@ fn answer_new(
 ) -> AnswerAnswer
     requires { ⌜ Held (now space) h s g ⌝ }
     requires { ⌜ (parent < h .nodes) × (last < h .nodes) ⌝ }
-    ensures { λ r. ⌜
-        Does (now (space .entry)) h (enteredBelow s parent last (now (tokens .entry)))
-        (saidAnswer r) (now (space .exit))
-        ⌝ }
+    ensures { λ r. ⌜ Does (old space) h (enteredBelow s parent last (old tokens)) (saidAnswer r) (new space) ⌝ }
 {
     let k = refusal(space, h, s, g, tokens.len());
     if k == 0 {
@@ -426,10 +399,7 @@ fn answer_old(
 ) -> AnswerAnswer
     requires { ⌜ Held (now space) h s g ⌝ }
     requires { ⌜ a ≤ h .answers ⌝ }
-    ensures { λ r. ⌜
-        Does (now (space .entry)) h (λ v. answeredOld v s (now (tokens .entry)) leaf a)
-        (saidAnswer r) (now (space .exit))
-        ⌝ }
+    ensures { λ r. ⌜ Does (old space) h (λ v. answeredOld v s (old tokens) leaf a) (saidAnswer r) (new space) ⌝ }
 {
     if a == 0 {
         if tokens.len() == 0 {
@@ -456,11 +426,9 @@ pub fn answer_at(
     index: &[u32],
 ) -> AnswerAnswer
     requires { ⌜ Held (now space) h s g ⌝ }
-    ensures { λ r. ⌜
-        Does (now (space .entry)) h
-        (answeredFrom (searchIndexed (now (index .entry))) s (g .root) (now (tokens .entry)))
-        (saidAnswer r) (now (space .exit))
-        ⌝ }
+    ensures { λ r.
+        ⌜ Does (old space) h (answeredFrom (searchIndexed (old index)) s (g .root) (old tokens)) (saidAnswer r)
+        (new space) ⌝ }
 {
     let walked = walk_tokens(space, h.nodes, h.answers, g.root, tokens, index);
     match walked {
@@ -487,10 +455,8 @@ fn answer_read(
     index: &[u32],
 ) -> AnswerAnswer
     requires { ⌜ Held (now space) h s g × FormIn (now form) read ⌝ }
-    ensures { λ r. ⌜
-        DoesRead (searchIndexed (now (index .entry))) (now (space .entry)) h s g read (now (form .entry))
-        (saidAnswer r) (now (space .exit))
-        ⌝ }
+    ensures { λ r.
+        ⌜ DoesRead (searchIndexed (old index)) (old space) h s g read (old form) (saidAnswer r) (new space) ⌝ }
 {
     let Reading::Form(n, _) = read else {
         return AnswerAnswer::Refused(refused_by(read));
@@ -508,11 +474,9 @@ fn answer_terms(
     index: &[u32],
 ) -> AnswerAnswer
     requires { ⌜ Held (now space) h s g ⌝ }
-    ensures { λ r. ⌜
-        Does (now (space .entry)) h
-        (answeredTerms (searchIndexed (now (index .entry))) h s (g .variables) (now (terms .entry)))
-        (saidAnswer r) (now (space .exit))
-        ⌝ }
+    ensures { λ r.
+        ⌜ Does (old space) h (answeredTerms (searchIndexed (old index)) h s (g .variables) (old terms)) (saidAnswer r)
+        (new space) ⌝ }
 {
     if terms.len() <= FEW_CELLS {
         let mut vars = [0u32; FEW_CELLS];
@@ -529,10 +493,9 @@ fn answer_terms(
 // In a space whose header is sound: the number, the subgoal and its answer root.
 fn answer_in(space: &mut [u32], h: Head, s: usize, terms: &[u32], index: &[u32]) -> AnswerAnswer
     requires { ⌜ Bounds (now space) h ⌝ }
-    ensures { λ r. ⌜
-        AnswersUnder (searchIndexed (now (index .entry))) (now (space .entry)) h
-        (request.answer s (now (terms .entry))) (saidAnswer r) (now (space .exit))
-        ⌝ }
+    ensures { λ r.
+        ⌜ AnswersUnder (searchIndexed (old index)) (old space) h (request.answer s (old terms)) (saidAnswer r)
+        (new space) ⌝ }
 {
     if s == 0 {
         return AnswerAnswer::Refused(NUMBER);
@@ -554,10 +517,8 @@ fn answer_in(space: &mut [u32], h: Head, s: usize, terms: &[u32], index: &[u32])
 
 // Enters the answer terms of an open subgoal, or finds them, in a finished one too: one term for each of its variables.
 pub fn answer_indexed(space: &mut [u32], subgoal: u32, terms: &[u32], index: &[u32]) -> AnswerAnswer
-    ensures { λ r. ⌜
-        AnswersIndexed (now (index .entry)) (now (space .entry)) (request.answer subgoal (now (terms .entry)))
-        (saidAnswer r) [] (now (space .exit))
-        ⌝ }
+    ensures { λ r.
+        ⌜ AnswersIndexed (old index) (old space) (request.answer subgoal (old terms)) (saidAnswer r) [] (new space) ⌝ }
 {
     let read = read_header(space);
     match read {
@@ -568,9 +529,7 @@ pub fn answer_indexed(space: &mut [u32], subgoal: u32, terms: &[u32], index: &[u
 
 // The same without an index.
 pub fn answer(space: &mut [u32], subgoal: u32, terms: &[u32]) -> AnswerAnswer
-    ensures { λ r. ⌜
-        Answers (now (space .entry)) (request.answer subgoal (now (terms .entry))) (saidAnswer r) [] (now (space .exit))
-        ⌝ }
+    ensures { λ r. ⌜ Answers (old space) (request.answer subgoal (old terms)) (saidAnswer r) [] (new space) ⌝ }
 {
     answer_indexed(space, subgoal, terms, &terms[..0])
 }

@@ -17,6 +17,7 @@ use text::lines::take_line;
 use usage::say_usage;
 ghost use Prim.Native.Nat.{_≤_};
 ghost use lib.ListN.{length};
+ghost use Rattle.basis.specs.Moments.{old};
 ghost use Rattle.tables.specs.Progress.{Within};
 
 // How many bytes of the line that has begun are kept, or that input or output is over.
@@ -45,7 +46,7 @@ fn take_chunk(
     text: &mut [u8],
 ) -> Progress
     requires { ⌜ kept ≤ length (now line) ⌝ }
-    ensures { λ r. ⌜ Within r (length (now (line .entry))) ⌝ }
+    ensures { λ r. ⌜ Within r (length (old line)) ⌝ }
 {
     let mut at = 0;
     let mut n = kept;
@@ -75,7 +76,7 @@ fn read_some(
     text: &mut [u8],
 ) -> Progress
     requires { ⌜ kept ≤ length (now line) ⌝ }
-    ensures { λ r. ⌜ Within r (length (now (line .entry))) ⌝ }
+    ensures { λ r. ⌜ Within r (length (old line)) ⌝ }
 {
     let got = libc::read(STDIN_FILENO, read);
     if got < 0 {

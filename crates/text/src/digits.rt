@@ -8,13 +8,14 @@ ghost use mathlib.Core.List.{_∷_};
 ghost use Prim.Native.Nat.{_+_, _*_, _-_, _≤_, _<_};
 ghost use lib.Dec.{eqb};
 ghost use lib.ListN.{length, take, drop};
+ghost use Rattle.basis.specs.Moments.{old, new};
 ghost use Rattle.text.specs.Digits.{digitText, digits, cellTexts, numbered, Puts};
 
 // Puts bytes at a place of the text and answers the place behind them. There always remains room for a
 // byte more.
 pub fn put(bytes: &[u8], text: &mut [u8], at: usize) -> usize
     requires { ⌜ at + length (now bytes) < length (now text) ⌝ }
-    ensures { λ r. ⌜ Puts at (now (bytes .entry)) (now (text .entry)) r (now (text .exit)) ⌝ }
+    ensures { λ r. ⌜ Puts at (old bytes) (old text) r (new text) ⌝ }
 {
     let mut i = 0;
     while i < bytes.len() {
@@ -49,7 +50,7 @@ fn all_made(left: u32, made: usize, width: usize) -> bool
 // start. Ten places are enough, since a 32-bit number is below 10^10.
 fn fill(n: u32, base: u32, width: usize, buffer: &mut [u8]) -> usize
     requires { ⌜ (10 ≤ base) × (base ≤ 16) × (width ≤ 10) × (length (now buffer) ≡ 10) ⌝ }
-    ensures { λ r. ⌜ (r ≤ 10) × (drop r (now (buffer .exit)) ≡ digits base width n) ⌝ }
+    ensures { λ r. ⌜ (r ≤ 10) × (drop r (new buffer) ≡ digits base width n) ⌝ }
 {
     let mut left = n;
     let mut i: usize = 10;
@@ -64,7 +65,7 @@ fn fill(n: u32, base: u32, width: usize, buffer: &mut [u8]) -> usize
 // Puts a space and the number's digits, and answers the place behind them.
 pub fn put_field(n: u32, base: u32, width: usize, text: &mut [u8], at: usize) -> usize
     requires { ⌜ (10 ≤ base) × (base ≤ 16) × (width ≤ 10) × (at + 11 < length (now text)) ⌝ }
-    ensures { λ r. ⌜ Puts at (32 ∷ digits base width n) (now (text .entry)) r (now (text .exit)) ⌝ }
+    ensures { λ r. ⌜ Puts at (32 ∷ digits base width n) (old text) r (new text) ⌝ }
 {
     let mut buffer = [0u8; 10];
     let first = fill(n, base, width, &mut buffer);
@@ -75,7 +76,7 @@ pub fn put_field(n: u32, base: u32, width: usize, text: &mut [u8], at: usize) ->
 // Puts a word and the decimal digits of a number behind a space.
 pub fn put_numbered(word: &[u8], n: u32, text: &mut [u8], at: usize) -> usize
     requires { ⌜ at + length (now word) + 11 < length (now text) ⌝ }
-    ensures { λ r. ⌜ Puts at (numbered (now (word .entry)) n) (now (text .entry)) r (now (text .exit)) ⌝ }
+    ensures { λ r. ⌜ Puts at (numbered (old word) n) (old text) r (new text) ⌝ }
 {
     let end = put(word, text, at);
     put_field(n, DECIMAL, 1, text, end)
@@ -85,7 +86,7 @@ pub fn put_numbered(word: &[u8], n: u32, text: &mut [u8], at: usize) -> usize
 // since put_field asks for room for ten digits.
 pub fn put_cells(cells: &[u32], n: usize, text: &mut [u8], at: usize) -> usize
     requires { ⌜ (n ≤ length (now cells)) × (at + 9 * n + 2 < length (now text)) ⌝ }
-    ensures { λ r. ⌜ Puts at (cellTexts (take n (now (cells .entry)))) (now (text .entry)) r (now (text .exit)) ⌝ }
+    ensures { λ r. ⌜ Puts at (cellTexts (take n (old cells))) (old text) r (new text) ⌝ }
 {
     let mut end = at;
     let mut i = 0;

@@ -10,6 +10,7 @@ ghost use mathlib.Core.Bool.{_&&_};
 ghost use Prim.Native.Nat.{_*_, _≤_};
 ghost use lib.Dec.{leb};
 ghost use lib.ListN.{length};
+ghost use Rattle.basis.specs.Moments.{old, new};
 ghost use Rattle.text.specs.Fields.{digitOf, numeralFirst, firstNumber, onlyNumber, hexCells};
 ghost use Rattle.forms.specs.Compact.{same};
 ghost use Rattle.text.specs.Places.{restAt, inField, Ends, EndsFirst, ReadsNumeral, ReadsCells};
@@ -39,7 +40,7 @@ fn digit_of(b: u8) -> u32
 
 // Does a field go on at the place?
 fn in_field(line: &[u8], i: usize) -> bool
-    ensures { λ r. ⌜ r ≡ inField (now (line .entry)) i ⌝ }
+    ensures { λ r. ⌜ r ≡ inField (old line) i ⌝ }
 {
     if i < line.len() {
         return line[i] != b' ';
@@ -49,7 +50,7 @@ fn in_field(line: &[u8], i: usize) -> bool
 
 // Where the line's first field ends.
 pub fn first_end(line: &[u8]) -> usize
-    ensures { λ r. ⌜ EndsFirst (now (line .entry)) r ⌝ }
+    ensures { λ r. ⌜ EndsFirst (old line) r ⌝ }
 {
     let mut i = 0;
     while in_field(line, i) {
@@ -61,8 +62,7 @@ pub fn first_end(line: &[u8]) -> usize
 // The numeral in the field behind a place that ends one. A value of at most 8 digits fits a cell.
 fn read_numeral(line: &[u8], at: usize, base: u32, least: usize, most: usize) -> Numeral
     requires { ⌜ Ends (now line) at × (base ≤ 16) × (most ≤ 8) ⌝ }
-    ensures { λ r. ⌜ ReadsNumeral (now (line .entry)) at least
-        (numeralFirst base least most (restAt (now (line .entry)) at)) r ⌝ }
+    ensures { λ r. ⌜ ReadsNumeral (old line) at least (numeralFirst base least most (restAt (old line) at)) r ⌝ }
 {
     if line.len() <= at {
         return Numeral::Bad;
@@ -90,7 +90,7 @@ fn read_numeral(line: &[u8], at: usize, base: u32, least: usize, most: usize) ->
 // The number in the first field behind a place.
 pub fn first_number(line: &[u8], at: usize) -> Numeral
     requires { ⌜ Ends (now line) at ⌝ }
-    ensures { λ r. ⌜ ReadsNumeral (now (line .entry)) at 1 (firstNumber (restAt (now (line .entry)) at)) r ⌝ }
+    ensures { λ r. ⌜ ReadsNumeral (old line) at 1 (firstNumber (restAt (old line) at)) r ⌝ }
 {
     read_numeral(line, at, DECIMAL, 1, NUMBER_DIGITS)
 }
@@ -98,7 +98,7 @@ pub fn first_number(line: &[u8], at: usize) -> Numeral
 // The number in the only field behind a place.
 pub fn only_number(line: &[u8], at: usize) -> Numeral
     requires { ⌜ Ends (now line) at ⌝ }
-    ensures { λ r. ⌜ ReadsNumeral (now (line .entry)) at 1 (onlyNumber (restAt (now (line .entry)) at)) r ⌝ }
+    ensures { λ r. ⌜ ReadsNumeral (old line) at 1 (onlyNumber (restAt (old line) at)) r ⌝ }
 {
     let Numeral::Value(n, e) = first_number(line, at) else {
         return Numeral::Bad;
@@ -112,7 +112,7 @@ pub fn only_number(line: &[u8], at: usize) -> Numeral
 // The cells in the fields behind a place, each 9 bytes with its space.
 pub fn read_cells(line: &[u8], at: usize, cells: &mut [u32]) -> CellsRead
     requires { ⌜ Ends (now line) at × (length (now line) ≤ 9 * length (now cells)) ⌝ }
-    ensures { λ r. ⌜ ReadsCells (hexCells (restAt (now (line .entry)) at)) r (now (cells .exit)) ⌝ }
+    ensures { λ r. ⌜ ReadsCells (hexCells (restAt (old line) at)) r (new cells) ⌝ }
 {
     let mut n = 0;
     let mut i = at;
@@ -130,7 +130,7 @@ pub fn read_cells(line: &[u8], at: usize, cells: &mut [u32]) -> CellsRead
 
 // Are the bytes those of a fixed word?
 pub fn is_word(bytes: &[u8], word: &[u8]) -> bool
-    ensures { λ r. ⌜ r ≡ same (now (bytes .entry)) (now (word .entry)) ⌝ }
+    ensures { λ r. ⌜ r ≡ same (old bytes) (old word) ⌝ }
 {
     if bytes.len() != word.len() {
         return false;

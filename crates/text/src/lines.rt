@@ -2,11 +2,12 @@
 use super::Taking;
 ghost use mathlib.Core.Path.{_≡_};
 ghost use lib.ListN.{drop, set};
+ghost use Rattle.basis.specs.Moments.{old, new};
 ghost use Rattle.text.specs.Cutting.{keptMore, took, taking, InRange};
 
 // Puts a byte behind those kept, if the buffer has room for it.
 fn keep(b: u8, line: &mut [u8], kept: usize) -> usize
-    ensures { λ r. ⌜ (r ≡ keptMore (now (line .entry)) kept) × (now (line .exit) ≡ set (now (line .entry)) kept b) ⌝ }
+    ensures { λ r. ⌜ (r ≡ keptMore (old line) kept) × (new line ≡ set (old line) kept b) ⌝ }
 {
     if kept < line.len() {
         line[kept] = b;
@@ -18,8 +19,8 @@ fn keep(b: u8, line: &mut [u8], kept: usize) -> usize
 // Takes the bytes of a chunk from a place on, up to the next newline, behind those of their line that are kept
 // already. What the buffer has no room for is passed over.
 pub fn take_line(chunk: &[u8], at: usize, line: &mut [u8], kept: usize) -> Taking
-    ensures { λ r. ⌜ took r (now (line .exit)) ≡ taking (drop at (now (chunk .entry))) at (now (line .entry)) kept ⌝ }
-    ensures { λ r. ⌜ InRange (now (chunk .entry)) at (now (line .entry)) kept r ⌝ }
+    ensures { λ r. ⌜ took r (new line) ≡ taking (drop at (old chunk)) at (old line) kept ⌝ }
+    ensures { λ r. ⌜ InRange (old chunk) at (old line) kept r ⌝ }
 {
     let mut n = kept;
     let mut i = at;

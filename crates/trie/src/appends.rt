@@ -5,13 +5,14 @@ use space::records::write_node;
 use space::records::write_sibling;
 ghost use mathlib.Core.Path.{_≡_};
 ghost use lib.ListN.{set};
+ghost use Rattle.basis.specs.Moments.{old, new};
 ghost use Rattle.space.specs.Layout.{sizes};
 ghost use Rattle.trie.specs.Append.{leadCell, appendNode, appendPath, NewNode, PathRoom};
 
 // The cell that is to lead to node n, a new child of `parent` whose last child is `last`, written.
 fn lead_to(space: &mut [u32], capacity: usize, n: usize, parent: usize, last: usize)
     requires { ⌜ NewNode (now space) capacity n parent last ⌝ }
-    ensures { λ r. ⌜ now (space .exit) ≡ set (now (space .entry)) (leadCell sizes parent last) n ⌝ }
+    ensures { λ r. ⌜ new space ≡ set (old space) (leadCell sizes parent last) n ⌝ }
 {
     if last == 0 {
         write_child(space, capacity, parent, n as u32);
@@ -23,7 +24,7 @@ fn lead_to(space: &mut [u32], capacity: usize, n: usize, parent: usize, last: us
 // Node n, the next one, below `parent`.
 fn append_node(space: &mut [u32], capacity: usize, n: usize, parent: usize, last: usize, token: u32)
     requires { ⌜ NewNode (now space) capacity n parent last ⌝ }
-    ensures { λ r. ⌜ now (space .exit) ≡ appendNode sizes (now (space .entry)) n parent last token ⌝ }
+    ensures { λ r. ⌜ new space ≡ appendNode sizes (old space) n parent last token ⌝ }
 {
     lead_to(space, capacity, n, parent, last);
     let y = Node {
@@ -46,9 +47,7 @@ pub fn append_path(
     tokens: &[u32],
 )
     requires { ⌜ PathRoom (now space) capacity nodes parent last (now tokens) ⌝ }
-    ensures { λ r. ⌜
-        now (space .exit) ≡ appendPath sizes (now (space .entry)) nodes parent last (now (tokens .entry))
-        ⌝ }
+    ensures { λ r. ⌜ new space ≡ appendPath sizes (old space) nodes parent last (old tokens) ⌝ }
 {
     let mut above = parent;
     let mut after = last;

@@ -11,6 +11,7 @@ use space::records::read_node;
 ghost use mathlib.Core.Path.{_≡_};
 ghost use mathlib.Core.Bool.{true};
 ghost use Prim.Native.Nat.{_<_};
+ghost use Rattle.basis.specs.Moments.{old};
 ghost use Rattle.space.specs.Layout.{sizes};
 ghost use Rattle.space.specs.Sound.{NodesIn};
 ghost use Rattle.trie.specs.Siblings.{trieIn, sound};
@@ -19,7 +20,7 @@ ghost use Rattle.trie.specs.Index.{powered, confirmedIn, judgedIn, turne
 // Is node x a child of `parent` with the token, by its own record?
 fn confirms(space: &[u32], nodes: usize, parent: usize, token: u32, x: usize) -> bool
     requires { ⌜ NodesIn (now space) nodes ⌝ }
-    ensures { λ r. ⌜ r ≡ confirmedIn (now (space .entry)) nodes parent token x ⌝ }
+    ensures { λ r. ⌜ r ≡ confirmedIn (old space) nodes parent token x ⌝ }
 {
     if x <= parent {
         return false;
@@ -37,7 +38,7 @@ fn confirms(space: &[u32], nodes: usize, parent: usize, token: u32, x: usize) ->
 // The entry x was confirmed: it is judged whole, as a node compared is.
 fn judge(space: &[u32], nodes: usize, links: usize, x: usize) -> Search
     requires { ⌜ NodesIn (now space) nodes × (x < nodes) ⌝ }
-    ensures { λ r. ⌜ r ≡ judgedIn (now (space .entry)) nodes links x ⌝ }
+    ensures { λ r. ⌜ r ≡ judgedIn (old space) nodes links x ⌝ }
 {
     let NodeRead::Sound(_) = read_node(space, nodes, links, x) else {
         return Search::Damaged;
@@ -56,8 +57,7 @@ fn search_in_turn(
     index: &[u32],
 ) -> Search
     requires { ⌜ NodesIn (now space) nodes × (parent < nodes) × (first < nodes) × powered (now index) ⌝ }
-    ensures { λ r.
-        ⌜ r ≡ turnedIn (now (space .entry)) nodes links parent first token (now (index .entry)) ⌝ }
+    ensures { λ r. ⌜ r ≡ turnedIn (old space) nodes links parent first token (old index) ⌝ }
 {
     let mut n = first;
     let mut slot = slot_of(index.len(), parent, token);
@@ -98,9 +98,7 @@ pub fn search_indexed(
 ) -> Search
     requires { ⌜ NodesIn (now space) nodes × (parent < nodes) × Slotted (now index) ⌝ }
     requires { ⌜ sound (trieIn sizes (now space) nodes links) parent ≡ true ⌝ }
-    ensures { λ r. ⌜
-        r ≡ searchIndexed (now (index .entry)) (trieIn sizes (now (space .entry)) nodes links) parent token
-        ⌝ }
+    ensures { λ r. ⌜ r ≡ searchIndexed (old index) (trieIn sizes (old space) nodes links) parent token ⌝ }
 {
     if index.len() == 0 {
         return search_children(space, nodes, links, parent, token);

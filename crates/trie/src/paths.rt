@@ -12,6 +12,7 @@ use space::records::read_node;
 ghost use mathlib.Core.Path.{_≡_};
 ghost use Prim.Native.Nat.{_<_, _≤_, _+_, _*_};
 ghost use lib.ListN.{length};
+ghost use Rattle.basis.specs.Moments.{old, new};
 ghost use Rattle.space.specs.Sound.{NodesIn};
 ghost use Rattle.trie.specs.Runs.{levels, pathCells, Climbs, RunCopied, ClimbsRuns, Ends, Begun, GoesOn};
 
@@ -45,8 +46,7 @@ fn climb(
 ) -> usize
     requires { ⌜ NodesIn (now (now space)) nodes × (n < nodes) ⌝ }
     requires { ⌜ (1 ≤ left) × (left ≤ levels) × (length (now run) ≡ levels) ⌝ }
-    ensures { λ r.
-        ⌜ Climbs (now (now (space .entry))) nodes links root n left (now (run .entry)) (now (run .exit)) r ⌝ }
+    ensures { λ r. ⌜ Climbs (now (old space)) nodes links root n left (old run) (new run) r ⌝ }
 {
     let NodeRead::Sound(y) = read_node(*space, nodes, links, n) else {
         return LOST;
@@ -68,7 +68,7 @@ fn climb(
 // The path in the cells of a run, which hold its last tokens where it is longer.
 pub fn short_path(space: &[u32], end: End, cells: &mut [u32; LEVELS]) -> Short
     requires { ⌜ Ends (now space) end × (length (now cells) ≡ levels) ⌝ }
-    ensures { λ r. ⌜ Begun (now (space .entry)) end r (now (cells .exit)) × (length (now (cells .exit)) ≡ levels) ⌝ }
+    ensures { λ r. ⌜ Begun (old space) end r (new cells) × (length (new cells) ≡ levels) ⌝ }
 {
     let r = climb(
         &space,
@@ -91,7 +91,7 @@ pub fn short_path(space: &[u32], end: End, cells: &mut [u32; LEVELS]) -> Short
 // Copies a run to the cells of path from `from` on.
 fn copy_run(run: &[u32; LEVELS], from: usize, path: &mut [u32])
     requires { ⌜ (length (now run) ≡ levels) × (from + levels ≤ length (now path)) ⌝ }
-    ensures { λ _. ⌜ RunCopied (now (run .entry)) from (now (path .entry)) (now (path .exit)) ⌝ }
+    ensures { λ _. ⌜ RunCopied (old run) from (old path) (new path) ⌝ }
 {
     let mut i = LEVELS;
     while 0 < i {
@@ -112,8 +112,7 @@ fn climb_runs(
     path: &mut [u32],
 ) -> usize
     requires { ⌜ NodesIn (now (now space)) nodes × (n < nodes) × (1 ≤ runs) × (levels * runs ≤ length (now path)) ⌝ }
-    ensures { λ r.
-        ⌜ ClimbsRuns (now (now (space .entry))) nodes links root n runs (now (path .entry)) (now (path .exit)) r ⌝ }
+    ensures { λ r. ⌜ ClimbsRuns (now (old space)) nodes links root n runs (old path) (new path) r ⌝ }
 {
     let mut run = [0u32; LEVELS];
     let r = climb(space, nodes, links, root, n, LEVELS, &mut run);
@@ -141,7 +140,7 @@ pub fn long_path(
 ) -> Gathered
     requires { ⌜ NodesIn (now space) (end .nodes) × (n < end .nodes) ⌝ }
     requires { ⌜ (length (now last) ≡ levels) × (length (now path) ≡ pathCells) ⌝ }
-    ensures { λ r. ⌜ GoesOn (now (space .entry)) end n (now (last .entry)) r (now (path .exit)) ⌝ }
+    ensures { λ r. ⌜ GoesOn (old space) end n (old last) r (new path) ⌝ }
 {
     copy_run(last, HIGHER_CELLS, path);
     let k = climb_runs(&space, end.nodes, end.links, end.root, n, HIGHER_RUNS, path);

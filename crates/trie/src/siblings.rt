@@ -6,6 +6,7 @@ use space::records::read_node;
 ghost use mathlib.Core.Path.{_≡_};
 ghost use mathlib.Core.Bool.{true};
 ghost use Prim.Native.Nat.{_<_};
+ghost use Rattle.basis.specs.Moments.{old};
 ghost use Rattle.space.specs.Layout.{sizes, nodeIn};
 ghost use Rattle.space.specs.Sound.{NodesIn, NodeOf};
 ghost use Rattle.trie.specs.Siblings.{trieIn, sound, parentIs, searchSiblings, searchChildren};
@@ -13,7 +14,7 @@ ghost use Rattle.trie.specs.Siblings.{trieIn, sound, parentIs, searchSib
 // Is there no node n, or one with this parent?
 pub fn parent_is(space: &[u32], nodes: usize, n: usize, parent: usize) -> bool
     requires { ⌜ NodeOf (now space) nodes n ⌝ }
-    ensures { λ r. ⌜ r ≡ parentIs (nodeIn sizes (now (space .entry))) n parent ⌝ }
+    ensures { λ r. ⌜ r ≡ parentIs (nodeIn sizes (old space)) n parent ⌝ }
 {
     if n == 0 {
         return true;
@@ -32,7 +33,7 @@ pub fn search_siblings(
     token: u32,
 ) -> Search
     requires { ⌜ NodesIn (now space) nodes × (first < nodes) ⌝ }
-    ensures { λ r. ⌜ r ≡ searchSiblings nodes (trieIn sizes (now (space .entry)) nodes links) parent token first ⌝ }
+    ensures { λ r. ⌜ r ≡ searchSiblings nodes (trieIn sizes (old space) nodes links) parent token first ⌝ }
 {
     let mut n = first;
     let found = loop {
@@ -63,7 +64,7 @@ pub fn search_children(
 ) -> Search
     requires { ⌜ NodesIn (now space) nodes × (parent < nodes) ⌝ }
     requires { ⌜ sound (trieIn sizes (now space) nodes links) parent ≡ true ⌝ }
-    ensures { λ r. ⌜ r ≡ searchChildren (trieIn sizes (now (space .entry)) nodes links) parent token ⌝ }
+    ensures { λ r. ⌜ r ≡ searchChildren (trieIn sizes (old space) nodes links) parent token ⌝ }
 {
     let y = node_in(space, nodes, parent);
     if y.child == 0 {

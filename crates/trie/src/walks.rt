@@ -8,6 +8,7 @@ use space::records::read_node;
 ghost use mathlib.Core.Path.{_≡_};
 ghost use mathlib.Core.Bool.{true};
 ghost use Prim.Native.Nat.{_<_};
+ghost use Rattle.basis.specs.Moments.{old};
 ghost use Rattle.space.specs.Layout.{sizes};
 ghost use Rattle.space.specs.Sound.{NodesIn};
 ghost use Rattle.trie.specs.Siblings.{trieIn, sound};
@@ -24,9 +25,7 @@ fn walk_from(
 ) -> Walked
     requires { ⌜ NodesIn (now space) nodes × (start < nodes) × Slotted (now index) ⌝ }
     requires { ⌜ sound (trieIn sizes (now space) nodes links) start ≡ true ⌝ }
-    ensures { λ r. ⌜
-        r ≡ walkedBelow (now (space .entry)) nodes links start (now (tokens .entry)) (now (index .entry))
-        ⌝ }
+    ensures { λ r. ⌜ r ≡ walkedBelow (old space) nodes links start (old tokens) (old index) ⌝ }
 {
     let mut n = start;
     let mut i = 0;
@@ -54,9 +53,7 @@ pub fn walk_tokens(
     index: &[u32],
 ) -> Walked
     requires { ⌜ NodesIn (now space) nodes × (root < nodes) ⌝ }
-    ensures { λ r. ⌜
-        r ≡ walkedIn (now (space .entry)) nodes links root (now (tokens .entry)) (now (index .entry))
-        ⌝ }
+    ensures { λ r. ⌜ r ≡ walkedIn (old space) nodes links root (old tokens) (old index) ⌝ }
 {
     let NodeRead::Sound(y) = read_node(space, nodes, links, root) else {
         return Walked::Damaged;
