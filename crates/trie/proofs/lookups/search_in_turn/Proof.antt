@@ -3,6 +3,7 @@ use mathlib.Core.Path.{_≡_, _∙_}
 use Prim.Native.Nat.{_-_}
 use native.Mathlib.Omega.{arith}
 use borrow.Author.Needs.{needs}
+use Rattle.basis.proofs.Tests.{told}
 use Rattle.space.specs.Layout.{sizes, nodeIn}
 use Rattle.space.specs.Judging.{readNode}
 use Rattle.space.specs.declared.NodeRead.the-variants as node
@@ -23,7 +24,7 @@ abbrev μ-loop : tie.MeasureT-loop
 was-read : (c : tie.After-known-told Inv-loop μ-loop) →
     node.Sound (c .before .y .given .0 .0)
     ≡ readNode (c .before .before .before .before .before .before .before .before .before .before .before .before .before .args .nodes) (c .before .before .before .before .before .before .before .before .before .before .before .before .before .args .links) (nodeIn sizes (c .before .before .before .before .before .before .before .before .before .before .before .before .before .args .space .now)) (c .before .before .before .before .before .before .before .before .before .loop .n)
-was-read c = cc
+was-read c = told (c .before .y .given .1) (c .before .before .before .read-node .ensures)
 
 slot-of-requires : tie.Need-slot-of-requires Inv-loop μ-loop
 slot-of-requires c κs = search needs
@@ -65,7 +66,7 @@ enum-told : tie.Need-enum-told Inv-loop μ-loop
 enum-told c = search needs
 
 returns-3 : tie.Need-returns-3 Inv-loop μ-loop
-returns-3 c = at-damaged (met-other (c .before .before .before .before .before .before .before .before .loop .inv) _ (c .before .before .before .before .before .before .wide .ensures .0) (search needs) _ (c .before .before .before .before .confirms .ensures) (search needs)) (cc)
+returns-3 c = at-damaged (met-other (c .before .before .before .before .before .before .before .before .loop .inv) _ (c .before .before .before .before .before .before .wide .ensures .0) (search needs) _ (c .before .before .before .before .confirms .ensures) (search needs)) (told (c .enum-told .given .1) (c .before .before .read-node .ensures))
 
 returns-4 : tie.Need-returns-4 Inv-loop μ-loop
 returns-4 c = at-stray (met-other (c .before .before .before .before .before .before .before .before .before .before .before .loop .inv) _ (c .before .before .before .before .before .before .before .before .before .wide .ensures .0) (search needs) _ (c .before .before .before .before .before .before .before .confirms .ensures) (search needs)) _ (was-read (c .before .before)) (search needs)

@@ -1,5 +1,6 @@
 -- `trie::siblings::search_siblings` meets its contract.
 use mathlib.Core.Path.{_≡_}
+use Rattle.basis.proofs.Tests.{told}
 use Rattle.trie.proofs.SearchCases.{Chain, chain-begin, chain-damaged, chain-stray, chain-found, chain-last, chain-next}
 use Rattle.trie.specs.Siblings.{trieIn, searchSiblings}
 use Rattle.space.specs.Layout.{sizes, nodeIn}
@@ -21,7 +22,7 @@ abbrev μ-loop : tie.MeasureT-loop
 was-read : (c : tie.After-known-told Inv-loop μ-loop) →
     node.Sound (c .before .y .given .0 .0)
     ≡ readNode (c .before .before .before .before .before .before .args .nodes) (c .before .before .before .before .before .before .args .links) (nodeIn sizes (c .before .before .before .before .before .before .args .space .now)) (c .before .before .before .before .loop .n)
-was-read c = cc
+was-read c = told (c .before .y .given .1) (c .before .before .before .read-node .ensures)
 
 loop-holds : tie.Need-loop-holds Inv-loop μ-loop
 loop-holds c = chain-begin _ _ _ _ (search needs)
@@ -42,7 +43,7 @@ loop-again : tie.Need-loop-again Inv-loop μ-loop
 loop-again c = chain-next (c .before .before .before .before .before .before .before .before .before .before .loop .inv) _ (was-read (c .before .before .before .before .before .before)) (search needs) (search needs) (search needs) .1
 
 returns : tie.Need-returns Inv-loop μ-loop
-returns c = chain-damaged (c .before .before .before .loop .inv) (cc)
+returns c = chain-damaged (c .before .before .before .loop .inv) (told (c .enum-told .given .1) (c .before .before .read-node .ensures))
 
 returns-2 : tie.Need-returns-2 Inv-loop μ-loop
 returns-2 c = chain-stray (c .before .before .before .before .before .before .loop .inv) _ (was-read (c .before .before)) (search needs)

@@ -1,4 +1,5 @@
 -- `trie::walks::walk_from` meets its contract.
+use Rattle.basis.proofs.Tests.{told}
 use Rattle.trie.proofs.WalkCases.{Descent, descent-begin, descent-whole, descent-last, descent-damaged, descent-found}
 use Rattle.trie.specs.Walks.{walkFromBy}
 use Rattle.trie.specs.Index.{searchIndexed}
@@ -40,7 +41,7 @@ loop-less : tie.Need-loop-less Inv-loop μ-loop
 loop-less c = omega arith
 
 loop-again : tie.Need-loop-again Inv-loop μ-loop
-loop-again c = descent-found (c .before .before .before .before .before .before .loop .inv) (search needs) (indexes-find _) (c .before .found .given .0 .0) (cc)
+loop-again c = descent-found (c .before .before .before .before .before .before .loop .inv) (search needs) (indexes-find _) (c .before .found .given .0 .0) (told (c .before .found .given .1) (c .before .before .before .search-indexed .ensures))
 
 enum-known-found-2 : tie.Need-enum-known-found-2 Inv-loop μ-loop
 enum-known-found-2 c = search needs
@@ -49,13 +50,13 @@ sub-t17 : tie.Need-sub-t17 Inv-loop μ-loop
 sub-t17 c = omega arith
 
 returns : tie.Need-returns Inv-loop μ-loop
-returns c = descent-last (c .before .before .before .before .before .before .loop .inv) (search needs) (c .before .found2 .given .0 .0) (cc)
+returns c = descent-last (c .before .before .before .before .before .before .loop .inv) (search needs) (c .before .found2 .given .0 .0) (told (c .before .found2 .given .1) (c .before .before .before .search-indexed .ensures))
 
 enum-told : tie.Need-enum-told Inv-loop μ-loop
 enum-told c = search needs
 
 returns-2 : tie.Need-returns-2 Inv-loop μ-loop
-returns-2 c = descent-damaged (c .before .before .before .before .before .loop .inv) (search needs) (cc)
+returns-2 c = descent-damaged (c .before .before .before .before .before .loop .inv) (search needs) (told (c .enum-told .given .1) (c .before .before .search-indexed .ensures))
 
 returns-3 : tie.Need-returns-3 Inv-loop μ-loop
 returns-3 c = descent-whole (c .before .loop .inv) (search needs)
