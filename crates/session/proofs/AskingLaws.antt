@@ -1,10 +1,10 @@
 -- What a line's fields mean, case by case, and what a call or a bad line leaves.
-use Prim.Native.Nat.{ℕ, _+_, _*_, _-_, _/_, _≤_, _<_}
+use Prim.Native.Nat.{ℕ, _+_, _-_, _/_, _≤_, _<_}
 use mathlib.Core.List.{List, [], _∷_, _++_}
 use mathlib.Core.Bool.{true, false}
 use mathlib.Core.Path.{_≡_, refl, sym, ap, _∙_}
 use native.Mathlib.Omega.{arith}
-use lib.ListN.{length, drop, set, length-append, length-set}
+use lib.ListN.{length, take, drop, set, length-append, length-set}
 use lib.Seq.{sets, sets-eq, length-sets}
 use lib.Dec.{leb}
 use borrow.Author.Tests.{le-leb, lt-leb, leb-true, leb-false}
@@ -12,14 +12,17 @@ use Rattle.basis.proofs.Cases.{by-cases}
 use Rattle.forms.specs.Compact.{same}
 use Rattle.text.specs.Fields.{Fields, fields, Number, noNumber, number, Cells, noCells, cellsOf, firstNumber, behind, onlyNumber, hexCells}
 use Rattle.text.specs.Digits.{Puts}
+use Rattle.text.specs.Places.{restAt, EndsFirst}
 use Rattle.basis.proofs.SetsLaws.{sets-append}
-use Rattle.plain.specs.Requests.{Request, Reply, call, answer, finish, next, load, instance, counts}
+use Rattle.plain.specs.Requests.{Request, Reply, call, answer, finish, next, counts}
 use Rattle.store.specs.Calls.{spaceStep}
-use Rattle.session.specs.Lines.{Meaning, bad, asks, withCells, withNumber, oneNumber, twoNumbers, numberAndCells, noField, wordCall, wordAnswer, wordFinish, wordNext, wordLoad, wordInstance, wordCounts, wordMeans, means}
+use Rattle.session.specs.Lines.{Meaning, bad, asks, withCells, withNumber, oneNumber, twoNumbers, numberAndCells, noField, wordCall, wordAnswer, wordFinish, wordNext, wordLoad, wordInstance, wordCounts, wordMeans, means, meansCall, meansAnswer, meansFinish, meansNext, meansLoad, meansInstance, meansCounts}
 use Rattle.text.specs.Cutting.{newline}
 use Rattle.session.specs.Texts.{textBad, replyText, textRoom}
 use Rattle.session.specs.Session.{Said, outLeft, says, Response, response, responding}
-use Rattle.session.specs.Asking.{Prints}
+use Rattle.session.specs.Asking.{Prints, WordPuts, wordSaid, keywordOf}
+use Rattle.session.specs.declared.Keyword.{Keyword}
+use Rattle.session.specs.declared.Keyword.the-variants as keyword
 
 -- ---- meanings
 
@@ -86,9 +89,6 @@ module _ (space out : List ℕ) where
   abbrev Keeps : Meaning → Type 0
   Keeps m = out ≡ says spaceStep m space out .out
 
-  pub keeps-alike : (m n : Meaning) → m ≡ n → Keeps n → Keeps m
-  keeps-alike m n e k = rw e k
-
   bad-keeps : Keeps bad
   bad-keeps = bad-out space out bad refl
 
@@ -103,71 +103,129 @@ module _ (space out : List ℕ) where
   number-keeps m k noNumber = bad-keeps
   number-keeps m k (number n) = k n
 
-  pub call-keeps : (fs : List (List ℕ)) → Keeps (withCells (hexCells fs) call)
+  call-keeps : (fs : List (List ℕ)) → Keeps (withCells (hexCells fs) call)
   call-keeps fs = cells-keep call (λ ks o. refl) (hexCells fs)
 
-  pub answer-keeps : (fs : List (List ℕ)) → Keeps (numberAndCells fs answer)
+  answer-keeps : (fs : List (List ℕ)) → Keeps (numberAndCells fs answer)
   answer-keeps fs = number-keeps (λ n. withCells (hexCells (behind fs)) (answer n)) (λ n. cells-keep (answer n) (λ ks o. refl) (hexCells (behind fs))) (firstNumber fs)
 
-  pub finish-keeps : (fs : List (List ℕ)) → Keeps (oneNumber fs finish)
+  finish-keeps : (fs : List (List ℕ)) → Keeps (oneNumber fs finish)
   finish-keeps fs = number-keeps (λ n. asks (finish n)) (λ n. asks-keeps (finish n) (λ o. refl)) (onlyNumber fs)
 
-  pub next-keeps : (fs : List (List ℕ)) → Keeps (twoNumbers fs next)
+  next-keeps : (fs : List (List ℕ)) → Keeps (twoNumbers fs next)
   next-keeps fs =
       number-keeps (λ n. withNumber (onlyNumber (behind fs)) (λ k. asks (next n k)))
       (λ n. number-keeps (λ k. asks (next n k)) (λ k. asks-keeps (next n k) (λ o. refl)) (onlyNumber (behind fs)))
       (firstNumber fs)
 
-  pub counts-keeps : (fs : List (List ℕ)) → Keeps (noField fs counts)
+  counts-keeps : (fs : List (List ℕ)) → Keeps (noField fs counts)
   counts-keeps [] = asks-keeps counts (λ o. refl)
   counts-keeps (f ∷ fs) = bad-keeps
 
 -- ---- the first word
 
-module _ (r : Fields) (w : List ℕ) (rest : List (List ℕ)) (out : List ℕ) (e : r .first ≡ w) (f : rest ≡ r .others) where
+-- what the fields behind a keyword mean
+abbrev pub meansBy : Keyword → List (List ℕ) → List ℕ → Meaning
+meansBy keyword.Call fs out = meansCall fs
+meansBy keyword.Answer fs out = meansAnswer fs
+meansBy keyword.Finish fs out = meansFinish fs
+meansBy keyword.Next fs out = meansNext fs
+meansBy keyword.Load fs out = meansLoad fs out
+meansBy keyword.Instance fs out = meansInstance fs out
+meansBy keyword.Counts fs out = meansCounts fs
+meansBy keyword.Other fs out = bad
+
+keyword-means : (r : Fields) (out : List ℕ) → wordMeans r out ≡ meansBy (keywordOf (r .first)) (r .others) out
+unfolding wordMeans
+keyword-means r out =
+    by-cases (same (r .first) wordCall) (λ a. simp a) (λ a.
+    by-cases (same (r .first) wordAnswer) (λ b. simp (a, b)) (λ b.
+    by-cases (same (r .first) wordFinish) (λ c. simp (a, b, c)) (λ c.
+    by-cases (same (r .first) wordNext) (λ d. simp (a, b, c, d)) (λ d.
+    by-cases (same (r .first) wordLoad) (λ e. simp (a, b, c, d, e)) (λ e.
+    by-cases (same (r .first) wordInstance) (λ f. simp (a, b, c, d, e, f)) (λ f.
+    by-cases (same (r .first) wordCounts) (λ g. simp (a, b, c, d, e, f, g)) (λ g. simp (a, b, c, d, e, f, g))))))))
+
+-- each keyword by its own test and those before it
+module _ (w : List ℕ) where
   abbrev Is : List ℕ → Type 0
   Is word = same w word ≡ true
 
   abbrev Isnt : List ℕ → Type 0
   Isnt word = same w word ≡ false
 
-  pub word-call : Is wordCall → wordMeans r out ≡ withCells (hexCells rest) call
-  unfolding wordMeans
-  word-call t = rw (e, t, f)
+  pub is-call : Is wordCall → keyword.Call ≡ keywordOf w
+  is-call t = simp t
 
   module _ (n1 : Isnt wordCall) where
-    pub word-answer : Is wordAnswer → wordMeans r out ≡ numberAndCells rest answer
-    unfolding wordMeans
-    word-answer t = rw (e, n1, t, f)
+    pub is-answer : Is wordAnswer → keyword.Answer ≡ keywordOf w
+    is-answer t = simp (n1, t)
 
     module _ (n2 : Isnt wordAnswer) where
-      pub word-finish : Is wordFinish → wordMeans r out ≡ oneNumber rest finish
-      unfolding wordMeans
-      word-finish t = rw (e, n1, n2, t, f)
+      pub is-finish : Is wordFinish → keyword.Finish ≡ keywordOf w
+      is-finish t = simp (n1, n2, t)
 
       module _ (n3 : Isnt wordFinish) where
-        pub word-next : Is wordNext → wordMeans r out ≡ twoNumbers rest next
-        unfolding wordMeans
-        word-next t = rw (e, n1, n2, n3, t, f)
+        pub is-next : Is wordNext → keyword.Next ≡ keywordOf w
+        is-next t = simp (n1, n2, n3, t)
 
         module _ (n4 : Isnt wordNext) where
-          pub word-load : Is wordLoad → wordMeans r out ≡ oneNumber rest (λ a. load a out)
-          unfolding wordMeans
-          word-load t = rw (e, n1, n2, n3, n4, t, f)
+          pub is-load : Is wordLoad → keyword.Load ≡ keywordOf w
+          is-load t = simp (n1, n2, n3, n4, t)
 
           module _ (n5 : Isnt wordLoad) where
-            pub word-instance : Is wordInstance → wordMeans r out ≡ oneNumber rest (λ a. instance a out)
-            unfolding wordMeans
-            word-instance t = rw (e, n1, n2, n3, n4, n5, t, f)
+            pub is-instance : Is wordInstance → keyword.Instance ≡ keywordOf w
+            is-instance t = simp (n1, n2, n3, n4, n5, t)
 
             module _ (n6 : Isnt wordInstance) where
-              pub word-counts : Is wordCounts → wordMeans r out ≡ noField rest counts
-              unfolding wordMeans
-              word-counts t = rw (e, n1, n2, n3, n4, n5, n6, t, f)
+              pub is-counts : Is wordCounts → keyword.Counts ≡ keywordOf w
+              is-counts t = simp (n1, n2, n3, n4, n5, n6, t)
 
-              pub word-none : Isnt wordCounts → wordMeans r out ≡ bad
-              unfolding wordMeans
-              word-none t = rw (e, n1, n2, n3, n4, n5, n6, t)
+              pub is-other : Isnt wordCounts → keyword.Other ≡ keywordOf w
+              is-other t = simp (n1, n2, n3, n4, n5, n6, t)
+
+-- a line whose first word, up to a place, is this keyword
+pub line-means : (line out : List ℕ) (at : ℕ) (k : Keyword) → EndsFirst line at → k ≡ keywordOf (take at line)
+    → wordMeans (fields line) out ≡ meansBy k (restAt line at) out
+line-means line out at k e q =
+    keyword-means (fields line) out
+    ∙ ap (λ (w : List ℕ). meansBy (keywordOf w) (fields line .others) out) (e .1)
+    ∙ ap (λ (j : Keyword). meansBy j (fields line .others) out) (sym q)
+    ∙ ap (λ (fs : List (List ℕ)). meansBy k fs out) (sym (e .2))
+
+-- the keywords whose calls are not lent out
+abbrev Silent : Keyword → Type 0
+Silent keyword.Call = Unit
+Silent keyword.Answer = Unit
+Silent keyword.Finish = Unit
+Silent keyword.Next = Unit
+Silent keyword.Load = ⊥
+Silent keyword.Instance = ⊥
+Silent keyword.Counts = Unit
+Silent keyword.Other = Unit
+
+silent-keeps : (space out : List ℕ) (fs : List (List ℕ)) (k : Keyword) → Silent k → Keeps space out (meansBy k fs out)
+silent-keeps space out fs keyword.Call u = call-keeps space out fs
+silent-keeps space out fs keyword.Answer u = answer-keeps space out fs
+silent-keeps space out fs keyword.Finish u = finish-keeps space out fs
+silent-keeps space out fs keyword.Next u = next-keeps space out fs
+silent-keeps space out fs keyword.Load u = absurd u
+silent-keeps space out fs keyword.Instance u = absurd u
+silent-keeps space out fs keyword.Counts u = counts-keeps space out fs
+silent-keeps space out fs keyword.Other u = bad-keeps space out
+
+-- what the call of its keyword prints and leaves is what the line asks for
+module _ (line space out : List ℕ) (at : ℕ) (e : EndsFirst line at) (k : Keyword) (q : k ≡ keywordOf (take at line)) where
+  abbrev asked : Said (List ℕ)
+  asked = says spaceStep (meansBy k (restAt line at) out) space out
+
+  pub keyword-leaves : (text after space′ out′ : List ℕ) (end : ℕ) → Prints asked text end after space′ → out′ ≡ asked .out
+      → WordPuts line space out text end after × ((space′ ≡ wordSaid line space out .state) × (out′ ≡ wordSaid line space out .out))
+  keyword-leaves text after space′ out′ end p o = rw (line-means line out at k e q) (p .0, (p .1, o))
+
+  pub silent-leaves : Silent k → (text after space′ : List ℕ) (end : ℕ) → Prints asked text end after space′
+      → WordPuts line space out text end after × ((space′ ≡ wordSaid line space out .state) × (out ≡ wordSaid line space out .out))
+  silent-leaves u text after space′ end p = keyword-leaves text after space′ out end p (silent-keeps space out (restAt line at) k u)
 
 -- ---- the line's length
 

@@ -3,14 +3,19 @@ use Prim.Native.Nat.{ℕ, _≤_}
 use mathlib.Core.List.{List}
 use mathlib.Core.Path.{_≡_}
 use lib.ListN.{length}
+use Rattle.basis.specs.Choice.{pick}
+use Rattle.forms.specs.Compact.{same}
 use Rattle.store.specs.Calls.{spaceStep}
 use Rattle.text.specs.Digits.{Puts}
 use Rattle.text.specs.Fields.{fields}
 use Rattle.text.specs.Places.{Ends, restAt}
 use Rattle.session.specs.Lines.{Meaning, meansCall, meansAnswer, meansFinish, meansNext, meansLoad}
 use Rattle.session.specs.Lines.{meansInstance, meansCounts, wordMeans, means, longestLine}
+use Rattle.session.specs.Lines.{wordCall, wordAnswer, wordFinish, wordNext, wordLoad, wordInstance, wordCounts}
 use Rattle.session.specs.Session.{Said, says}
 use Rattle.session.specs.Texts.{replyBytes, textRoom}
+use Rattle.session.specs.declared.Keyword.{Keyword}
+use Rattle.session.specs.declared.Keyword.the-variants as keyword
 
 -- what is asked behind a word of a line can be printed: its fields begin behind a place, and the text has room for a
 -- reply of numbers; where the fields are cells, no more of them than a line has room for; or room for all cells of out
@@ -65,6 +70,17 @@ LoadPrints line at space out text end text′ = Prints (loadSaid line at space o
 
 abbrev pub InstancePrints : List ℕ → ℕ → List ℕ → List ℕ → List ℕ → ℕ → List ℕ → Type 0
 InstancePrints line at space out text end text′ = Prints (instanceSaid line at space out) text end text′ space
+
+-- which call a line's first word asks for
+abbrev pub keywordOf : List ℕ → Keyword
+keywordOf w =
+    pick (same w wordCall) keyword.Call
+    (pick (same w wordAnswer) keyword.Answer
+    (pick (same w wordFinish) keyword.Finish
+    (pick (same w wordNext) keyword.Next
+    (pick (same w wordLoad) keyword.Load
+    (pick (same w wordInstance) keyword.Instance
+    (pick (same w wordCounts) keyword.Counts keyword.Other))))))
 
 -- what is said of a line by its first word, and of a line of any length; and that it is put at the start of the text
 abbrev pub wordSaid : List ℕ → List ℕ → List ℕ → Said (List ℕ)

@@ -21,7 +21,7 @@ ghost use lib.ListN.{length};
 ghost use Rattle.basis.specs.Moments.{old, new};
 ghost use Rattle.session.specs.Lines.{longestLine};
 ghost use Rattle.session.specs.Texts.{textRoom};
-ghost use Rattle.session.specs.Asking.{wordSaid, lineSaid, WordPuts, LinePuts};
+ghost use Rattle.session.specs.Asking.{keywordOf, wordSaid, lineSaid, WordPuts, LinePuts};
 ghost use Rattle.session.specs.Session.{responding};
 
 // A line that means something has at most so many bytes, its newline not counted.
@@ -33,6 +33,46 @@ pub const CELL_BYTES: usize = 1 + CELL_DIGITS;
 // Besides its cells a reply has fewer bytes than this.
 pub const REPLY_BYTES: usize = 64;
 
+// What a line's first word asks for.
+pub enum Keyword {
+    Call,
+    Answer,
+    Finish,
+    Next,
+    Load,
+    Instance,
+    Counts,
+    Other,
+}
+
+// The word as a keyword.
+fn keyword_of(word: &[u8]) -> Keyword
+    ensures { λ r. ⌜ r ≡ keywordOf (old word) ⌝ }
+{
+    if is_word(word, b"call") {
+        return Keyword::Call;
+    }
+    if is_word(word, b"answer") {
+        return Keyword::Answer;
+    }
+    if is_word(word, b"finish") {
+        return Keyword::Finish;
+    }
+    if is_word(word, b"next") {
+        return Keyword::Next;
+    }
+    if is_word(word, b"load") {
+        return Keyword::Load;
+    }
+    if is_word(word, b"instance") {
+        return Keyword::Instance;
+    }
+    if is_word(word, b"counts") {
+        return Keyword::Counts;
+    }
+    Keyword::Other
+}
+
 // The reply to a line that is not too long, by its first word; without the newline.
 fn reply(line: &[u8], space: &mut [u32], out: &mut [u32], text: &mut [u8]) -> usize
     requires { ⌜ (length (now line) ≤ longestLine) × (textRoom (length (now out)) ≤ length (now text)) ⌝ }
@@ -41,28 +81,17 @@ fn reply(line: &[u8], space: &mut [u32], out: &mut [u32], text: &mut [u8]) -> us
     ensures { λ r. ⌜ new out ≡ wordSaid (old line) (old space) (old out) .out ⌝ }
 {
     let at = first_end(line);
-    if is_word(&line[..at], b"call") {
-        return ask_call(line, at, space, text);
+    let keyword = keyword_of(&line[..at]);
+    match keyword {
+        Keyword::Call => ask_call(line, at, space, text),
+        Keyword::Answer => ask_answer(line, at, space, text),
+        Keyword::Finish => ask_finish(line, at, space, text),
+        Keyword::Next => ask_next(line, at, space, text),
+        Keyword::Load => ask_load(line, at, space, out, text),
+        Keyword::Instance => ask_instance(line, at, space, out, text),
+        Keyword::Counts => ask_counts(line, at, space, text),
+        Keyword::Other => print_bad(text),
     }
-    if is_word(&line[..at], b"answer") {
-        return ask_answer(line, at, space, text);
-    }
-    if is_word(&line[..at], b"finish") {
-        return ask_finish(line, at, space, text);
-    }
-    if is_word(&line[..at], b"next") {
-        return ask_next(line, at, space, text);
-    }
-    if is_word(&line[..at], b"load") {
-        return ask_load(line, at, space, out, text);
-    }
-    if is_word(&line[..at], b"instance") {
-        return ask_instance(line, at, space, out, text);
-    }
-    if is_word(&line[..at], b"counts") {
-        return ask_counts(line, at, space, text);
-    }
-    print_bad(text)
 }
 
 // The same of a line of any length: one that is too long is not read.
