@@ -35,15 +35,16 @@ use Rattle.store.proofs.CallsCases.{steps-refused, steps-sound}
 use Rattle.store.proofs.CallsRecords.{read-subgoal-damaged}
 use Rattle.store.proofs.AnswersLaws.{step-none}
 use Rattle.agreement.proofs.Frame.{Framed, forms-framed}
-use Rattle.join.specs.declared.Counted.{Counted}
-use Rattle.join.specs.declared.Counted.the-variants as counted
+use Rattle.pairing.specs.declared.Counted.{Counted}
+use Rattle.pairing.specs.declared.Counted.the-variants as counted
 use Rattle.store.specs.declared.JoinAnswer.{JoinAnswer}
 use Rattle.store.specs.declared.JoinAnswer.the-variants as join-answer
-use Rattle.join.specs.declared.Needs.{Needs}
+use Rattle.pairing.specs.declared.Needs.{Needs}
 use Rattle.join.specs.declared.Parties.{Parties}
-use Rattle.join.specs.declared.Sides.{Sides}
-use Rattle.join.specs.declared.Sums.{Sums}
-use Rattle.join.specs.Counting.{allForms, Ready, Fitting, CountedOf, Counts, NeedsOf, Enters}
+use Rattle.pairing.specs.declared.Sides.{Sides}
+use Rattle.pairing.specs.declared.Sums.{Sums}
+use Rattle.pairing.specs.Counting.{allForms, Ready, Fitting, CountedOf, Counts, NeedsOf}
+use Rattle.join.specs.Entering.{Enters}
 use Rattle.join.specs.Joining.{isNumber, asked, Numbered, PartiesIn, sidesOf, Grounded, JoinsUnder, sumsFit, roomFor, Fills, SomeNew, Enterable, EntersAll}
 use Rattle.join.proofs.EnterLaws.{sound-is}
 use Rattle.join.proofs.JoinCases.{join-refused, first-unknown, second-unknown, target-unknown, first-damaged, second-damaged, target-damaged, root-damaged, ready, root-within, target-root, target-fit}

@@ -30,15 +30,16 @@ use Rattle.agreement.proofs.ChainSteps.{chain-longer}
 use Rattle.agreement.proofs.SameBut.{SameBut, chain-stays}
 use Rattle.agreement.proofs.Frame.{space-read, Framed, form-framed}
 use Rattle.parts.specs.Parts.{parts, AllGround, InHand, allFit}
-use Rattle.join.specs.declared.Source.{Source}
-use Rattle.join.specs.declared.Sides.{Sides}
-use Rattle.join.specs.declared.Cursor.{Cursor}
-use Rattle.join.specs.declared.Match.{Match}
-use Rattle.join.specs.declared.Match.the-variants as match
-use Rattle.join.specs.Pairing.{formsFrom, SourceIn, Remains, twoHands, mostTokens, formIn, Known, Stands, partsFrom, toCome, Advances}
-use Rattle.join.specs.Counting.{beginning, allForms, Ready, Fitting, underHead, Target, Givable, Enters}
-use Rattle.join.proofs.RemainsLaws.{forms-are}
-use Rattle.join.proofs.CountLaws.{begins, all-come, fit-cons, not-long}
+use Rattle.pairing.specs.declared.Source.{Source}
+use Rattle.pairing.specs.declared.Sides.{Sides}
+use Rattle.pairing.specs.declared.Cursor.{Cursor}
+use Rattle.pairing.specs.declared.Match.{Match}
+use Rattle.pairing.specs.declared.Match.the-variants as match
+use Rattle.pairing.specs.Pairing.{formsFrom, SourceIn, Remains, twoHands, mostTokens, formIn, Known, Stands, partsFrom, toCome, Advances}
+use Rattle.pairing.specs.Counting.{beginning, allForms, Ready, Fitting}
+use Rattle.join.specs.Entering.{underHead, Target, Givable, Enters}
+use Rattle.pairing.proofs.RemainsLaws.{forms-are}
+use Rattle.pairing.proofs.CountLaws.{begins, all-come, fit-cons, not-long}
 
 pub sound-is : {h k : Head} → header.Sound h ≡ header.Sound k → h ≡ k
 sound-is {h} {k} e = ap head-of e

@@ -31,10 +31,11 @@ use Rattle.store.proofs.CallsCases.{decided-says, comes}
 use Rattle.parts.specs.Parts.{AllGround, fitted}
 use Rattle.parts.proofs.JoinedForms.{joined-forms}
 use Rattle.join.specs.declared.Parties.{Parties}
-use Rattle.join.specs.Pairing.{formsFrom, SourceIn, Remains}
-use Rattle.join.specs.Counting.{allForms, Ready, Target}
+use Rattle.pairing.specs.Pairing.{formsFrom, SourceIn, Remains}
+use Rattle.pairing.specs.Counting.{allForms, Ready}
+use Rattle.join.specs.Entering.{Target}
 use Rattle.agreement.proofs.ChainSteps.{chain-begins, chain-ends, chain-longer}
-use Rattle.join.proofs.RemainsLaws.{forms-are, unbroken-is}
+use Rattle.pairing.proofs.RemainsLaws.{forms-are, unbroken-is}
 use Rattle.join.specs.Joining.{isNumber, asked, PartiesIn, sidesOf, AnswersGround, Grounded, Ruled}
 
 -- ---- a decision that says something

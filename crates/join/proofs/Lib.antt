@@ -1,11 +1,3 @@
-pub mod RemainsLaws
-pub mod HandLaws
-pub mod GatherLaws
-pub mod FindLaws
-pub mod AdvanceLaws
-pub mod CountLaws
-pub mod CountCases
-pub mod NeedLaws
 pub mod EnterLaws
 pub mod JoinCases
 pub mod RoomCases

@@ -28,7 +28,7 @@ use Rattle.parts.specs.Parts.{allFit, fitted}
 use Rattle.sides.specs.Counts.{sumMissing, sumLacking}
 use Rattle.sides.proofs.CountLaws.{nodes-needed-most, answers-needed-most, answers-needed-none, lacking-none}
 use Rattle.join.specs.declared.Parties.{Parties}
-use Rattle.join.specs.Counting.{allForms}
+use Rattle.pairing.specs.Counting.{allForms}
 use Rattle.join.specs.Joining.{asked, sidesOf, Grounded}
 use Rattle.join.proofs.JoinCases.{join-refused, join-entered, decides}
 

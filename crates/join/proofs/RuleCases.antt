@@ -15,7 +15,7 @@ use Rattle.sides.specs.Chains.{ChainHeld, ChainJudged}
 use Rattle.sides.specs.declared.Judged.{Judged}
 use Rattle.sides.specs.declared.Judged.the-variants.{Damaged, Ground, Variable}
 use Rattle.join.specs.declared.Parties.{Parties}
-use Rattle.join.specs.declared.Sums.{Sums}
+use Rattle.pairing.specs.declared.Sums.{Sums}
 use Rattle.join.specs.Joining.{isNumber, wholeAnswers, groundAnswers, sumsFit, roomFor, Rules, RulesOn}
 use Rattle.join.proofs.JoinCases.{ruled-first-broken, ruled-second-broken, ruled-finished, ruled-first-open, ruled-second-open, ruled-first-variable, ruled-second-variable, ruled-unnamed, ruled-on}
 

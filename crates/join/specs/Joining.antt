@@ -30,11 +30,12 @@ use Rattle.sides.specs.declared.Judged.{Judged}
 use Rattle.sides.specs.declared.Judged.the-variants.{Damaged, Ground, Variable}
 use Rattle.join.specs.declared.Numbers.{Numbers}
 use Rattle.join.specs.declared.Parties.{Parties}
-use Rattle.join.specs.declared.Sides.{Sides}
-use Rattle.join.specs.declared.Counted.the-variants as counted
-use Rattle.join.specs.declared.Sums.{Sums}
-use Rattle.join.specs.Pairing.{formsFrom}
-use Rattle.join.specs.Counting.{allForms, Ready, Fitting, CountedOf, Target}
+use Rattle.pairing.specs.declared.Sides.{Sides}
+use Rattle.pairing.specs.declared.Counted.the-variants as counted
+use Rattle.pairing.specs.declared.Sums.{Sums}
+use Rattle.pairing.specs.Pairing.{formsFrom}
+use Rattle.pairing.specs.Counting.{allForms, Ready, Fitting, CountedOf}
+use Rattle.join.specs.Entering.{Target}
 
 -- s is the number of one of n subgoals
 unfoldable pub isNumber : ℕ → ℕ → Bool

@@ -1,3 +1,2 @@
-pub mod Pairing
-pub mod Counting
+pub mod Entering
 pub mod Joining

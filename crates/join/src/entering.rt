@@ -1,11 +1,11 @@
 // The forms of a join entered, each as a single answer is. The sources are read again meanwhile: their records and
 // paths stay as they are while another subgoal is answered.
-use super::Match;
-use super::Sides;
-use super::counting::begin;
-use super::cursors::HANDS;
-use super::cursors::advance;
 use basis::limits::MOST_TOKENS;
+use pairing::Match;
+use pairing::Sides;
+use pairing::counting::begin;
+use pairing::cursors::HANDS;
+use pairing::cursors::advance;
 use space::Head;
 use space::Header;
 use space::heading::read_header;
@@ -14,7 +14,7 @@ use store::calls::answer_at;
 ghost use mathlib.Core.Path.{_≡_};
 ghost use Rattle.basis.specs.Moments.{old, new};
 ghost use Rattle.trie.specs.Index.{searchIndexed};
-ghost use Rattle.join.specs.Counting.{Givable, Gives, underHead, Enters};
+ghost use Rattle.join.specs.Entering.{Givable, Gives, underHead, Enters};
 ghost use Rattle.join.specs.Joining.{Enterable};
 
 // A form given to subgoal s, whatever comes of it.

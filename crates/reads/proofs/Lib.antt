@@ -2,5 +2,3 @@ pub mod ReadsCases
 pub mod ReadsForms
 pub mod ReadsInstance
 pub mod ReadsLaws
-pub mod InstanceLaws
-pub mod InstanceTerms

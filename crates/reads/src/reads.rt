@@ -28,8 +28,10 @@ ghost use Rattle.plain.specs.Requests.{next, load, instance, counts, lacksNext}
 ghost use Rattle.space.specs.Sound.{Bounds};
 ghost use Rattle.store.specs.Decisions.{says, stateOf, soundPair, starting, handed, onward};
 ghost use Rattle.store.specs.Calls.{Answers};
+ghost use Rattle.store.specs.Contracts.{viewIn};
 ghost use Rattle.store.specs.Replies.{saidNext, saidCells, saidCounts};
-ghost use Rattle.reads.specs.Reading.{viewIn, decided, loadedAnswer, instancedAnswer, Fills, sized, HasAnswer};
+ghost use Rattle.instances.specs.Leaving.{sized};
+ghost use Rattle.reads.specs.Reading.{decided, loadedAnswer, instancedAnswer, Fills, HasAnswer};
 
 // Nodes, subgoals and answers used.
 pub fn counts(space: &[u32]) -> CountsAnswer

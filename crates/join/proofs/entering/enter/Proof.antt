@@ -9,10 +9,10 @@ use borrow.Author.Needs.{needs}
 use mathlib.Core.List.{[], _∷_}
 use types.Run.{miss}
 use Rattle.basis.proofs.Tests.{told}
-use Rattle.join.specs.declared.Cursor.{Cursor}
-use Rattle.join.specs.declared.Sides.{Sides}
-use Rattle.join.specs.declared.Match.the-variants as match
-use Rattle.join.specs.Pairing.{toCome, Advances}
+use Rattle.pairing.specs.declared.Cursor.{Cursor}
+use Rattle.pairing.specs.declared.Sides.{Sides}
+use Rattle.pairing.specs.declared.Match.the-variants as match
+use Rattle.pairing.specs.Pairing.{toCome, Advances}
 use Rattle.join.proofs.EnterLaws.{Entering, entering-begun, entered-other, entering-less, entering-on, entering-size, still-sound, target-givable}
 use Rattle.join.proofs.entering.enter.Statement.{statement}
 use Rattle.join.proofs.entering.enter.Tie as tie

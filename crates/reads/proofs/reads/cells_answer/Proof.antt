@@ -1,7 +1,7 @@
 -- `reads::reads::cells_answer` meets its contract.
-use Rattle.reads.proofs.ReadsCases.{sized-none, sized-short, sized-cells}
 use borrow.Author.Needs.{needs}
 use native.Mathlib.Omega.{arith}
+use Rattle.instances.proofs.LeavingLaws.{sized-none, sized-short, sized-cells}
 use Rattle.reads.proofs.reads.cells_answer.Statement.{statement}
 use Rattle.reads.proofs.reads.cells_answer.Tie as tie
 

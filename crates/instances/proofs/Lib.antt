@@ -1,0 +1,3 @@
+pub mod LeavingLaws
+pub mod InstanceLaws
+pub mod InstanceTerms

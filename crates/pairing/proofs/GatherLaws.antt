@@ -1,0 +1,159 @@
+-- A path gathered by a loop over the nodes from its leaf up, none of them judged again.
+use Prim.Native.Nat.{ℕ, zero, suc, _+_, _-_, _≤_, _<_}
+use mathlib.Core.Path.{_≡_, refl, sym, ap, _∙_}
+use mathlib.Core.Bool.{true}
+use mathlib.Core.List.{List, [], _∷_, _++_, append-nil, append-assoc}
+use native.Mathlib.Omega.{arith}
+use lib.Dec.{eqb}
+use lib.ListN.{length, take, drop, set, length-append, length-set, drop-of-length-le}
+use lib.Seq.{set-split, drop-at, length-take-le}
+use borrow.Author.Tests.{eqb-true, eqb-false}
+use Rattle.basis.proofs.Cases.{by-cases}
+use Rattle.forms.specs.Cells.{arityOf}
+use Rattle.plain.specs.Words.{Word}
+use Rattle.space.specs.Layout.{sizes, nodeIn}
+use Rattle.space.specs.declared.Node.{Node}
+use Rattle.space.proofs.JudgingLaws.{node-bounds}
+use Rattle.trie.specs.Siblings.{Trie, sound}
+use Rattle.trie.specs.Paths.{Path, none, tokens, below, gather, longest}
+use Rattle.trie.specs.Runs.{trieOf, pathTo, pathCells}
+use Rattle.trie.specs.declared.End.{End}
+use Rattle.trie.proofs.PathLaws.{gather-unsound, gather-root, gather-other, gather-deep, gather-up}
+use Rattle.pairing.specs.Pairing.{Gatherable, Gathers, Takeable}
+use Rattle.pairing.proofs.HandLaws.{tokensOf, path-there, ground-short}
+
+none-not : {us : List ℕ} → none ≡ tokens us → ⊥
+none-not e = let z : _≡_ {A = ℕ} 0 1 = cc in omega arith
+
+-- ---- one node of a path that there is
+
+-- the path above a node that is no root
+pub record Above (t : Trie) (root n : ℕ) (us : Word) : Type 0 where
+  pub lower : t .at n .parent < n
+  pub fuel : ℕ
+  pub first : Word
+  pub path : gather fuel t root (t .at n .parent) ≡ tokens first
+  pub is : us ≡ first ++ (t .at n .token ∷ [])
+
+below-tokens : (p : Path) (x : ℕ) (us : List ℕ) → below p x ≡ tokens us → (ys : List ℕ) × (p ≡ tokens ys) × (us ≡ ys ++ (x ∷ []))
+below-tokens none x us e = absurd (none-not e)
+below-tokens (tokens ys) x us e = (ys, refl, sym (ap tokensOf e))
+
+module _ (t : Trie) (root n : ℕ) (us : Word) where
+  path-sound : (most : ℕ) → gather most t root n ≡ tokens us → sound t n ≡ true
+  path-sound most e = by-cases (sound t n) (λ j. j) (λ j. absurd (none-not (sym (gather-unsound t root n most j) ∙ e)))
+
+  pub path-root : (most : ℕ) → gather most t root n ≡ tokens us → t .at n .parent ≡ n → us ≡ []
+  path-root most e p =
+      let j = path-sound most e in
+      by-cases (eqb n root)
+      (λ r. ap tokensOf (sym e ∙ gather-root t root n j most p (eqb-true _ _ r)))
+      (λ r. absurd (none-not (sym (gather-other t root n j most p (eqb-false _ _ r)) ∙ e)))
+
+  pub path-above : (most : ℕ) → gather most t root n ≡ tokens us → (t .at n .parent ≡ n → ⊥) → Above t root n us
+  path-above zero e p = absurd (none-not (sym (gather-deep t root n (path-sound zero e) p) ∙ e))
+  path-above (suc most) e p =
+      let j = path-sound (suc most) e in
+      let b = node-bounds (t .nodes) (t .links) n (t .at n) j in
+      let f : below (gather most t root (t .at n .parent)) (t .at n .token) ≡ tokens us = sym (gather-up t root n j p most) ∙ e in
+      let y = below-tokens (gather most t root (t .at n .parent)) (t .at n .token) us f in
+      record { lower = omega (arith, b .parent-most, p); fuel = most; first = y .0; path = y .1; is = y .2 }
+
+-- ---- the loop
+
+-- the path up to node n is still to be gathered; what is behind it stands in the cells from `at` on
+pub record Gathering (cs : List ℕ) (e : End) (cells₀ cells : List ℕ) (n at : ℕ) : Type 0 where
+  pub used : n < e .nodes
+  pub within : at ≤ length cells
+  pub size : length cells ≡ length cells₀
+  pub fuel : ℕ
+  pub first : Word
+  pub path : gather fuel (trieOf cs e) (e .root) n ≡ tokens first
+  pub whole : pathTo cs e ≡ tokens (first ++ drop at cells)
+
+drop-written : (a : List ℕ) (i x : ℕ) → i < length a → drop i (set a i x) ≡ x ∷ drop (suc i) a
+drop-written a i x h = ap (drop i) (set-split a i x h) ∙ drop-at (take i a) (x ∷ drop (suc i) a) i (length-take-le i a (omega arith))
+
+module _ (cs : List ℕ) (e : End) (cells₀ : List ℕ) where
+  pub gathering-begun : Gatherable cs e → Gathering cs e cells₀ cells₀ (e .leaf) (length cells₀)
+  gathering-begun g = record {
+    used = g .0 .1;
+    within = omega arith;
+    size = refl;
+    fuel = longest;
+    first = g .1 .0;
+    path = g .1 .1;
+    whole = g .1 .1 ∙ ap tokens (sym (append-nil (g .1 .0)) ∙ ap (λ (ys : List ℕ). g .1 .0 ++ ys) (sym (drop-of-length-le cells₀ {i = length cells₀} (omega arith))));
+  }
+
+  module _ (cells : List ℕ) (n at : ℕ) (g : Gathering cs e cells₀ cells n at) where
+    -- no cell is left
+    pub gathered-none : at ≡ 0 → Gathers cs e cells₀ cells 0
+    gathered-none z = (
+      omega arith,
+      λ l. absurd (omega arith),
+      λ w p q.
+          let u : w ≡ g .first ++ drop at cells = ap tokensOf (sym p ∙ g .whole) in
+          let d : drop at cells ≡ cells = ap (λ (i : ℕ). drop i cells) z in
+          omega (arith, ap length u, length-append (g .first) (drop at cells), ap length d),
+      g .size,
+    )
+
+    module _ (y : Node) (is : y ≡ nodeIn sizes cs n) where
+      own : y .parent ≡ trieOf cs e .at n .parent
+      own = ap (λ (x : Node). x .parent) is
+
+      -- the root is reached
+      pub gathered-root : y .parent ≡ n → 0 < at → Gathers cs e cells₀ cells at
+      gathered-root p l =
+          let z : g .first ≡ [] = path-root (trieOf cs e) (e .root) n (g .first) (g .fuel) (g .path) (sym own ∙ p) in
+          let whole : pathTo cs e ≡ tokens (drop at cells) = g .whole ∙ ap (λ (us : List ℕ). tokens (us ++ drop at cells)) z in (
+            g .within,
+            λ o. whole,
+            λ w q k. absurd (omega arith),
+            g .size,
+          )
+
+      -- one node more
+      module _ (p : y .parent ≡ n → ⊥) where
+        above : Above (trieOf cs e) (e .root) n (g .first)
+        above = path-above (trieOf cs e) (e .root) n (g .first) (g .fuel) (g .path) (λ q. p (own ∙ q))
+
+        pub gathering-lower : y .parent < n
+        gathering-lower = omega (arith, above .lower, own)
+
+        pub gathering-on : 0 < at → Gathering cs e cells₀ (set cells (at - 1) (y .token)) (y .parent) (at - 1)
+        gathering-on l =
+            let w : at ≤ length cells = g .within in
+            let s : suc (at - 1) ≡ at = omega arith in
+            let k : length (set cells (at - 1) (y .token)) ≡ length cells = length-set cells (at - 1) (y .token) in
+            let d : drop (at - 1) (set cells (at - 1) (y .token)) ≡ y .token ∷ drop at cells = drop-written cells (at - 1) (y .token) (omega arith) ∙ ap (λ (i : ℕ). y .token ∷ drop i cells) s in
+            let o : trieOf cs e .at n .token ≡ y .token = ap (λ (x : Node). x .token) (sym is) in
+            record {
+              used = omega (arith, gathering-lower, g .used);
+              within = omega arith;
+              size = k ∙ g .size;
+              fuel = above .fuel;
+              first = above .first;
+              path = ap (λ (i : ℕ). gather (above .fuel) (trieOf cs e) (e .root) i) own ∙ above .path;
+              whole =
+                  g .whole ∙ ap (λ (us : List ℕ). tokens (us ++ drop at cells)) (above .is)
+                  ∙ ap tokens (append-assoc (above .first) (trieOf cs e .at n .token ∷ []) (drop at cells))
+                  ∙ ap (λ (x : ℕ). tokens (above .first ++ (x ∷ drop at cells))) o
+                  ∙ ap (λ (ys : List ℕ). tokens (above .first ++ ys)) (sym d);
+            }
+
+-- ---- what is gathered, as a part of a slice gives it
+
+module _ (cs : List ℕ) (e : End) (cells : List ℕ) (k size : ℕ) (z : length cells ≡ size) where
+  pub gathered-there : (0 < k → pathTo cs e ≡ tokens (drop k cells)) → 0 < k → pathTo cs e ≡ tokens (take (size - k) (drop k cells))
+  gathered-there g l = path-there (pathTo cs e) cells (size - k) k (omega arith) (g l)
+
+  -- the cells of a whole path are always enough
+  pub gathered-some : (m : ℕ) (held : List ℕ) (edition : ℕ) → Takeable cs e m held edition → size ≡ pathCells
+      → ((w : Word) → pathTo cs e ≡ tokens w → k ≡ 0 → length cells ≤ length w) → 0 < k
+  gathered-some m held edition t y g =
+      let s : length (t .1 .0) ≤ 383 = ground-short (arityOf edition) m (t .1 .0) (t .1 .2) in
+      by-cases (eqb k 0)
+      (λ b. absurd (omega (arith, s, g (t .1 .0) (t .1 .1) (eqb-true _ _ b))))
+      (λ b. let o : k ≡ 0 → ⊥ = eqb-false _ _ b in omega arith)

@@ -1,0 +1,144 @@
+-- Answers in hand: the form that is in one, and that it depends on its own cells alone.
+use mathlib.Core.Path.{_≡_, refl, sym, ap, _∙_, subst}
+use mathlib.Core.Bool.{Bool, true, false}
+use mathlib.Core.List.{List, [], _∷_, _++_, append-nil}
+use Prim.Native.Nat.{ℕ, zero, suc, _+_, _-_, _≤_, _<_}
+use native.Mathlib.Omega.{arith}
+use lib.ListN.{length, take, drop, getD, length-take, length-drop}
+use borrow.Rule.Slice.PartMut.{putMid, post-is, take-put}
+use lib.Seq.{drop-at, take-all, take-take, getD-take, take-add, length-take-le}
+use Rattle.forms.specs.Terms.{Term, every}
+use Rattle.forms.specs.Compact.{compact, formTerms}
+use Rattle.forms.proofs.ExactLaws.{forms-compact}
+use Rattle.forms.proofs.RoundTrip.{legal-parts}
+use Rattle.plain.specs.Words.{Word}
+use Rattle.plain.specs.Coding.{compactCoding}
+use Rattle.plain.proofs.CompactCoding.{compact-laws}
+use Rattle.trie.specs.Paths.{Path, none, tokens}
+use Rattle.trie.specs.Runs.{pathTo}
+use Rattle.trie.specs.declared.End.{End}
+use Rattle.parts.specs.Parts.{startOf, GroundForm, handed, InHand}
+use Rattle.parts.specs.Hands as hands
+use Rattle.parts.specs.declared.Together.{Together}
+use Rattle.forms.specs.Cells.{arityOf}
+use Rattle.pairing.specs.declared.Sides.{Sides}
+use Rattle.pairing.specs.Pairing.{hand, formIn, twoHands, Takeable, Takes, endOf, TakesSecond, HandsComparable, HandsCompare, HandsCopyable, HandsCopied}
+
+pub ground-short : (arity : ℕ → ℕ) (m : ℕ) (w : Word) → GroundForm arity m w → length w ≤ 383
+ground-short arity m w g = compact-laws arity .legal-short m w (g .legal)
+
+-- ---- the form that is in a hand
+
+start-end : (arity : ℕ → ℕ) (m : ℕ) (w : Word) → GroundForm arity m w → startOf arity w m ≡ length w
+start-end arity m w g =
+    let p = forms-compact arity m w (legal-parts arity m w (g .legal) .forms) in
+    ap (λ (ts : List Term). length (every compact ts)) (take-all m (formTerms arity w) (omega (arith, p .0))) ∙ ap length (sym (p .1))
+
+pub form-in : (arity : ℕ → ℕ) (m : ℕ) (w held : List ℕ) → InHand arity m w held → formIn m held ≡ w
+form-in arity m w held i =
+    let e : getD held m 0 - handed ≡ length w = omega (arith, i .starts m (omega arith), start-end arity m w (i .form)) in
+    ap (λ (n : ℕ). take n (drop handed held)) e ∙ i .tokens
+
+-- ---- only the cells of the hand matter
+
+pub take-within : (k n h : ℕ) (l : List ℕ) → k + n ≤ h → take n (drop k l) ≡ take n (drop k (take h l))
+take-within zero n h l e = sym (take-take n h l (omega arith))
+take-within (suc k) n h [] e = ap (λ (x : List ℕ). take n (drop (suc k) x)) (sym (lib.Seq.take-nil h))
+take-within (suc k) n zero (x ∷ l) e = absurd (omega arith)
+take-within (suc k) n (suc h) (x ∷ l) e = take-within k n h l (omega arith)
+
+pub hand-kept : (arity : ℕ → ℕ) (m : ℕ) (w held held′ : List ℕ) → InHand arity m w held → take hand held′ ≡ take hand held → hand ≤ length held′ → InHand arity m w held′
+hand-kept arity m w held held′ i e l =
+    let s = ground-short arity m w (i .form) in
+    record {
+      form = i .form;
+      few = i .few;
+      room = omega arith;
+      tokens = take-within handed (length w) hand held′ (omega arith)
+          ∙ ap (λ (x : List ℕ). take (length w) (drop handed x)) e
+          ∙ sym (take-within handed (length w) hand held (omega arith))
+          ∙ i .tokens;
+      starts = λ k b. sym (getD-take hand held′ k 0 (omega (arith, i .few))) ∙ ap (λ (x : List ℕ). getD x k 0) e ∙ getD-take hand held k 0 (omega (arith, i .few)) ∙ i .starts k b;
+    }
+
+-- the form in hand as the cells say it
+pub hand-said : (arity : ℕ → ℕ) (m : ℕ) (w held : List ℕ) → InHand arity m w held → InHand arity m (formIn m held) held
+hand-said arity m w held i = subst (λ (u : Word). InHand arity m u held) (sym (form-in arity m w held i)) i
+
+pub hand-stays : (arity : ℕ → ℕ) (m : ℕ) (held held′ : List ℕ) → InHand arity m (formIn m held) held → take hand held′ ≡ take hand held → hand ≤ length held′
+    → (formIn m held′ ≡ formIn m held) × InHand arity m (formIn m held′) held′
+hand-stays arity m held held′ i e l =
+    let j = hand-kept arity m (formIn m held) held held′ i e l in
+    (form-in arity m (formIn m held) held′ j, hand-said arity m (formIn m held) held′ j)
+
+-- ---- a path taken in hand
+
+abbrev pub tokensOf : Path → List ℕ
+tokensOf none = []
+tokensOf (tokens xs) = xs
+
+abbrev isPath : Path → Bool
+isPath none = false
+isPath (tokens xs) = true
+
+-- a path that stands in the cells from k on, as a part of a slice gives it
+pub path-there : (p : Path) (ks : List ℕ) (n k : ℕ) → length ks ≤ n + k → p ≡ tokens (drop k ks) → p ≡ tokens (take n (drop k ks))
+path-there p ks n k l e =
+    let d : length (drop k ks) ≡ length ks - k = length-drop k ks in
+    e ∙ ap tokens (sym (take-all n (drop k ks) (omega arith)))
+
+module _ (cs : List ℕ) (e : End) (m : ℕ) (held : List ℕ) (edition : ℕ) where
+  pub path-takeable : (form : List ℕ) → Takeable cs e m held edition → pathTo cs e ≡ tokens form → hands.Takeable edition m form held
+  path-takeable form k p =
+      let q : k .1 .0 ≡ form = ap tokensOf (sym (k .1 .1) ∙ p) in
+      let g : GroundForm (arityOf edition) m form = subst (GroundForm (arityOf edition) m) q (k .1 .2) in
+      record { ground = g; few = omega (arith, k .2); room = omega (arith, ground-short (arityOf edition) m form g, k .3) }
+
+  pub path-takes : (form held′ : List ℕ) → pathTo cs e ≡ tokens form → hands.Taken edition m form held held′ → Takes cs e m held held′ edition
+  path-takes form held′ p t =
+      (λ w q. subst (λ (v : Word). InHand (arityOf edition) m v held′) (ap tokensOf (sym p ∙ q)) (t .hand), t .size)
+
+  pub path-lost : Takeable cs e m held edition → pathTo cs e ≡ none → ⊥
+  path-lost k p = mathlib.Core.Bool.false≢true (ap isPath (sym p ∙ k .1 .1))
+
+-- ---- the second hand, as a part of the cells
+
+pub second-hand : (held : List ℕ) → take (length held - hand) (drop hand held) ≡ drop hand held
+second-hand held =
+    let d : length (drop hand held) ≡ length held - hand = length-drop hand held in
+    take-all (length held - hand) (drop hand held) (omega arith)
+
+module _ (held : List ℕ) where
+  pub part-comparable : (ps : List ℕ) → HandsComparable ps held → hands.Comparable ps held (take (length held - hand) (drop hand held))
+  part-comparable ps c = subst (hands.Comparable ps held) (sym (second-hand held)) (c .1)
+
+  pub part-compare : (ps : List ℕ) (r : Bool) → hands.Compares ps held (take (length held - hand) (drop hand held)) r → HandsCompare ps held r
+  part-compare ps r c = subst (λ (inner : List ℕ). hands.Compares ps held inner r) (second-hand held) c
+
+  pub part-copyable : (e : ℕ) (ks form : List ℕ) → HandsCopyable e ks held form → hands.Copyable e ks held (take (length held - hand) (drop hand held)) form
+  part-copyable e ks form c = subst (λ (inner : List ℕ). hands.Copyable e ks held inner form) (sym (second-hand held)) (c .1)
+
+  pub part-copied : (e : ℕ) (ks form form′ : List ℕ) (r : Together) → hands.Copies e ks held (take (length held - hand) (drop hand held)) form form′ r → HandsCopied e ks held form form′ r
+  part-copied e ks form form′ r c = subst (λ (inner : List ℕ). hands.Copies e ks held inner form form′ r) (second-hand held) c
+
+drop-all : (n : ℕ) (l : List ℕ) → length l ≤ n → drop n l ≡ []
+drop-all zero [] e = refl
+drop-all zero (x ∷ l) e = absurd (omega arith)
+drop-all (suc n) [] e = refl
+drop-all (suc n) (x ∷ l) e = drop-all n l (omega arith)
+
+-- the second hand put back
+module _ (cs : List ℕ) (x : Sides) (leaf : ℕ) (held new : List ℕ) (l : twoHands ≤ length held) where
+  put-whole : putMid hand (length held - hand) held new ≡ take hand held ++ new
+  put-whole =
+      ap (λ (z : List ℕ). take hand held ++ (new ++ z)) (post-is hand (length held) held (omega arith) ∙ drop-all (length held) held (omega arith))
+      ∙ ap (λ (z : List ℕ). take hand held ++ z) (append-nil new)
+
+  put-second : drop hand (putMid hand (length held - hand) held new) ≡ new
+  put-second = ap (drop hand) put-whole ∙ drop-at (take hand held) new hand (length-take-le hand held (omega arith))
+
+  pub second-taken : Takes cs (endOf (x .h) (x .second) leaf) (x .second .variables) (take (length held - hand) (drop hand held)) new (x .h .edition) → TakesSecond cs x leaf held (putMid hand (length held - hand) held new)
+  second-taken t = (
+    (λ w p. subst (InHand (arityOf (x .h .edition)) (x .second .variables) w) (sym put-second) (t .0 w p), ap length put-second ∙ t .1 ∙ ap length (second-hand held)),
+    take-put hand (length held - hand) held new (omega arith),
+  )

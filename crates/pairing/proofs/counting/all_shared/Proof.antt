@@ -1,0 +1,16 @@
+-- `pairing::counting::all_shared` meets its contract.
+use Rattle.pairing.proofs.CountCases.{shared-all, shared-less}
+use borrow.Author.Needs.{needs}
+use Rattle.pairing.proofs.counting.all_shared.Statement.{statement}
+use Rattle.pairing.proofs.counting.all_shared.Tie as tie
+use Rattle.pairing.proofs.counting.all_shared.Reads as reads
+use Rattle.pairing.proofs.counting.all_shared.Lts as lts
+
+returns : tie.Need-returns
+returns c = shared-all _ _ _ (search needs)
+
+returns-2 : tie.Need-returns-2
+returns-2 c = shared-less _ _ _ (search needs)
+
+pub all-shared-spec : {M : Type 1} → statement M
+all-shared-spec = tie.close (tie.spec returns returns-2)

@@ -1,0 +1,36 @@
+use Prim.Native.Nat.{ℕ, max}
+use lib.ListN.{length}
+use Rattle.pairing.specs.Counting.{allShared}
+-- `pairing::counting::meet` meets its contract.
+use Rattle.pairing.proofs.NeedLaws.{meets}
+use Rattle.basis.proofs.Tests.{told}
+use mathlib.Core.Path.{_∙_, ap}
+use borrow.Author.Needs.{needs}
+use Rattle.pairing.proofs.counting.meet.Statement.{statement}
+use Rattle.pairing.proofs.counting.meet.Tie as tie
+use Rattle.pairing.proofs.counting.meet.Reads as reads
+use Rattle.pairing.proofs.counting.meet.Lts as lts
+use Rattle.pairing.proofs.counting.all_shared.Reads as all-shared-reads
+use Rattle.pairing.proofs.counting.either.Reads as either-reads
+use Rattle.pairing.proofs.counting.larger.Reads as larger-reads
+use Rattle.sides.proofs.searches.common.Reads as common-reads
+
+common-requires : tie.Need-common-requires
+common-requires c κs = search needs
+
+larger-requires : tie.Need-larger-requires
+larger-requires c κs = search needs
+
+all-shared-requires : tie.Need-all-shared-requires
+all-shared-requires c κs = search needs
+
+either-requires : tie.Need-either-requires
+either-requires c κs = search needs
+
+returns : tie.Need-returns
+returns c = meets (c .before .before .before .before .before .before .args .e) (c .before .before .before .before .before .before .args .other .now) (c .before .before .before .before .before .before .args .form .now) _ (c .before .before .larger .ensures ∙ ap (λ (k : ℕ). max k (c .before .before .before .before .before .before .args .e .shared)) (c .before .before .before .common .ensures)) (c .before .all-shared .result) (c .before .all-shared .ensures ∙ ap (λ (k : ℕ). allShared k (length (c .before .before .before .before .before .before .args .other .now)) (length (c .before .before .before .before .before .before .args .form .now))) (c .before .before .before .common .ensures)) (c .either .ensures)
+
+pub meet-spec : {M : Type 1} → statement M
+meet-spec =
+    tie.close
+    (tie.spec common-requires larger-requires all-shared-requires either-requires returns)
