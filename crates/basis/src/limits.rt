@@ -4,7 +4,9 @@
 pub const MOST_CELLS: usize = 256;
 // The distinct variables in them.
 pub const MOST_VARIABLES: usize = 32;
-// The tokens of a compact form: (3 * MOST_CELLS - 1) / 2.
-pub const MOST_TOKENS: usize = 383;
+// The tokens of a compact form.
+pub const MOST_TOKENS: usize = (3 * MOST_CELLS - 1) / 2;
 // The records of a kind.
 pub const MOST_RECORDS: usize = 1048576;
+// The pairs of a join.
+pub const MOST_PAIRS: usize = 32;

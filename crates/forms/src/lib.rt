@@ -46,6 +46,10 @@ pub enum Answer {
 
 // How many payloads a kind has: the kind is the cell divided by it, and the payload is the remainder.
 const PAYLOADS: u32 = 268435456;
+// How many arities a functor can have in edition 1 and in edition 2: the arity is the remainder of its payload.
+const ARITIES_IN_1: u32 = 16;
+
+const ARITIES_IN_2: u32 = 256;
 // The empty list [], which is atom 0.
 pub const NIL: u32 = 2 * PAYLOADS;
 // The pair of pair form.
@@ -110,9 +114,9 @@ fn arity_of(edition: u32, payload: u32) -> usize
     ensures { λ r. ⌜ r ≡ arityOf edition payload ⌝ }
 {
     if edition == 1 {
-        return basis::wide(payload % 16);
+        return basis::wide(payload % ARITIES_IN_1);
     }
-    basis::wide(payload % 256)
+    basis::wide(payload % ARITIES_IN_2)
 }
 
 // The shape of a cell.

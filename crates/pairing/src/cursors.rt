@@ -3,6 +3,7 @@ use super::Cursor;
 use super::Found;
 use super::Match;
 use super::Sides;
+use parts::HAND;
 use parts::Together;
 use parts::matches;
 use parts::put_together;
@@ -18,11 +19,8 @@ ghost use Rattle.pairing.specs.Pairing.{FirstTakeable, TakesFirst, Secon
 ghost use Rattle.pairing.specs.Pairing.{HandsComparable, HandsCompare, HandsCopyable, HandsCopied};
 ghost use Rattle.pairing.specs.Pairing.{Known, Compared, Stands, Finds, matchAt, Advances};
 
-// The cells of an answer in hand: where its terms begin, and its tokens. The first's answer is in the first of two
-// hands, the second's in the other.
-pub const HAND: usize = 416;
-
-pub const HANDS: usize = 832;
+// The cells of two hands: the first's answer is in the one, the second's in the other.
+pub const HANDS: usize = 2 * HAND;
 
 // Cells that most paths do not fill. Cells are cleared before they are lent.
 const FEW: usize = 32;

@@ -7,11 +7,14 @@ mod tokens;
 
 use basis::limits::MOST_CELLS;
 use basis::limits::MOST_TOKENS;
+use basis::limits::MOST_VARIABLES;
 ghost use Rattle.basis.specs.Moments.{old, new};
 ghost use Rattle.parts.specs.Hands.{Takeable, Taken, Comparable, Compares, Copyable, Copies};
 
-// Where the tokens of an answer in hand begin: behind the places of 32 terms and an end.
-pub const HANDED: usize = 33;
+// Where the tokens of an answer in hand begin: behind the places of its terms and an end.
+pub const HANDED: usize = MOST_VARIABLES + 1;
+// The cells of an answer in hand.
+pub const HAND: usize = HANDED + MOST_TOKENS;
 
 // What putting terms together gives: the tokens of their form, or that they are over 256 cells.
 pub enum Together {

@@ -1,3 +1,4 @@
+pub mod PathCases
 pub mod ReadsCases
 pub mod ReadsForms
 pub mod ReadsInstance

@@ -1,4 +1,6 @@
 // Each call of a session: its fields are read, the call is made, and its answer is put into a text.
+use crate::CELL_BYTES;
+use crate::LONGEST_LINE;
 use crate::replies::print_answer;
 use crate::replies::print_bad;
 use crate::replies::print_call;
@@ -24,8 +26,8 @@ ghost use Rattle.session.specs.Asking.{Askable, AskableCells, AskableOut
 ghost use Rattle.session.specs.Asking.{Asks, AsksReading, callAt, answerAt, finishAt, nextAt, countsAt};
 ghost use Rattle.session.specs.Asking.{loadSaid, instanceSaid, LoadPrints, InstancePrints};
 
-// Cells for all that a line of 4,096 bytes has room for: 9 bytes each.
-const LINE_CELLS: usize = 456;
+// Cells for all that the longest line has room for.
+const LINE_CELLS: usize = LONGEST_LINE / CELL_BYTES + 1;
 
 // call, with cells.
 pub fn ask_call(line: &[u8], at: usize, space: &mut [u32], text: &mut [u8]) -> usize

@@ -1,4 +1,5 @@
 // What the pairs and the copies of a join name.
+use basis::limits::MOST_PAIRS;
 use basis::wide;
 ghost use mathlib.Core.Path.{_≡_};
 ghost use Prim.Native.Nat.{_≤_};
@@ -6,9 +7,7 @@ ghost use Rattle.basis.specs.Moments.{old};
 ghost use Rattle.plain.specs.Joins.{pairsNamed, copiesNamed, named};
 ghost use Rattle.sides.specs.Names.{variablesOf};
 
-// The most pairs, and their cells: two to each.
-const MOST_PAIRS: usize = 32;
-
+// The cells of the most pairs: two to each.
 const PAIR_CELLS: usize = 2 * MOST_PAIRS;
 
 // The variables of the source on a side: 0 where there is no such side.

@@ -1,6 +1,8 @@
 // Words, numbers and cells put into a text as bytes, each behind what was put before it.
 use super::CELL_DIGITS;
 use super::DECIMAL;
+use super::FROM_LETTER;
+use super::FROM_ZERO;
 use super::HEXADECIMAL;
 ghost use mathlib.Core.Path.{_≡_};
 ghost use mathlib.Core.Bool.{_&&_};
@@ -25,15 +27,23 @@ pub fn put(bytes: &[u8], text: &mut [u8], at: usize) -> usize
     at + i
 }
 
-// A digit's byte: 48 is '0', and 87 more than ten is 'a'.
+// The same as numbers.
+const ZERO: u32 = FROM_ZERO as u32;
+
+const LETTER: u32 = FROM_LETTER as u32;
+
+// The most digits of a cell, in any base from ten on: a 32-bit number is below 10^10.
+const MOST_DIGITS: usize = 10;
+
+// A digit's byte.
 fn digit_text(d: u32) -> u8
     requires { ⌜ d < 16 ⌝ }
     ensures { λ r. ⌜ r ≡ digitText d ⌝ }
 {
-    if d < 10 {
-        return (48 + d) as u8;
+    if d < DECIMAL {
+        return (ZERO + d) as u8;
     }
-    (87 + d) as u8
+    (LETTER + d) as u8
 }
 
 // Nothing is left of the number, and as many digits are made as the width asks for.
@@ -46,15 +56,14 @@ fn all_made(left: u32, made: usize, width: usize) -> bool
     false
 }
 
-// The number's digits, from the lowest on, fill the buffer from its end; the answer is where they
-// start. Ten places are enough, since a 32-bit number is below 10^10.
+// The number's digits, from the lowest on, fill the buffer from its end; the answer is where they start.
 fn fill(n: u32, base: u32, width: usize, buffer: &mut [u8]) -> usize
     requires { ⌜ (10 ≤ base) × (base ≤ 16) × (width ≤ 10) × (length (now buffer) ≡ 10) ⌝ }
     ensures { λ r. ⌜ (r ≤ 10) × (drop r (new buffer) ≡ digits base width n) ⌝ }
 {
     let mut left = n;
-    let mut i: usize = 10;
-    while !all_made(left, 10 - i, width) {
+    let mut i: usize = MOST_DIGITS;
+    while !all_made(left, MOST_DIGITS - i, width) {
         i -= 1;
         buffer[i] = digit_text(left % base);
         left /= base;
@@ -67,7 +76,7 @@ pub fn put_field(n: u32, base: u32, width: usize, text: &mut [u8], at: usize) ->
     requires { ⌜ (10 ≤ base) × (base ≤ 16) × (width ≤ 10) × (at + 11 < length (now text)) ⌝ }
     ensures { λ r. ⌜ Puts at (32 ∷ digits base width n) (old text) r (new text) ⌝ }
 {
-    let mut buffer = [0u8; 10];
+    let mut buffer = [0u8; MOST_DIGITS];
     let first = fill(n, base, width, &mut buffer);
     text[at] = b' ';
     put(&buffer[first..], text, at + 1)

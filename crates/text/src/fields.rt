@@ -2,6 +2,8 @@
 use super::CELL_DIGITS;
 use super::CellsRead;
 use super::DECIMAL;
+use super::FROM_LETTER;
+use super::FROM_ZERO;
 use super::HEXADECIMAL;
 use super::NUMBER_DIGITS;
 use super::Numeral;
@@ -30,10 +32,10 @@ fn digit_of(b: u8) -> u32
     ensures { λ d. ⌜ d ≡ digitOf b ⌝ }
 {
     if is_between(b, b'0', b'9') {
-        return (b - 48) as u32;
+        return (b - FROM_ZERO) as u32;
     }
     if is_between(b, b'a', b'f') {
-        return (b - 87) as u32;
+        return (b - FROM_LETTER) as u32;
     }
     HEXADECIMAL
 }

@@ -8,6 +8,10 @@ pub const DECIMAL: u32 = 10;
 
 // The base of cells.
 pub const HEXADECIMAL: u32 = 16;
+// The byte of a digit below ten, and of a higher one, less the digit.
+pub const FROM_ZERO: u8 = b'0';
+
+pub const FROM_LETTER: u8 = b'a' - 10;
 
 // A number that is read has at most so many digits.
 pub const NUMBER_DIGITS: usize = 7;

@@ -62,11 +62,14 @@ const NUMBERS: u32 = 268435456;
 
 // ---- result words
 
+// A unit of the upper half.
+const UPPER: u64 = 4294967296;
+
 // What was answered in the upper half, its value in the lower; two cells always fit a word.
 pub fn result_word(what: u32, value: u32) -> u64
     ensures { λ r. ⌜ r ≡ worded what value ⌝ }
 {
-    what as u64 * 4294967296 + value as u64
+    what as u64 * UPPER + value as u64
 }
 
 // The word of a refusal without a value: of every one but 12. A bound keeps the sum within a cell.

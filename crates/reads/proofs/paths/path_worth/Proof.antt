@@ -1,40 +1,25 @@
 -- `reads::paths::path_worth` meets its contract.
 use Rattle.reads.proofs.ReadsForms.{worth-same, worth-lost}
-use Rattle.reads.proofs.ReadsCases.{path-there}
-use Rattle.trie.specs.Paths.{tokens}
-use Rattle.trie.specs.Runs.{levels, pathCells, pathTo, pathBy, Begun, Found}
+use Rattle.reads.proofs.PathCases.{Stands, short-stands, long-stands}
+use Rattle.trie.specs.Runs.{levels, pathCells, pathTo, Begun}
 use Rattle.trie.specs.declared.Short.the-variants as short
-use Rattle.trie.specs.declared.Gathered.the-variants.{Tokens}
 use Prim.Native.Nat.{_-_}
-use mathlib.Core.Path.{_≡_, _∙_}
-use lib.ListN.{length, take, drop}
+use mathlib.Core.Path.{_∙_}
 use native.Mathlib.Omega.{arith}
 use borrow.Author.Needs.{needs}
 use Rattle.reads.proofs.paths.path_worth.Statement.{statement}
 use Rattle.reads.proofs.paths.path_worth.Tie as tie
 
 -- where a short path stands
-whole : (x : tie.After-short) → Begun (x .before .before .before .before .before .args .space .now) (x .before .before .before .before .before .args .end) (short.Whole (x .short .given .0 .0)) (x .before .before .short-path .last .1 .1 .0)
-whole x = rw (x .short .given .1) at (x .before .before .short-path .ensures .0)
-
-few : (x : tie.After-short) → length (x .before .before .short-path .last .1 .1 .0) ≡ levels
-few x = x .before .before .short-path .ensures .1
-
-short-there : (x : tie.After-short) → tokens (take (levels - x .short .given .0 .0) (drop (x .short .given .0 .0) (x .before .before .short-path .last .1 .1 .0))) ≡ (pathTo (x .before .before .before .before .before .args .space .now) (x .before .before .before .before .before .args .end))
-short-there x = path-there (pathTo (x .before .before .before .before .before .args .space .now) (x .before .before .before .before .before .args .end)) (x .before .before .short-path .last .1 .1 .0) (levels - x .short .given .0 .0) (x .short .given .0 .0) (omega (arith, whole x .0, few x)) (whole x .1)
+short-one : (x : tie.After-short) → Stands levels (x .short .given .0 .0) (x .before .before .short-path .last .1 .1 .0) (pathTo (x .before .before .before .before .before .args .space .now) (x .before .before .before .before .before .args .end))
+short-one x = short-stands _ _ _ _ _ (x .short .given .1) (x .before .before .short-path .ensures)
 
 -- the node from which a longer one goes on, and where it stands
 longer : (x : tie.After-short2) → Begun (x .before .before .before .before .before .args .space .now) (x .before .before .before .before .before .args .end) (short.Longer (x .short2 .given .0 .0)) (x .before .before .short-path .last .1 .1 .0)
 longer x = rw (x .short2 .given .1) at (x .before .before .short-path .ensures .0)
 
-long : (x : tie.After-long) → Found (pathBy (x .before .before .before .before .before .before .before .before .before .before .before .before .args .space .now) (x .before .before .before .before .before .before .before .before .before .before .before .before .args .end) (x .before .before .before .before .before .before .before .short2 .given .0 .0) (x .before .before .before .before .before .before .before .before .before .short-path .last .1 .1 .0)) (Tokens (x .long .given .0 .0)) (x .before .before .before .long-path .last .1 .1 .1 .1 .0)
-long x = rw (x .long .given .1) at (x .before .before .before .long-path .ensures .0)
-
-many : (x : tie.After-long) → length (x .before .before .before .long-path .last .1 .1 .1 .1 .0) ≡ pathCells
-many x = x .before .before .before .long-path .ensures .1
-
-long-there : (x : tie.After-long) → tokens (take (pathCells - x .long .given .0 .0) (drop (x .long .given .0 .0) (x .before .before .before .long-path .last .1 .1 .1 .1 .0))) ≡ (pathTo (x .before .before .before .before .before .before .before .before .before .before .before .before .args .space .now) (x .before .before .before .before .before .before .before .before .before .before .before .before .args .end))
-long-there x = path-there (pathTo (x .before .before .before .before .before .before .before .before .before .before .before .before .args .space .now) (x .before .before .before .before .before .before .before .before .before .before .before .before .args .end)) (x .before .before .before .long-path .last .1 .1 .1 .1 .0) (pathCells - x .long .given .0 .0) (x .long .given .0 .0) (omega (arith, long x .0, many x)) (longer (x .before .before .before .before .before .before .before) .1 ∙ long x .1)
+long-one : (x : tie.After-long) → Stands pathCells (x .long .given .0 .0) (x .before .before .before .long-path .last .1 .1 .1 .1 .0) (pathTo (x .before .before .before .before .before .before .before .before .before .before .before .before .args .space .now) (x .before .before .before .before .before .before .before .before .before .before .before .before .args .end))
+long-one x = long-stands (x .before .before .before .before .before .before .before .before .before .before .before .before .args .space .now) (x .before .before .before .before .before .before .before .before .before .before .before .before .args .end) _ (x .before .before .before .before .before .before .before .short2 .given .0 .0) (x .before .before .before .before .before .before .before .before .before .short-path .last .1 .1 .0) _ _ (longer (x .before .before .before .before .before .before .before) .1) (x .long .given .1) (x .before .before .before .long-path .ensures)
 
 short-path-requires : tie.Need-short-path-requires
 short-path-requires c κs = search needs
@@ -43,13 +28,13 @@ enum-known-short : tie.Need-enum-known-short
 enum-known-short c = search needs
 
 mul-form-worth : tie.Need-mul-form-worth
-mul-form-worth c = omega (arith, whole (c .before) .0, few (c .before))
+mul-form-worth c = omega (arith, short-one (c .before) .0, short-one (c .before) .1)
 
 sub-form-worth : tie.Need-sub-form-worth
-sub-form-worth c = omega (arith, whole (c .before) .0, few (c .before))
+sub-form-worth c = omega (arith, short-one (c .before) .0, short-one (c .before) .1)
 
 part-form-worth-start : tie.Need-part-form-worth-start
-part-form-worth-start c = omega (arith, whole (c .before .before) .0, few (c .before .before))
+part-form-worth-start c = omega (arith, short-one (c .before .before) .0, short-one (c .before .before) .1)
 
 part-form-worth-end : tie.Need-part-form-worth-end
 part-form-worth-end c = search needs
@@ -70,13 +55,13 @@ enum-known-long : tie.Need-enum-known-long
 enum-known-long c = search needs
 
 mul-form-worth-2 : tie.Need-mul-form-worth-2
-mul-form-worth-2 c = omega (arith, long (c .before) .0, many (c .before))
+mul-form-worth-2 c = omega (arith, long-one (c .before) .0, long-one (c .before) .1)
 
 sub-form-worth-2 : tie.Need-sub-form-worth-2
-sub-form-worth-2 c = omega (arith, long (c .before) .0, many (c .before))
+sub-form-worth-2 c = omega (arith, long-one (c .before) .0, long-one (c .before) .1)
 
 part-form-worth-start-2 : tie.Need-part-form-worth-start-2
-part-form-worth-start-2 c = omega (arith, long (c .before .before) .0, many (c .before .before))
+part-form-worth-start-2 c = omega (arith, long-one (c .before .before) .0, long-one (c .before .before) .1)
 
 part-form-worth-end-2 : tie.Need-part-form-worth-end-2
 part-form-worth-end-2 c = search needs
@@ -91,10 +76,10 @@ enum-told-2 : tie.Need-enum-told-2
 enum-told-2 c = search needs
 
 returns : tie.Need-returns
-returns c = worth-same (c .before .before .before .before .before .before .before .before .before .args .edition) (c .before .before .before .before .before .before .before .before .before .args .m) (c .before .before .before .before .before .before .before .before .before .args .called) _ (pathTo (c .before .before .before .before .before .before .before .before .before .args .space .now) (c .before .before .before .before .before .before .before .before .before .args .end)) (c .form-worth .result) (short-there (c .before .before .before .before)) (c .form-worth .ensures)
+returns c = worth-same (c .before .before .before .before .before .before .before .before .before .args .edition) (c .before .before .before .before .before .before .before .before .before .args .m) (c .before .before .before .before .before .before .before .before .before .args .called) _ (pathTo (c .before .before .before .before .before .before .before .before .before .args .space .now) (c .before .before .before .before .before .before .before .before .before .args .end)) (c .form-worth .result) (short-one (c .before .before .before .before) .2) (c .form-worth .ensures)
 
 returns-2 : tie.Need-returns-2
-returns-2 c = worth-same (c .before .before .before .before .before .before .before .before .before .before .before .before .before .before .before .before .args .edition) (c .before .before .before .before .before .before .before .before .before .before .before .before .before .before .before .before .args .m) (c .before .before .before .before .before .before .before .before .before .before .before .before .before .before .before .before .args .called) _ (pathTo (c .before .before .before .before .before .before .before .before .before .before .before .before .before .before .before .before .args .space .now) (c .before .before .before .before .before .before .before .before .before .before .before .before .before .before .before .before .args .end)) (c .form-worth2 .result) (long-there (c .before .before .before .before)) (c .form-worth2 .ensures)
+returns-2 c = worth-same (c .before .before .before .before .before .before .before .before .before .before .before .before .before .before .before .before .args .edition) (c .before .before .before .before .before .before .before .before .before .before .before .before .before .before .before .before .args .m) (c .before .before .before .before .before .before .before .before .before .before .before .before .before .before .before .before .args .called) _ (pathTo (c .before .before .before .before .before .before .before .before .before .before .before .before .before .before .before .before .args .space .now) (c .before .before .before .before .before .before .before .before .before .before .before .before .before .before .before .before .args .end)) (c .form-worth2 .result) (long-one (c .before .before .before .before) .2) (c .form-worth2 .ensures)
 
 returns-3 : tie.Need-returns-3
 returns-3 c = worth-lost (c .before .before .before .before .before .before .before .before .before .before .before .before .args .edition) (c .before .before .before .before .before .before .before .before .before .before .before .before .args .m) (c .before .before .before .before .before .before .before .before .before .before .before .before .args .called) (pathTo (c .before .before .before .before .before .before .before .before .before .before .before .before .args .space .now) (c .before .before .before .before .before .before .before .before .before .before .before .before .args .end)) (longer (c .before .before .before .before .before .before .before) .1 ∙ (rw (c .enum-told .given .1) at (c .before .before .before .long-path .ensures .0)))
