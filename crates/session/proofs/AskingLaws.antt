@@ -18,7 +18,7 @@ use Rattle.plain.specs.Requests.{Request, Reply, call, answer, finish, next, co
 use Rattle.store.specs.Calls.{spaceStep}
 use Rattle.session.specs.Lines.{Meaning, bad, asks, withCells, withNumber, oneNumber, twoNumbers, numberAndCells, noField, wordCall, wordAnswer, wordFinish, wordNext, wordLoad, wordInstance, wordCounts, wordMeans, means, meansCall, meansAnswer, meansFinish, meansNext, meansLoad, meansInstance, meansCounts}
 use Rattle.text.specs.Cutting.{newline}
-use Rattle.session.specs.Texts.{textBad, replyText, textRoom}
+use Rattle.replies.specs.Texts.{textBad, replyText, textRoom}
 use Rattle.session.specs.Session.{Said, outLeft, says, Response, response, responding}
 use Rattle.session.specs.Asking.{Prints, WordPuts, wordSaid, keywordOf}
 use Rattle.session.specs.declared.Keyword.{Keyword}

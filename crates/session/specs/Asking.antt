@@ -13,7 +13,7 @@ use Rattle.session.specs.Lines.{Meaning, meansCall, meansAnswer, meansFi
 use Rattle.session.specs.Lines.{meansInstance, meansCounts, wordMeans, means, longestLine}
 use Rattle.session.specs.Lines.{wordCall, wordAnswer, wordFinish, wordNext, wordLoad, wordInstance, wordCounts}
 use Rattle.session.specs.Session.{Said, says}
-use Rattle.session.specs.Texts.{replyBytes, textRoom}
+use Rattle.replies.specs.Texts.{replyBytes, textRoom}
 use Rattle.session.specs.declared.Keyword.{Keyword}
 use Rattle.session.specs.declared.Keyword.the-variants as keyword
 

@@ -31,10 +31,12 @@ use Rattle.text.specs.Digits.{digitsBefore, cellTexts}
 use Rattle.text.specs.Letters.{letters}
 use Rattle.text.specs.Cutting.{linesFrom, linesOf}
 use Rattle.session.specs.Lines.{wordMeans, means, bad, asks}
-use Rattle.session.specs.Texts.{replyText, textRoom}
+use Rattle.replies.specs.Texts.{replyText, textRoom}
 use Rattle.session.specs.Numbers.{sessionEdition, sessionNodes, sessionSubgoals, sessionAnswers}
 use Rattle.session.specs.Numbers.{spaceCells, outCells, textBytes}
 use Rattle.session.specs.Session.{says, session, cellSession}
+use Rattle.session.specs.Asking.{keywordOf}
+use Rattle.session.specs.declared.Keyword.the-variants as keyword
 
 -- what lines mean: two spaces, a trailing space, a cell of 7 digits, a number too many and an empty line are bad
 pub examples :
@@ -69,6 +71,15 @@ pub numbers :
     × (textBytes ≡ 73792)
 unfolding subgoalWidth answerWidth
 numbers = (refl, refl, refl)
+
+-- a keyword is a whole word
+pub keywords :
+    (keywordOf (letters "load") ≡ keyword.Load)
+    × (keywordOf (letters "counts") ≡ keyword.Counts)
+    × (keywordOf (letters "loads") ≡ keyword.Other)
+    × (keywordOf [] ≡ keyword.Other)
+unfolding same
+keywords = (refl, refl, refl, refl)
 
 -- the worked session
 abbrev sessionInput : List ℕ

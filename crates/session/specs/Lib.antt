@@ -1,5 +1,4 @@
 pub mod Lines
-pub mod Texts
 pub mod Numbers
 pub mod Session
 pub mod Asking

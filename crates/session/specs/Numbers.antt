@@ -4,7 +4,7 @@ use mathlib.Core.List.{List}
 use Rattle.space.specs.Fresh.{freshAnswerIn, freshSpaceIn}
 use Rattle.space.specs.declared.FreshAnswer.{FreshAnswer}
 use Rattle.session.specs.Lines.{longestLine}
-use Rattle.session.specs.Texts.{textRoom}
+use Rattle.replies.specs.Texts.{textRoom}
 
 abbrev pub sessionEdition : ℕ
 sessionEdition = 1

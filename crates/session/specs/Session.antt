@@ -13,7 +13,7 @@ use Rattle.space.specs.declared.FreshAnswer.the-variants.{Done}
 use Rattle.store.specs.Calls.{spaceStep}
 use Rattle.text.specs.Cutting.{newline}
 use Rattle.session.specs.Lines.{Meaning, bad, asks, means}
-use Rattle.session.specs.Texts.{textBad, replyText, textRoom}
+use Rattle.replies.specs.Texts.{textBad, replyText, textRoom}
 use Rattle.session.specs.Numbers.{sessionEdition}
 
 -- the line printed, its newline not counted, the table and out

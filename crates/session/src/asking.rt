@@ -1,17 +1,17 @@
 // Each call of a session: its fields are read, the call is made, and its answer is put into a text.
-use crate::CELL_BYTES;
 use crate::LONGEST_LINE;
-use crate::replies::print_answer;
-use crate::replies::print_bad;
-use crate::replies::print_call;
-use crate::replies::print_cells;
-use crate::replies::print_counts;
-use crate::replies::print_finish;
-use crate::replies::print_next;
 use reads::reads::counts;
 use reads::reads::instance;
 use reads::reads::load;
 use reads::reads::next;
+use replies::CELL_BYTES;
+use replies::print_answer;
+use replies::print_bad;
+use replies::print_call;
+use replies::print_cells;
+use replies::print_counts;
+use replies::print_finish;
+use replies::print_next;
 use store::calls::answer;
 use store::calls::call;
 use store::calls::finish;

@@ -1,6 +1,5 @@
 // One line of a session in, one line out; and what the session program starts from.
 pub mod asking;
-pub mod replies;
 pub mod start;
 
 use asking::ask_answer;
@@ -10,8 +9,9 @@ use asking::ask_finish;
 use asking::ask_instance;
 use asking::ask_load;
 use asking::ask_next;
+use replies::CELL_BYTES;
+use replies::REPLY_BYTES;
 use replies::print_bad;
-use text::CELL_DIGITS;
 use text::fields::first_end;
 use text::fields::is_word;
 ghost use mathlib.Core.Path.{_≡_};
@@ -19,19 +19,13 @@ ghost use Prim.Native.Nat.{_≤_};
 ghost use lib.Dec.{leb};
 ghost use lib.ListN.{length};
 ghost use Rattle.basis.specs.Moments.{old, new};
+ghost use Rattle.replies.specs.Texts.{textRoom};
 ghost use Rattle.session.specs.Lines.{longestLine};
-ghost use Rattle.session.specs.Texts.{textRoom};
 ghost use Rattle.session.specs.Asking.{keywordOf, wordSaid, lineSaid, WordPuts, LinePuts};
 ghost use Rattle.session.specs.Session.{responding};
 
 // A line that means something has at most so many bytes, its newline not counted.
 pub const LONGEST_LINE: usize = 4096;
-
-// A cell is printed with a space before it.
-pub const CELL_BYTES: usize = 1 + CELL_DIGITS;
-
-// Besides its cells a reply has fewer bytes than this.
-pub const REPLY_BYTES: usize = 64;
 
 // What a line's first word asks for.
 pub enum Keyword {

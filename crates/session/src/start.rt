@@ -1,7 +1,7 @@
 // What the session program starts from: its table, and the arrays that it lends to `respond` and to `take_line`.
-use crate::CELL_BYTES;
 use crate::LONGEST_LINE;
-use crate::REPLY_BYTES;
+use replies::CELL_BYTES;
+use replies::REPLY_BYTES;
 use space::FreshAnswer;
 use space::fresh::fresh;
 ghost use mathlib.Core.Path.{_≡_};

@@ -11,7 +11,7 @@ use Rattle.session.proofs.reply_or_bad.Statement.{statement}
 use Rattle.session.proofs.reply_or_bad.Tie as tie
 use Rattle.session.proofs.reply_or_bad.Reads as reads
 use Rattle.session.proofs.reply_or_bad.Lts as lts
-use Rattle.session.proofs.replies.print_bad.Reads as print-bad-reads
+use Rattle.replies.proofs.print_bad.Reads as print-bad-reads
 use Rattle.session.proofs.reply.Reads as reply-reads
 
 reply-requires : tie.Need-reply-requires

@@ -11,8 +11,8 @@ use Rattle.session.proofs.asking.ask_counts.Statement.{statement}
 use Rattle.session.proofs.asking.ask_counts.Tie as tie
 use Rattle.session.proofs.asking.ask_counts.Reads as reads
 use Rattle.session.proofs.asking.ask_counts.Lts as lts
-use Rattle.session.proofs.replies.print_bad.Reads as print-bad-reads
-use Rattle.session.proofs.replies.print_counts.Reads as print-counts-reads
+use Rattle.replies.proofs.print_bad.Reads as print-bad-reads
+use Rattle.replies.proofs.print_counts.Reads as print-counts-reads
 use Rattle.reads.proofs.reads.counts.Reads as counts-reads
 
 print-bad-requires : tie.Need-print-bad-requires

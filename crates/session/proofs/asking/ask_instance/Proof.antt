@@ -9,15 +9,15 @@ use Rattle.plain.specs.Requests as request
 use Rattle.store.specs.Replies.{saidCells}
 use Rattle.reads.proofs.ReadsLaws.{instance-fits}
 use Rattle.session.specs.Lines.{oneNumber}
-use Rattle.session.specs.Texts.{replyText}
+use Rattle.replies.specs.Texts.{replyText}
 use Rattle.text.specs.Digits.{Puts}
 use Rattle.session.proofs.AskingLaws.{one-asks, one-bad, bad-leaves, bad-out, asks-leaves, asks-out}
 use Rattle.session.proofs.asking.ask_instance.Statement.{statement}
 use Rattle.session.proofs.asking.ask_instance.Tie as tie
 use Rattle.session.proofs.asking.ask_instance.Reads as reads
 use Rattle.session.proofs.asking.ask_instance.Lts as lts
-use Rattle.session.proofs.replies.print_bad.Reads as print-bad-reads
-use Rattle.session.proofs.replies.print_cells.Reads as print-cells-reads
+use Rattle.replies.proofs.print_bad.Reads as print-bad-reads
+use Rattle.replies.proofs.print_cells.Reads as print-cells-reads
 use Rattle.reads.proofs.reads.instance.Reads as instance-reads
 use Rattle.text.proofs.fields.only_number.Reads as only-number-reads
 

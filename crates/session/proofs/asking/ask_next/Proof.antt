@@ -12,8 +12,8 @@ use Rattle.session.proofs.asking.ask_next.Statement.{statement}
 use Rattle.session.proofs.asking.ask_next.Tie as tie
 use Rattle.session.proofs.asking.ask_next.Reads as reads
 use Rattle.session.proofs.asking.ask_next.Lts as lts
-use Rattle.session.proofs.replies.print_bad.Reads as print-bad-reads
-use Rattle.session.proofs.replies.print_next.Reads as print-next-reads
+use Rattle.replies.proofs.print_bad.Reads as print-bad-reads
+use Rattle.replies.proofs.print_next.Reads as print-next-reads
 use Rattle.reads.proofs.reads.next.Reads as next-reads
 use Rattle.text.proofs.fields.first_number.Reads as first-number-reads
 use Rattle.text.proofs.fields.only_number.Reads as only-number-reads

@@ -1,13 +1,11 @@
 -- `print_answer` meets its contract: each answer by its word.
 use borrow.Author.Needs.{needs}
-use Rattle.session.specs.Texts.{replyText}
-use Rattle.session.specs.Texts.{replyText}
-use Rattle.session.specs.Texts.{replyText}
-use Rattle.session.proofs.replies.print_answer.Statement.{statement}
-use Rattle.session.proofs.replies.print_answer.Tie as tie
-use Rattle.session.proofs.replies.print_answer.Reads as reads
-use Rattle.session.proofs.replies.print_answer.Lts as lts
-use Rattle.session.proofs.replies.print_refused.Reads as print-refused-reads
+use Rattle.replies.specs.Texts.{replyText}
+use Rattle.replies.proofs.print_answer.Statement.{statement}
+use Rattle.replies.proofs.print_answer.Tie as tie
+use Rattle.replies.proofs.print_answer.Reads as reads
+use Rattle.replies.proofs.print_answer.Lts as lts
+use Rattle.replies.proofs.print_refused.Reads as print-refused-reads
 use Rattle.text.proofs.digits.put_numbered.Reads as put-numbered-reads
 
 enum-known-answer : tie.Need-enum-known-answer

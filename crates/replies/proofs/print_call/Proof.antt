@@ -5,13 +5,13 @@ use borrow.Author.Needs.{needs}
 use Rattle.store.specs.Replies.{saidState}
 use Rattle.text.specs.Digits.{numbered}
 use Rattle.text.proofs.DigitsLaws.{decimal-length, puts-append}
-use Rattle.session.specs.Texts.{textOld, stateText, replyText}
-use Rattle.session.proofs.replies.print_call.Statement.{statement}
-use Rattle.session.proofs.replies.print_call.Tie as tie
-use Rattle.session.proofs.replies.print_call.Reads as reads
-use Rattle.session.proofs.replies.print_call.Lts as lts
-use Rattle.session.proofs.replies.print_refused.Reads as print-refused-reads
-use Rattle.session.proofs.replies.put_state.Reads as put-state-reads
+use Rattle.replies.specs.Texts.{textOld, stateText, replyText}
+use Rattle.replies.proofs.print_call.Statement.{statement}
+use Rattle.replies.proofs.print_call.Tie as tie
+use Rattle.replies.proofs.print_call.Reads as reads
+use Rattle.replies.proofs.print_call.Lts as lts
+use Rattle.replies.proofs.print_refused.Reads as print-refused-reads
+use Rattle.replies.proofs.put_state.Reads as put-state-reads
 use Rattle.text.proofs.digits.put_numbered.Reads as put-numbered-reads
 
 enum-known-answer : tie.Need-enum-known-answer

@@ -6,12 +6,12 @@ use borrow.Author.Needs.{needs}
 use Rattle.store.specs.Replies.{saidCells}
 use Rattle.text.specs.Digits.{cellTexts}
 use Rattle.text.proofs.DigitsLaws.{puts-append}
-use Rattle.session.specs.Texts.{textCells, replyText}
-use Rattle.session.proofs.replies.print_cells.Statement.{statement}
-use Rattle.session.proofs.replies.print_cells.Tie as tie
-use Rattle.session.proofs.replies.print_cells.Reads as reads
-use Rattle.session.proofs.replies.print_cells.Lts as lts
-use Rattle.session.proofs.replies.print_refused.Reads as print-refused-reads
+use Rattle.replies.specs.Texts.{textCells, replyText}
+use Rattle.replies.proofs.print_cells.Statement.{statement}
+use Rattle.replies.proofs.print_cells.Tie as tie
+use Rattle.replies.proofs.print_cells.Reads as reads
+use Rattle.replies.proofs.print_cells.Lts as lts
+use Rattle.replies.proofs.print_refused.Reads as print-refused-reads
 use Rattle.text.proofs.digits.put.Reads as put-reads
 use Rattle.text.proofs.digits.put_cells.Reads as put-cells-reads
 

@@ -1,13 +1,11 @@
 -- `print_finish` meets its contract: each answer by its word.
 use borrow.Author.Needs.{needs}
-use Rattle.session.specs.Texts.{replyText}
-use Rattle.session.specs.Texts.{replyText}
-use Rattle.session.specs.Texts.{replyText}
-use Rattle.session.proofs.replies.print_finish.Statement.{statement}
-use Rattle.session.proofs.replies.print_finish.Tie as tie
-use Rattle.session.proofs.replies.print_finish.Reads as reads
-use Rattle.session.proofs.replies.print_finish.Lts as lts
-use Rattle.session.proofs.replies.print_refused.Reads as print-refused-reads
+use Rattle.replies.specs.Texts.{replyText}
+use Rattle.replies.proofs.print_finish.Statement.{statement}
+use Rattle.replies.proofs.print_finish.Tie as tie
+use Rattle.replies.proofs.print_finish.Reads as reads
+use Rattle.replies.proofs.print_finish.Lts as lts
+use Rattle.replies.proofs.print_refused.Reads as print-refused-reads
 use Rattle.text.proofs.digits.put.Reads as put-reads
 
 enum-told : tie.Need-enum-told

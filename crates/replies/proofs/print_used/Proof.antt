@@ -4,11 +4,11 @@ use native.Mathlib.Omega.{arith}
 use borrow.Author.Needs.{needs}
 use Rattle.text.specs.Digits.{numbered, decimalText}
 use Rattle.text.proofs.DigitsLaws.{decimal-length, puts-append}
-use Rattle.session.specs.Texts.{textCounts}
-use Rattle.session.proofs.replies.print_used.Statement.{statement}
-use Rattle.session.proofs.replies.print_used.Tie as tie
-use Rattle.session.proofs.replies.print_used.Reads as reads
-use Rattle.session.proofs.replies.print_used.Lts as lts
+use Rattle.replies.specs.Texts.{textCounts}
+use Rattle.replies.proofs.print_used.Statement.{statement}
+use Rattle.replies.proofs.print_used.Tie as tie
+use Rattle.replies.proofs.print_used.Reads as reads
+use Rattle.replies.proofs.print_used.Lts as lts
 use Rattle.text.proofs.digits.put_field.Reads as put-field-reads
 use Rattle.text.proofs.digits.put_numbered.Reads as put-numbered-reads
 

@@ -8,6 +8,7 @@ use store::CountsAnswer;
 use store::FinishAnswer;
 use store::NextAnswer;
 use store::State;
+use text::CELL_DIGITS;
 use text::DECIMAL;
 use text::digits::put;
 use text::digits::put_cells;
@@ -22,8 +23,14 @@ ghost use Rattle.plain.specs.Requests.{cells, lacksNext};
 ghost use Rattle.store.specs.Replies.{saidState, saidCall, saidAnswer, saidFinish, saidNext, saidCells, saidCounts};
 ghost use Rattle.text.specs.Fields.{space};
 ghost use Rattle.text.specs.Digits.{numbered, Puts};
-ghost use Rattle.session.specs.Texts.{textBad, textRefused, stateText, countsText};
-ghost use Rattle.session.specs.Texts.{replyText, replyBytes, textRoom, PrintsReply};
+ghost use Rattle.replies.specs.Texts.{textBad, textRefused, stateText, countsText};
+ghost use Rattle.replies.specs.Texts.{replyText, replyBytes, textRoom, PrintsReply};
+
+// A cell is printed with a space before it.
+pub const CELL_BYTES: usize = 1 + CELL_DIGITS;
+
+// Besides its cells a reply has fewer bytes than this.
+pub const REPLY_BYTES: usize = 64;
 
 // For a line that means nothing.
 pub fn print_bad(text: &mut [u8]) -> usize

@@ -1,12 +1,12 @@
 -- `print_next` meets its contract: each answer by its word.
 use borrow.Author.Needs.{needs}
-use Rattle.session.specs.Texts.{replyText}
-use Rattle.session.proofs.replies.print_next.Statement.{statement}
-use Rattle.session.proofs.replies.print_next.Tie as tie
-use Rattle.session.proofs.replies.print_next.Reads as reads
-use Rattle.session.proofs.replies.print_next.Lts as lts
-use Rattle.session.proofs.replies.print_refused.Reads as print-refused-reads
-use Rattle.session.proofs.replies.print_lacking.Reads as print-lacking-reads
+use Rattle.replies.specs.Texts.{replyText}
+use Rattle.replies.proofs.print_next.Statement.{statement}
+use Rattle.replies.proofs.print_next.Tie as tie
+use Rattle.replies.proofs.print_next.Reads as reads
+use Rattle.replies.proofs.print_next.Lts as lts
+use Rattle.replies.proofs.print_refused.Reads as print-refused-reads
+use Rattle.replies.proofs.print_lacking.Reads as print-lacking-reads
 use Rattle.text.proofs.digits.put_numbered.Reads as put-numbered-reads
 
 enum-known-answer : tie.Need-enum-known-answer
