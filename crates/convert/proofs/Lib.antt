@@ -1,9 +1,4 @@
-pub mod Storing
-pub mod PairSteps
-pub mod PairTurns
 pub mod ReadingLaws
-pub mod FormSteps
-pub mod FormTurns
 pub mod LoadingLaws
 pub mod CopyLaws
 pub mod AnswerLaws

@@ -1,7 +1,5 @@
 // Compacting and expanding: m terms in pair form to their compact form, and back.
 pub mod buffers;
-mod form_reader;
-mod pair_reader;
 
 use basis::limits::MOST_CELLS;
 use basis::limits::MOST_VARIABLES;
@@ -21,46 +19,22 @@ use buffers::TERMS_OF_SOME;
 use forms::Answer;
 use forms::Loading;
 use forms::Reading;
+use readers::Place;
+use readers::Step;
+use readers::form_reader;
+use readers::pair_reader;
 ghost use mathlib.Core.Path.{_≡_};
 ghost use mathlib.Core.List.{_++_};
-ghost use Prim.Native.Nat.{_+_, _^_, _≤_, _<_};
+ghost use Prim.Native.Nat.{_+_, _≤_, _<_};
 ghost use lib.ListN.{length, take, drop};
 ghost use Rattle.basis.specs.Moments.{old, new};
-ghost use Rattle.convert.specs.Loading.{after};
 ghost use Rattle.convert.specs.Holds.{RoomForForm, RoomForTerms, Reads, Loads, LoadsCounted};
 ghost use Rattle.convert.specs.Holds.{Compacts, CompactsIn, Expands, ExpandsIn};
-
-// Where a reader stands: at the cell that it reads next, before what it writes next, with the variables met so far.
-pub struct Place {
-    pub at: usize,
-    pub to: usize,
-    pub count: usize,
-}
-
-// What a reader answers: the places behind what it read and behind what it wrote, and how many
-// variables were met; or that the cells are malformed.
-pub enum Step {
-    Done(usize, usize, usize),
-    Malformed,
-}
 
 // What loading comes to: the cells written and how many variables there are; or that the cells are no legal form.
 pub enum Loaded {
     Counted(usize, usize),
     Nothing,
-}
-
-// How many variables are met after token c of a numbered form, where `count` were met before it.
-fn met_after(c: u32, count: usize) -> usize
-    requires { ⌜ count + 1 < 2 ^ 64 ⌝ }
-    ensures { λ n. ⌜ n ≡ after count c ⌝ }
-{
-    if forms::is_variable(c) {
-        if forms::payload_of(c) == count {
-            return count + 1;
-        }
-    }
-    count
 }
 
 // Reads the m terms in s, and leaves their compact form at the start of form. vars is for the

@@ -42,7 +42,7 @@ pub extern "C" fn tables_fresh(
 pub extern "C" fn tables_call(space: &mut [u32], term: &[u32]) -> u64
     ensures { λ w. ⌜ Returns (old space) (request.call (old term)) w [] (new space) ⌝ }
 {
-    call_word(store::calls::call(space, term))
+    call_word(calling::call(space, term))
 }
 
 // Finds or enters an answer of a subgoal: its terms one after another, as many as the subgoal has variables.
@@ -50,7 +50,7 @@ pub extern "C" fn tables_call(space: &mut [u32], term: &[u32]) -> u64
 pub extern "C" fn tables_answer(space: &mut [u32], subgoal: u32, terms: &[u32]) -> u64
     ensures { λ w. ⌜ Returns (old space) (request.answer subgoal (old terms)) w [] (new space) ⌝ }
 {
-    answer_word(store::calls::answer(space, subgoal, terms))
+    answer_word(answering::answer(space, subgoal, terms))
 }
 
 // Finishes a subgoal; from then on it takes no answers.
@@ -58,7 +58,7 @@ pub extern "C" fn tables_answer(space: &mut [u32], subgoal: u32, terms: &[u32]) 
 pub extern "C" fn tables_finish(space: &mut [u32], subgoal: u32) -> u64
     ensures { λ w. ⌜ Returns (old space) (request.finish subgoal) w [] (new space) ⌝ }
 {
-    finish_word(store::calls::finish(space, subgoal))
+    finish_word(calling::finish(space, subgoal))
 }
 
 // Joins two finished subgoals into an open one: two cells to a pair, and two to a copy.
@@ -84,7 +84,7 @@ pub extern "C" fn tables_join(
 pub extern "C" fn tables_call_indexed(space: &mut [u32], index: &[u32], term: &[u32]) -> u64
     ensures { λ w. ⌜ ReturnsIndexed (old index) (old space) (request.call (old term)) w [] (new space) ⌝ }
 {
-    call_word(store::calls::call_indexed(space, term, index))
+    call_word(calling::call_indexed(space, term, index))
 }
 
 // As `tables_answer`.
@@ -97,7 +97,7 @@ pub extern "C" fn tables_answer_indexed(
 ) -> u64
     ensures { λ w. ⌜ ReturnsIndexed (old index) (old space) (request.answer subgoal (old terms)) w [] (new space) ⌝ }
 {
-    answer_word(store::calls::answer_indexed(space, subgoal, terms, index))
+    answer_word(answering::answer_indexed(space, subgoal, terms, index))
 }
 
 // As `tables_join`; the target is searched with the index.

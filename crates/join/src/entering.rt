@@ -1,5 +1,6 @@
 // The forms of a join entered, each as a single answer is. The sources are read again meanwhile: their records and
 // paths stay as they are while another subgoal is answered.
+use answering::answer_at;
 use basis::limits::MOST_TOKENS;
 use pairing::Match;
 use pairing::Sides;
@@ -10,7 +11,6 @@ use space::Head;
 use space::Header;
 use space::heading::read_header;
 use space::records::subgoal_in;
-use store::calls::answer_at;
 ghost use mathlib.Core.Path.{_≡_};
 ghost use Rattle.basis.specs.Moments.{old, new};
 ghost use Rattle.trie.specs.Index.{searchIndexed};

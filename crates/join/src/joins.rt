@@ -2,6 +2,7 @@
 use super::Numbers;
 use super::Parties;
 use super::entering::enter;
+use answering::last_sound;
 use basis::refusals::LENGTH;
 use basis::refusals::NAMES;
 use basis::refusals::NODES;
@@ -29,7 +30,6 @@ use space::heading::read_header;
 use space::records::read_node;
 use space::records::read_subgoal;
 use store::JoinAnswer;
-use store::calls::last_sound;
 ghost use mathlib.Core.Path.{_≡_};
 ghost use mathlib.Core.List.{[]};
 ghost use Prim.Native.Nat.{_≤_, _<_, _^_};

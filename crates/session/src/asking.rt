@@ -1,5 +1,8 @@
 // Each call of a session: its fields are read, the call is made, and its answer is put into a text.
 use crate::LONGEST_LINE;
+use answering::answer;
+use calling::call;
+use calling::finish;
 use reads::reads::counts;
 use reads::reads::instance;
 use reads::reads::load;
@@ -12,9 +15,6 @@ use replies::print_cells;
 use replies::print_counts;
 use replies::print_finish;
 use replies::print_next;
-use store::calls::answer;
-use store::calls::call;
-use store::calls::finish;
 use text::CellsRead;
 use text::Numeral;
 use text::fields::first_number;

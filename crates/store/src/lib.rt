@@ -1,5 +1,5 @@
-// The calls on a space that the caller lends: what the eight answer, and those that write one record.
-pub mod calls;
+// What the eight calls on a space answer. What each decides and writes is defined in specs; the code that does it is in
+// the crates above: calling, answering, reads and join.
 
 // A subgoal is open or finished.
 pub enum State {

@@ -17,7 +17,7 @@ use Rattle.session.proofs.asking.ask_answer.Reads as reads
 use Rattle.session.proofs.asking.ask_answer.Lts as lts
 use Rattle.replies.proofs.print_answer.Reads as print-answer-reads
 use Rattle.replies.proofs.print_bad.Reads as print-bad-reads
-use Rattle.store.proofs.calls.answer.Reads as answer-reads
+use Rattle.answering.proofs.answer.Reads as answer-reads
 use Rattle.text.proofs.fields.first_number.Reads as first-number-reads
 use Rattle.text.proofs.fields.read_cells.Reads as read-cells-reads
 

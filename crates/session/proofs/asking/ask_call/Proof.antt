@@ -15,7 +15,7 @@ use Rattle.session.proofs.asking.ask_call.Reads as reads
 use Rattle.session.proofs.asking.ask_call.Lts as lts
 use Rattle.replies.proofs.print_bad.Reads as print-bad-reads
 use Rattle.replies.proofs.print_call.Reads as print-call-reads
-use Rattle.store.proofs.calls.call.Reads as call-reads
+use Rattle.calling.proofs.call.Reads as call-reads
 use Rattle.text.proofs.fields.read_cells.Reads as read-cells-reads
 
 slice-aggregate-read-cells : tie.Need-slice-aggregate-read-cells

@@ -11,7 +11,7 @@ use Rattle.session.proofs.asking.ask_finish.Reads as reads
 use Rattle.session.proofs.asking.ask_finish.Lts as lts
 use Rattle.replies.proofs.print_bad.Reads as print-bad-reads
 use Rattle.replies.proofs.print_finish.Reads as print-finish-reads
-use Rattle.store.proofs.calls.finish.Reads as finish-reads
+use Rattle.calling.proofs.finish.Reads as finish-reads
 use Rattle.text.proofs.fields.only_number.Reads as only-number-reads
 
 only-number-requires : tie.Need-only-number-requires

@@ -1,0 +1,5 @@
+pub mod Storing
+pub mod PairSteps
+pub mod PairTurns
+pub mod FormSteps
+pub mod FormTurns
