@@ -11,8 +11,8 @@ use lib.Seq.{sets, take-all}
 use lib.Dec.{eqb, leb}
 use borrow.Author.Tests.{eqb-true, eqb-false, eq-eqb, ne-eqb, le-leb, lt-leb, leb-true, leb-false}
 use Rattle.basis.specs.Choice.{pick}
-use Rattle.readers.specs.declared.Step.{Step}
-use Rattle.readers.specs.declared.Step.the-variants.{Done, Malformed}
+use Rattle.forms.specs.declared.Step.{Step}
+use Rattle.forms.specs.declared.Step.the-variants.{Done, Malformed}
 use Rattle.forms.specs.declared.Loading.{Loading}
 use Rattle.forms.specs.declared.Loading.the-variants.{Terms, NoForm}
 use Rattle.forms.specs.Cells.{kind, payload, tag, variable, shapeOf, tokenOf}
@@ -25,8 +25,8 @@ use Rattle.forms.proofs.CompactLaws.{same-length-empty}
 use Rattle.forms.proofs.FormLaws.{every-compact-short, every-pairs-least, every-pairs-size}
 use Rattle.forms.proofs.ExactLaws.{front-every, forms-every, forms-compact, compact-forms}
 use Rattle.forms.proofs.RoundTrip.{same-self, same-true, LegalParts, parts-legal, legal-parts}
-use Rattle.readers.specs.Readers.{numberedFrom}
-use Rattle.readers.specs.Loading.{inOrder, after, ordered, counted, itemsAt, Span, FormsRan}
+use Rattle.pair_reader.specs.Storing.{numberedFrom}
+use Rattle.form_reader.specs.Loading.{inOrder, after, ordered, counted, itemsAt, Span, FormsRan}
 use Rattle.convert.specs.Holds.{HoldsTerms}
 use Rattle.convert.proofs.ReadingLaws.{numbered-whole, sets-taken}
 

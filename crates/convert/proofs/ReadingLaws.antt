@@ -9,8 +9,8 @@ use lib.Seq.{sets, take-all, take-at, sets-eq}
 use lib.Dec.{eqb, leb, ltb}
 use borrow.Author.Tests.{eq-eqb, lt-ltb, le-ltb}
 use Rattle.basis.specs.Choice.{pick}
-use Rattle.readers.specs.declared.Step.{Step}
-use Rattle.readers.specs.declared.Step.the-variants.{Done, Malformed}
+use Rattle.forms.specs.declared.Step.{Step}
+use Rattle.forms.specs.declared.Step.the-variants.{Done, Malformed}
 use Rattle.forms.specs.declared.Reading.{Reading}
 use Rattle.forms.specs.declared.Reading.the-variants.{Form, Refusal}
 use Rattle.forms.specs.Cells.{variable, shapeOf, tag}
@@ -24,10 +24,10 @@ use Rattle.forms.proofs.NumberingLaws.{In, rank-append, in-seen, in-seen-self}
 use Rattle.forms.proofs.FormLaws.{met-every, every-pairs-least}
 use Rattle.forms.proofs.ExactLaws.{terms-pairs}
 use Rattle.forms.proofs.RoundTrip.{form-numbered, form-size}
-use Rattle.readers.specs.Readers.{numberedFrom, Stored, termsAt, TermsRan}
+use Rattle.pair_reader.specs.Storing.{numberedFrom, Stored, termsAt, TermsRan}
 use Rattle.convert.specs.Holds.{HoldsForm}
-use Rattle.readers.proofs.Storing.{numbered-length}
-use Rattle.readers.proofs.PairSteps.{at-after, at-end}
+use Rattle.pair_reader.proofs.StoringLaws.{numbered-length}
+use Rattle.pair_reader.proofs.PairSteps.{at-after, at-end}
 
 -- ---- numbering on the way is numbering
 

@@ -23,6 +23,20 @@ pub enum Token {
     Other,
 }
 
+// Where a reader stands: at the cell that it reads next, before what it writes next, with the variables met so far.
+pub struct Place {
+    pub at: usize,
+    pub to: usize,
+    pub count: usize,
+}
+
+// What a reader answers: the places behind what it read and behind what it wrote, and how many
+// variables were met; or that the cells are malformed.
+pub enum Step {
+    Done(usize, usize, usize),
+    Malformed,
+}
+
 // What reading terms gives: the tokens of their form and the distinct variables in it, or the number
 // of a refusal.
 pub enum Reading {

@@ -18,8 +18,8 @@ use Rattle.forms.proofs.ShapeLaws.{pair-cell-of}
 use Rattle.forms.proofs.ReadLaws.{compact-size, reads-within}
 use Rattle.forms.proofs.FormLaws.{every-pairs-least}
 use Rattle.forms.proofs.DueLaws.{cellsOf, each-end, due-next, due-within}
-use Rattle.readers.specs.Readers.{termsAt}
-use Rattle.readers.proofs.Storing.{sets-append}
+use Rattle.pair_reader.specs.Storing.{termsAt}
+use Rattle.basis.proofs.SetsLaws.{sets-append}
 use Rattle.plain.proofs.Instances.{every-suc}
 use Rattle.instances.specs.Instances.{Placed, AllPlaced, width, needed, replaced, instanceCells}
 

@@ -26,7 +26,7 @@ use Rattle.forms.proofs.ExactLaws.{pair-shape, forms-well-formed, forms-compact
 use Rattle.forms.proofs.RoundTrip.{pair-variables, legal-parts}
 use Rattle.forms.proofs.Theorems.{loaded}
 use Rattle.forms.proofs.DueLaws.{cellsOf}
-use Rattle.readers.specs.Readers.{termsAt}
+use Rattle.pair_reader.specs.Storing.{termsAt}
 use Rattle.convert.proofs.AnswerLaws.{taken-room, loading-length}
 use Rattle.plain.specs.Coding.{compactCoding}
 use Rattle.plain.proofs.Instances.{spread, substituted-every, every-suc}

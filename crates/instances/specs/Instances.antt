@@ -9,7 +9,7 @@ use lib.Seq.{sets, slice}
 use Rattle.basis.specs.Choice.{pick}
 use Rattle.forms.specs.Cells.{payload, variable, arityOf}
 use Rattle.forms.specs.Terms.{Term, pairs, every}
-use Rattle.readers.specs.Readers.{termsAt}
+use Rattle.pair_reader.specs.Storing.{termsAt}
 
 -- each of the first m terms starts at its place, and the place after the last is where it ends
 abbrev pub StartsAt : List Term → ℕ → List ℕ → Type 0

@@ -2,9 +2,9 @@
 use mathlib.Core.Path.{_≡_, refl, sym, ap, _∙_, subst}
 use native.Mathlib.Omega.{arith}
 use lib.ListN.{length}
-use Rattle.readers.specs.declared.Step.the-variants.{Done, Malformed}
+use Rattle.forms.specs.declared.Step.the-variants.{Done, Malformed}
 use Rattle.forms.specs.Cells.{arityOf}
-use Rattle.readers.specs.Loading.{FormsRan}
+use Rattle.form_reader.specs.Loading.{FormsRan}
 use Rattle.convert.proofs.LoadingLaws.{loading-many, loading-malformed, loading-left, loading-crowded, loading-terms, variables}
 use borrow.Author.Needs.{needs}
 use Rattle.convert.proofs.load_counted.Statement.{statement}
@@ -12,7 +12,7 @@ use Rattle.convert.proofs.load_counted.Tie as tie
 use Rattle.convert.proofs.load_counted.Reads as reads
 use Rattle.convert.proofs.load_counted.Lts as lts
 use Rattle.convert.proofs.limit_of.Reads as limit-of-reads
-use Rattle.readers.proofs.form_reader.terms.Reads as terms-reads
+use Rattle.form_reader.proofs.terms.Reads as terms-reads
 
 got : (x : lts.After-next (limit-of-reads.Asked, limit-of-reads.Learnt, terms-reads.Asked, terms-reads.Learnt) reads.Pre reads.Post)
     → FormsRan (arityOf (x .before .before .before .before .before .before .before .before .before .before .args .edition)) (x .before .before .before .before .before .before .before .before .before .before .args .s .now) (x .before .before .before .before .before .before .before .limit-of .result) 0 (x .before .before .before .before .before .before .before .before .before .before .args .m) 0 (x .before .before .before .before .before .before .before .before .before .before .args .cells .now) 0 (x .before .before .before .before .terms .last .1 .1 .1 .0) (Done (x .next .given .0 .0) (x .next .given .0 .1 .0) (x .next .given .0 .1 .1 .0))

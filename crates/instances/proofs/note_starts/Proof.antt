@@ -7,7 +7,7 @@ use borrow.Author.Needs.{needs}
 use Rattle.forms.specs.Cells.{arityOf}
 use Rattle.forms.proofs.ShapeLaws.{arity-small}
 use Rattle.forms.proofs.DueLaws.{cellsOf}
-use Rattle.readers.specs.Readers.{termsAt}
+use Rattle.pair_reader.specs.Storing.{termsAt}
 use Rattle.instances.proofs.InstanceLaws.{no-start, start-noted, terms-few, Scans, scan-begins, scan-inside, scan-due, scan-small, scan-on, scan-start, scan-next}
 use Rattle.instances.proofs.InstanceTerms.{cells-grow}
 use Rattle.instances.proofs.note_starts.Statement.{statement}

@@ -1,0 +1,2 @@
+pub mod FormSteps
+pub mod FormTurns

@@ -1,0 +1,3 @@
+pub mod StoringLaws
+pub mod PairSteps
+pub mod PairTurns

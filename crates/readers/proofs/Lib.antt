@@ -1,5 +1,0 @@
-pub mod Storing
-pub mod PairSteps
-pub mod PairTurns
-pub mod FormSteps
-pub mod FormTurns
