@@ -1,3 +1,1 @@
-pub mod BytesLaws
-pub mod ExportLaws
 pub mod CountsLaw

@@ -125,7 +125,7 @@ pub extern "C" fn tables_join_indexed(
 pub extern "C" fn tables_next(space: &[u32], subgoal: u32, after: u32) -> u64
     ensures { λ w. ⌜ Returns (old space) (request.next subgoal after) w [] (old space) ⌝ }
 {
-    next_word(reads::reads::next(space, subgoal, after))
+    next_word(reads::next(space, subgoal, after))
 }
 
 // Writes the terms of an answer to the start of out, in pair form; the cells behind them stay.
@@ -133,7 +133,7 @@ pub extern "C" fn tables_next(space: &[u32], subgoal: u32, after: u32) -> u64
 pub extern "C" fn tables_load(space: &[u32], answer: u32, out: &mut [u32]) -> u64
     ensures { λ w. ⌜ Returns (old space) (request.load answer (old out)) w (new out) (old space) ⌝ }
 {
-    cells_word(reads::reads::load(space, answer, out))
+    cells_word(reads::load(space, answer, out))
 }
 
 // Writes the subgoal of an answer with the answer's terms for its variables, in the same way.
@@ -141,7 +141,7 @@ pub extern "C" fn tables_load(space: &[u32], answer: u32, out: &mut [u32]) -> u6
 pub extern "C" fn tables_instance(space: &[u32], answer: u32, out: &mut [u32]) -> u64
     ensures { λ w. ⌜ Returns (old space) (request.instance answer (old out)) w (new out) (old space) ⌝ }
 {
-    cells_word(reads::reads::instance(space, answer, out))
+    cells_word(reads::instance(space, answer, out))
 }
 
 // Writes the nodes, subgoals and answers used to the first three cells of out; the space is judged before
@@ -150,7 +150,7 @@ pub extern "C" fn tables_instance(space: &[u32], answer: u32, out: &mut [u32]) -
 pub extern "C" fn tables_counts(space: &[u32], out: &mut [u32]) -> u64
     ensures { λ w. ⌜ ReturnsCounts (old space) w (old out) (new out) ⌝ }
 {
-    let answer = reads::reads::counts(space);
+    let answer = reads::counts(space);
     match answer {
         CountsAnswer::Used(c) => {
             if out.len() < 3 {

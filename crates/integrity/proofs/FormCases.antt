@@ -13,7 +13,7 @@ use Rattle.forms.specs.Compact.{legalForm}
 use Rattle.forms.specs.Numbering.{met}
 use Rattle.plain.specs.Coding.{predicate}
 use Rattle.trie.specs.Paths.{Path, none, tokens}
-use Rattle.reads.specs.Reading.{worth}
+use Rattle.path_terms.specs.AlongPaths.{worth}
 use Rattle.agreement.specs.Whole.{pathPasses}
 use Rattle.integrity.specs.Tests.{calledForm, formWhole}
 

@@ -1,5 +1,5 @@
 // The path of a subgoal or of an answer, held to be the form of legal terms.
-use reads::paths::path_worth;
+use path_terms::path_worth;
 use trie::End;
 ghost use mathlib.Core.Path.{_≡_};
 ghost use Rattle.basis.specs.Moments.{old};

@@ -1,3 +1,3 @@
-pub mod AskingLaws
+pub mod LineLaws
 pub mod Theorem
 pub mod ProgramLaws

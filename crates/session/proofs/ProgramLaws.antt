@@ -30,12 +30,13 @@ use Rattle.text.specs.Cutting.{newline, Lines, linesFrom, lastLine, linesOf, jo
 use Rattle.text.specs.declared.Taking.{Taking}
 use Rattle.text.specs.declared.Taking.the-variants.{Line, More}
 use Rattle.text.proofs.CuttingLaws.{keeps-more, lines-end, lines-on, taking-end, taking-on, rest-behind}
-use Rattle.session.specs.Lines.{Meaning, bad, asks, withCells, withNumber, longestLine, meansCall, meansAnswer, meansFinish, meansNext, meansLoad, meansInstance, meansCounts, wordMeans, means, wordCall, wordAnswer, wordFinish, wordNext, wordLoad, wordInstance, wordCounts}
+use Rattle.asking.specs.Lines.{Meaning, bad, asks, withCells, withNumber, longestLine, meansCall, meansAnswer, meansFinish, meansNext, meansLoad, meansInstance, meansCounts, wordMeans, means, wordCall, wordAnswer, wordFinish, wordNext, wordLoad, wordInstance, wordCounts}
 use Rattle.replies.specs.Texts.{textRoom}
 use Rattle.session.specs.Numbers.{sessionEdition, sessionNodes, sessionSubgoals, sessionAnswers, spaceCells, startAnswer, startSpace}
-use Rattle.session.specs.Session.{Said, outLeft, says, session, Response, responding, cellSession}
+use Rattle.asking.specs.Saying.{Said, outLeft, says}
+use Rattle.session.specs.Session.{session, Response, responding, cellSession}
 use Rattle.session.specs.Program.{responses, Responded, Held, Turn, turn, withLine, answersLine, keepsByte, feed, lastPrinted, runs, goesOn, TurnByTurn, Ready, starts, AnyInput, Lengths, Started, Sessions}
-use Rattle.session.proofs.AskingLaws.{means-short, means-long}
+use Rattle.session.proofs.LineLaws.{means-short, means-long}
 use Rattle.session.proofs.Theorem.{printed}
 
 -- ---- a call leaves out as long as it was lent

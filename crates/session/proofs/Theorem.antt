@@ -12,10 +12,11 @@ use Rattle.space.specs.Fresh.{freshAnswer, freshSpace, freshAnswerIn, freshSpac
 use Rattle.space.specs.declared.FreshAnswer.the-variants.{Done}
 use Rattle.store.specs.Calls.{spaceStep}
 use Rattle.agreement.proofs.Theorem.{following}
-use Rattle.session.specs.Lines.{Meaning, bad, asks, means}
+use Rattle.asking.specs.Lines.{Meaning, bad, asks, means}
 use Rattle.text.specs.Cutting.{newline}
 use Rattle.replies.specs.Texts.{textBad, replyText}
-use Rattle.session.specs.Session.{outLeft, says, session, Printed}
+use Rattle.asking.specs.Saying.{outLeft, says}
+use Rattle.session.specs.Session.{session, Printed}
 
 -- a list of calls and one call more
 left-more : {S : Type 0} (calls : S → Request → Result S) (s : S) (qs : List Request) (q : Request) → calls (left calls s qs) q .state ≡ left calls s (qs ++ (q ∷ []))

@@ -30,12 +30,13 @@ use Rattle.text.specs.Fields.{fields, valueFrom, numeral, hexCells}
 use Rattle.text.specs.Digits.{digitsBefore, cellTexts}
 use Rattle.text.specs.Letters.{letters}
 use Rattle.text.specs.Cutting.{linesFrom, linesOf}
-use Rattle.session.specs.Lines.{wordMeans, means, bad, asks}
+use Rattle.asking.specs.Lines.{wordMeans, means, bad, asks}
 use Rattle.replies.specs.Texts.{replyText, textRoom}
 use Rattle.session.specs.Numbers.{sessionEdition, sessionNodes, sessionSubgoals, sessionAnswers}
 use Rattle.session.specs.Numbers.{spaceCells, outCells, textBytes}
-use Rattle.session.specs.Session.{says, session, cellSession}
-use Rattle.session.specs.Asking.{keywordOf}
+use Rattle.asking.specs.Saying.{says}
+use Rattle.session.specs.Session.{session, cellSession}
+use Rattle.session.specs.Keywords.{keywordOf}
 use Rattle.session.specs.declared.Keyword.the-variants as keyword
 
 -- what lines mean: two spaces, a trailing space, a cell of 7 digits, a number too many and an empty line are bad

@@ -1,6 +1,5 @@
-pub mod Lines
 pub mod Numbers
 pub mod Session
-pub mod Asking
+pub mod Keywords
 pub mod Program
 pub mod Examples

@@ -3,7 +3,7 @@ use Prim.Native.Nat.{ℕ, _+_}
 use mathlib.Core.List.{List}
 use Rattle.space.specs.Fresh.{freshAnswerIn, freshSpaceIn}
 use Rattle.space.specs.declared.FreshAnswer.{FreshAnswer}
-use Rattle.session.specs.Lines.{longestLine}
+use Rattle.asking.specs.Lines.{longestLine}
 use Rattle.replies.specs.Texts.{textRoom}
 
 abbrev pub sessionEdition : ℕ

@@ -11,7 +11,7 @@ use Rattle.space.specs.declared.FreshAnswer.the-variants.{Done}
 use Rattle.text.specs.Cutting.{newline, linesOf, joined, keptMore, taking}
 use Rattle.text.specs.declared.Taking.{Taking}
 use Rattle.text.specs.declared.Taking.the-variants.{Line, More}
-use Rattle.session.specs.Lines.{longestLine}
+use Rattle.asking.specs.Lines.{longestLine}
 use Rattle.replies.specs.Texts.{textRoom}
 use Rattle.session.specs.Numbers.{sessionNodes, sessionSubgoals, sessionAnswers, startAnswer, startSpace}
 use Rattle.session.specs.Numbers.{spaceCells, outCells, textBytes, lineBytes}

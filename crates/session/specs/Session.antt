@@ -6,39 +6,16 @@ use lib.Dec.{leb}
 use lib.ListN.{length, drop}
 use Rattle.basis.specs.Choice.{pick}
 use Rattle.plain.specs.Coding.{codingOf}
-use Rattle.plain.specs.Requests.{Request, Result, call, answer, finish, next, load, instance, counts, join}
+use Rattle.plain.specs.Requests.{Request, Result}
 use Rattle.plain.specs.Table.{Table, fresh, step}
 use Rattle.space.specs.Fresh.{freshAnswerIn, freshSpaceIn}
 use Rattle.space.specs.declared.FreshAnswer.the-variants.{Done}
 use Rattle.store.specs.Calls.{spaceStep}
 use Rattle.text.specs.Cutting.{newline}
-use Rattle.session.specs.Lines.{Meaning, bad, asks, means}
-use Rattle.replies.specs.Texts.{textBad, replyText, textRoom}
+use Rattle.asking.specs.Lines.{means}
+use Rattle.asking.specs.Saying.{says}
+use Rattle.replies.specs.Texts.{textRoom}
 use Rattle.session.specs.Numbers.{sessionEdition}
-
--- the line printed, its newline not counted, the table and out
-pub record Said (S : Type 0) : Type 0 where
-  pub text : List ℕ
-  pub state : S
-  pub out : List ℕ
-
--- only load and instance are lent out; the other calls leave it
-abbrev pub outLeft : Request → List ℕ → List ℕ → List ℕ
-outLeft (call cs) out after = out
-outLeft (answer s cs) out after = out
-outLeft (finish s) out after = out
-outLeft (next s a) out after = out
-outLeft (load a o) out after = after
-outLeft (instance a o) out after = after
-outLeft counts out after = out
-outLeft (join f g ps s cs) out after = out
-
--- a line that means nothing prints bad and changes nothing
-unfoldable pub says : {S : Type 0} → (S → Request → Result S) → Meaning → S → List ℕ → Said S
-says calls bad s out = record { text = textBad; state = s; out = out }
-says calls (asks q) s out =
-    let r = calls s q in
-    record { text = replyText (r .reply) (r .out); state = r .state; out = outLeft q out (r .out) }
 
 -- line after line, their newlines not counted; each one printed ends with a newline
 unfoldable pub session : {S : Type 0} → (S → Request → Result S) → List (List ℕ) → S → List ℕ → List ℕ

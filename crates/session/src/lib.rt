@@ -1,7 +1,7 @@
 // One line of a session in, one line out; and what the session program starts from.
-pub mod asking;
 pub mod start;
 
+use asking::LONGEST_LINE;
 use asking::ask_answer;
 use asking::ask_call;
 use asking::ask_counts;
@@ -20,12 +20,9 @@ ghost use lib.Dec.{leb};
 ghost use lib.ListN.{length};
 ghost use Rattle.basis.specs.Moments.{old, new};
 ghost use Rattle.replies.specs.Texts.{textRoom};
-ghost use Rattle.session.specs.Lines.{longestLine};
-ghost use Rattle.session.specs.Asking.{keywordOf, wordSaid, lineSaid, WordPuts, LinePuts};
+ghost use Rattle.asking.specs.Lines.{longestLine};
+ghost use Rattle.session.specs.Keywords.{keywordOf, wordSaid, lineSaid, WordPuts, LinePuts};
 ghost use Rattle.session.specs.Session.{responding};
-
-// A line that means something has at most so many bytes, its newline not counted.
-pub const LONGEST_LINE: usize = 4096;
 
 // What a line's first word asks for.
 pub enum Keyword {

@@ -1,5 +1,5 @@
 // What the session program starts from: its table, and the arrays that it lends to `respond` and to `take_line`.
-use crate::LONGEST_LINE;
+use asking::LONGEST_LINE;
 use replies::CELL_BYTES;
 use replies::REPLY_BYTES;
 use space::FreshAnswer;

@@ -27,7 +27,7 @@ use Rattle.trie.specs.Runs.{pathTo}
 use Rattle.trie.specs.declared.End.{End}
 use Rattle.store.specs.Contracts.{viewIn}
 use Rattle.store.specs.Decisions.{Chain, broken, unbroken, headed, chainFrom, chainOf}
-use Rattle.reads.specs.Reading.{worth}
+use Rattle.path_terms.specs.AlongPaths.{worth}
 use Rattle.reads.proofs.ReadsCases.{reads-answer, read-answer-damaged}
 use Rattle.sides.specs.Chains.{free, PathBroken, PathHeld, prepended, chainIn, Onward, AnswerJudged, ChainHeld}
 use Rattle.sides.specs.declared.Member.the-variants as member

@@ -2,7 +2,7 @@
 // a form holds a variable.
 use super::Judged;
 use super::Member;
-use reads::paths::path_worth;
+use path_terms::path_worth;
 use space::AnswerRead;
 use space::Head;
 use space::Subgoal;

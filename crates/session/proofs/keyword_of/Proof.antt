@@ -1,6 +1,6 @@
 -- `keyword_of` meets its contract: each word by its test and those before it.
 use Rattle.basis.proofs.Tests.{told}
-use Rattle.session.proofs.AskingLaws.{is-call, is-answer, is-finish, is-next, is-load, is-instance, is-counts, is-other}
+use Rattle.session.proofs.LineLaws.{is-call, is-answer, is-finish, is-next, is-load, is-instance, is-counts, is-other}
 use borrow.Author.Needs.{needs}
 use Rattle.session.proofs.keyword_of.Statement.{statement}
 use Rattle.session.proofs.keyword_of.Tie as tie

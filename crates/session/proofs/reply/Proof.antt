@@ -3,7 +3,8 @@ use mathlib.Core.Path.{refl, sym}
 use lib.Seq.{length-take-le}
 use Rattle.basis.proofs.Tests.{told}
 use Rattle.session.specs.declared.Keyword.the-variants as keyword
-use Rattle.session.proofs.AskingLaws.{keyword-leaves, silent-leaves, bad-leaves}
+use Rattle.asking.proofs.AskingLaws.{bad-leaves}
+use Rattle.session.proofs.LineLaws.{keyword-leaves, silent-leaves}
 use borrow.Author.Needs.{needs}
 use Rattle.session.proofs.reply.Statement.{statement}
 use Rattle.session.proofs.reply.Tie as tie

@@ -4,9 +4,10 @@ use native.Mathlib.Omega.{arith}
 use borrow.Author.Needs.{needs}
 use Rattle.text.specs.Fields.{fields}
 use Rattle.store.specs.Calls.{spaceStep}
-use Rattle.session.specs.Lines.{Meaning, wordMeans, means}
-use Rattle.session.specs.Session.{says}
-use Rattle.session.proofs.AskingLaws.{means-short, means-long, bad-leaves, bad-out, leaves-alike, flat}
+use Rattle.asking.specs.Lines.{Meaning, wordMeans, means}
+use Rattle.asking.specs.Saying.{says}
+use Rattle.asking.proofs.AskingLaws.{bad-leaves, bad-out, leaves-alike}
+use Rattle.session.proofs.LineLaws.{means-short, means-long, flat}
 use Rattle.session.proofs.reply_or_bad.Statement.{statement}
 use Rattle.session.proofs.reply_or_bad.Tie as tie
 use Rattle.session.proofs.reply_or_bad.Reads as reads

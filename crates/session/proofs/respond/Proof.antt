@@ -6,9 +6,9 @@ use borrow.Author.Tests.{leb-true, leb-false}
 use borrow.Author.Needs.{needs}
 use Rattle.basis.proofs.Tests.{told}
 use Rattle.store.specs.Calls.{spaceStep}
-use Rattle.session.specs.Lines.{means}
-use Rattle.session.specs.Session.{says}
-use Rattle.session.proofs.AskingLaws.{response-none, response-line, response-parts, line-within}
+use Rattle.asking.specs.Lines.{means}
+use Rattle.asking.specs.Saying.{says}
+use Rattle.session.proofs.LineLaws.{response-none, response-line, response-parts, line-within}
 use Rattle.session.proofs.respond.Statement.{statement}
 use Rattle.session.proofs.respond.Tie as tie
 use Rattle.session.proofs.respond.Reads as reads

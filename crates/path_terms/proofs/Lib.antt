@@ -1,0 +1,3 @@
+pub mod PathCases
+pub mod WorthCases
+pub mod AlongCases

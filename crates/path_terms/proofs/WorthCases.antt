@@ -1,0 +1,54 @@
+-- Whether a path is a legal form, and how many variables it has.
+use Prim.Native.Nat.{ℕ, _+_, _≤_}
+use mathlib.Core.Path.{_≡_, refl, sym}
+use mathlib.Core.Bool.{Bool, true, false}
+use mathlib.Core.List.{[], _∷_}
+use native.Mathlib.Omega.{arith}
+use lib.ListN.{length, getD}
+use Rattle.forms.specs.Cells.{arityOf}
+use Rattle.forms.specs.Numbering.{met}
+use Rattle.forms.specs.Converting.{loading}
+use Rattle.forms.specs.declared.Loading.the-variants.{Terms, NoForm}
+use Rattle.plain.specs.Words.{Word}
+use Rattle.trie.specs.Paths.{Path, none}
+use Rattle.plain.specs.Coding.{predicate}
+use Rattle.forms.specs.Cells.{callable}
+use Rattle.forms.proofs.RoundTrip.{legal-parts}
+use Rattle.instances.proofs.LeavingLaws.{form-refused, form-loaded}
+use Rattle.path_terms.specs.AlongPaths.{formWorth, worth}
+
+-- ---- what a form is worth
+
+pub begins-none : (w : Word) → length w ≡ 0 → false ≡ predicate w
+unfolding predicate
+begins-none [] e = refl
+begins-none (c ∷ w) e = absurd (omega arith)
+
+pub begins-first : (w : Word) (r : Bool) → (length w ≡ 0 → ⊥) → r ≡ callable (getD w 0 0) → r ≡ predicate w
+unfolding predicate
+begins-first [] r n e = absurd (n refl)
+begins-first (c ∷ w) r n e = e
+
+module _ (edition m : ℕ) (called : Bool) (w : Word) where
+  pub worth-none : NoForm ≡ loading (arityOf edition) m w → 0 ≡ formWorth edition m called w
+  worth-none e = rw (← form-refused (arityOf edition) m w e) refl
+
+  module _ (n variables : ℕ) (e : Terms n ≡ loading (arityOf edition) m w) where
+    pub few-variables : variables ≡ length (met [] w) → variables ≤ 32
+    few-variables v = omega (arith, v, legal-parts (arityOf edition) m w (sym (form-loaded (arityOf edition) m w n e)) .variables)
+
+    pub worth-begun : called ≡ true → predicate w ≡ true → variables ≡ length (met [] w) → variables + 1 ≡ formWorth edition m called w
+    worth-begun c p v = rw (← form-loaded (arityOf edition) m w n e) (rw (c, p, v) refl)
+
+    pub worth-unbegun : called ≡ true → predicate w ≡ false → 0 ≡ formWorth edition m called w
+    worth-unbegun c p = rw (← form-loaded (arityOf edition) m w n e) (rw (c, p) refl)
+
+    pub worth-answered : called ≡ false → variables ≡ length (met [] w) → variables + 1 ≡ formWorth edition m called w
+    worth-answered c v = rw (← form-loaded (arityOf edition) m w n e) (rw (c, v) refl)
+
+module _ (edition m : ℕ) (called : Bool) where
+  pub worth-same : (p q : Path) (r : ℕ) → p ≡ q → r ≡ worth edition m called p → r ≡ worth edition m called q
+  worth-same p q r e h = rw e at h
+
+  pub worth-lost : (p : Path) → p ≡ none → 0 ≡ worth edition m called p
+  worth-lost p e = rw e refl

@@ -1,0 +1,46 @@
+-- What the paths of an answer and of its subgoal come to, and what is left in out; and what a path is worth as a form.
+-- No record but the paths' nodes matters, so all of it holds of every view.
+use Prim.Native.Nat.{ℕ, _+_}
+use mathlib.Core.Bool.{Bool, true, _&&_}
+use mathlib.Core.List.{List, []}
+use lib.ListN.{length}
+use Rattle.basis.specs.Choice.{pick}
+use Rattle.forms.specs.Cells.{arityOf}
+use Rattle.forms.specs.Compact.{pairForm, legalForm}
+use Rattle.forms.specs.Numbering.{met}
+use Rattle.forms.specs.declared.Answer.{Answer}
+use Rattle.plain.specs.Words.{Word}
+use Rattle.plain.specs.Coding.{predicate}
+use Rattle.trie.specs.Paths.{Path, none, tokens}
+use Rattle.trie.specs.Runs.{pathTo}
+use Rattle.trie.specs.declared.End.{End}
+use Rattle.store.specs.Views.{View}
+use Rattle.store.specs.Decisions.{Decision, gives, onPath}
+use Rattle.store.specs.Replies.{saidCells}
+use Rattle.instances.specs.Leaving.{Leaves, Instances}
+
+-- the m terms of an answer's path
+abbrev pub loadedFrom : (ℕ → ℕ) → Path → ℕ → Decision
+loadedFrom arity p m = onPath p (legalForm arity m) (λ w. gives (pairForm arity w))
+
+-- a path was loaded into out
+abbrev pub Loads : ℕ → Path → ℕ → List ℕ → Answer → List ℕ → Type 0
+Loads edition p m out r out′ = (v : View) → Leaves v (loadedFrom (arityOf edition) p m) out (saidCells r) out′
+
+-- what a form is worth, held against m legal terms: one more than its variables; 0 where it is none, or where it is
+-- to be called and begins with neither an atom nor a functor
+abbrev pub formWorth : (edition m : ℕ) → Bool → Word → ℕ
+formWorth edition m called w =
+    pick (legalForm (arityOf edition) m w && pick called (predicate w) true) (length (met [] w) + 1) 0
+
+-- the same of a path, which may be damaged
+abbrev pub worth : (edition m : ℕ) → Bool → Path → ℕ
+worth edition m called none = 0
+worth edition m called (tokens w) = formWorth edition m called w
+
+-- the instance of an answer was written to out: by the ends of both paths, or by its form and its subgoal's end
+abbrev pub InstancesTo : List ℕ → End → End → ℕ → ℕ → List ℕ → ℕ → List ℕ → Type 0
+InstancesTo cs e g m edition out r out′ = Instances edition (pathTo cs e) (pathTo cs g) m out r out′
+
+abbrev pub InstancesUnder : List ℕ → End → List ℕ → ℕ → ℕ → List ℕ → ℕ → List ℕ → Type 0
+InstancesUnder cs g form m edition out r out′ = Instances edition (tokens form) (pathTo cs g) m out r out′
