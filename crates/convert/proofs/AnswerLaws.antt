@@ -5,12 +5,11 @@ use mathlib.Core.Bool.{Bool, true, false}
 use mathlib.Core.Path.{_≡_, refl, sym, ap, _∙_}
 use native.Mathlib.Omega.{arith}
 use lib.ListN.{length, take, drop, length-take}
-use lib.Dec.{leb, ltb}
-use borrow.Author.Tests.{le-leb, lt-leb, le-ltb}
+use lib.Dec.{ltb}
+use borrow.Author.Tests.{le-leb, lt-leb}
 use Rattle.basis.specs.Choice.{pick}
 use Rattle.forms.specs.declared.Reading.{Reading}
 use Rattle.forms.specs.declared.Reading.the-variants.{Form, Refusal}
-use Rattle.forms.specs.declared.Loading.{Loading}
 use Rattle.forms.specs.declared.Loading.the-variants.{Terms, NoForm}
 use Rattle.forms.specs.declared.Answer.{Answer}
 use Rattle.forms.specs.declared.Answer.the-variants.{Cells, Refused, Short}

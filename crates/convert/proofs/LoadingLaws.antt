@@ -1,32 +1,29 @@
 -- One law for each answer of the function that loads terms.
-use Prim.Native.Nat.{ℕ, suc, zero, _+_, _*_, _-_, _^_, _/_, _%_, _≤_, _<_}
+use Prim.Native.Nat.{ℕ, suc, zero, _+_, _*_, _-_, _≤_, _<_}
 use mathlib.Core.List.{List, [], _∷_, _++_, append-nil}
 use mathlib.Core.Bool.{Bool, true, false}
-use mathlib.Core.Logic.{_⊎_, inl, inr}
-use mathlib.Core.Path.{_≡_, refl, sym, ap, _∙_, subst}
+use mathlib.Core.Logic.{inl, inr}
+use mathlib.Core.Path.{_≡_, refl, sym, ap, _∙_}
 use native.Mathlib.Omega.{arith}
 use native.Mathlib.Numerals.{add-one}
-use lib.ListN.{length, take, drop, length-append, length-drop, drop-of-length-le}
+use lib.ListN.{length, take, drop, length-append, drop-of-length-le}
 use lib.Seq.{sets, take-all}
 use lib.Dec.{eqb, leb}
-use borrow.Author.Tests.{eqb-true, eqb-false, eq-eqb, ne-eqb, le-leb, lt-leb, leb-true, leb-false}
+use borrow.Author.Tests.{eqb-true, eq-eqb, ne-eqb, le-leb, lt-leb, leb-true, leb-false}
 use Rattle.basis.specs.Choice.{pick}
-use Rattle.forms.specs.declared.Step.{Step}
 use Rattle.forms.specs.declared.Step.the-variants.{Done, Malformed}
-use Rattle.forms.specs.declared.Loading.{Loading}
 use Rattle.forms.specs.declared.Loading.the-variants.{Terms, NoForm}
-use Rattle.forms.specs.Cells.{kind, payload, tag, variable, shapeOf, tokenOf}
+use Rattle.forms.specs.Cells.{kind, payload, tag, variable, tokenOf}
 use Rattle.forms.specs.Terms.{Term, pairs, every}
 use Rattle.forms.specs.Numbering.{rank, seen, met, renamed, numbered}
 use Rattle.forms.specs.Compact.{compact, items, front, formTerms, pairForm, same, areForms, legalForm}
 use Rattle.forms.specs.Converting.{loading}
-use Rattle.forms.proofs.ReadLaws.{AllWellFormed}
 use Rattle.forms.proofs.CompactLaws.{same-length-empty}
 use Rattle.forms.proofs.FormLaws.{every-compact-short, every-pairs-least, every-pairs-size}
 use Rattle.forms.proofs.ExactLaws.{front-every, forms-every, forms-compact, compact-forms}
 use Rattle.forms.proofs.RoundTrip.{same-self, same-true, LegalParts, parts-legal, legal-parts}
 use Rattle.pair_reader.specs.Storing.{numberedFrom}
-use Rattle.form_reader.specs.Loading.{inOrder, after, ordered, counted, itemsAt, Span, FormsRan}
+use Rattle.form_reader.specs.Loading.{inOrder, after, ordered, counted, FormsRan}
 use Rattle.convert.specs.Holds.{HoldsTerms}
 use Rattle.convert.proofs.ReadingLaws.{numbered-whole, sets-taken}
 

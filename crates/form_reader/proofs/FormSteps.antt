@@ -1,5 +1,5 @@
 -- One law for each branch of the readers of compact form.
-use Prim.Native.Nat.{ℕ, suc, zero, _+_, _*_, _-_, _≤_, _<_}
+use Prim.Native.Nat.{ℕ, suc, zero, _+_, _-_, _≤_, _<_}
 use mathlib.Core.List.{List, [], _∷_, _++_, append-assoc, append-nil}
 use mathlib.Core.Bool.{Bool, true, false}
 use mathlib.Core.Logic.{_⊎_, inl, inr}
@@ -8,12 +8,11 @@ use native.Mathlib.Omega.{arith}
 use native.Mathlib.Nat.{not-suc-le-zero}
 use native.Mathlib.Numerals.{add-one}
 use lib.ListN.{length, take, drop, getD, set, length-append, length-drop, drop-of-length-le}
-use lib.Seq.{sets, drop-cons, length-take-le}
+use lib.Seq.{drop-cons, length-take-le}
 use lib.Dec.{eqb, leb}
 use borrow.Author.Tests.{leb-true, leb-false, ne-eqb, lt-leb, le-leb}
 use Rattle.basis.specs.Choice.{pick}
-use Rattle.forms.specs.declared.Shape.{Shape}
-use Rattle.forms.specs.declared.Shape.the-variants.{Symbol, Pair, Illegal}
+use Rattle.forms.specs.declared.Shape.the-variants.{Symbol}
 use Rattle.forms.specs.declared.Token.{Token}
 use Rattle.forms.specs.declared.Token.the-variants.{Sym, Begin, Last, Tail, Other}
 use Rattle.forms.specs.declared.Step.{Step}

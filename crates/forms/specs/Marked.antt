@@ -4,11 +4,10 @@ use Prim.Native.Nat.{ℕ, _+_, _*_}
 use mathlib.Core.List.{List, [], _∷_, _++_}
 use mathlib.Core.Path.{_≡_, refl}
 use lib.ListN.{length, replicate}
-use Rattle.forms.specs.declared.Answer.{Answer}
-use Rattle.forms.specs.declared.Answer.the-variants.{Cells, Refused, Short}
+use Rattle.forms.specs.declared.Answer.the-variants.{Cells, Refused}
 use Rattle.forms.specs.Cells.{tag, nil, PAIR, BLIST, ELIST, EPAIR, shapeOf, symbolic, tokenOf, arityOf}
 use Rattle.forms.specs.Due.{arguments, dueOf}
-use Rattle.forms.specs.Terms.{Term, pairs, every, applied, paired, begun, reads, areTerms}
+use Rattle.forms.specs.Terms.{pairs, every, applied, paired, begun, reads, areTerms}
 use Rattle.forms.specs.Numbering.{rank, seen, met, renamed, numbered}
 use Rattle.forms.specs.Compact.{compact, elements, compactForm, filled, lastOf, tailOf, inside, into, collected}
 use Rattle.forms.specs.Compact.{whole, entered, items, front, formTerms, pairForm, same, areForms, legalForm}

@@ -1,5 +1,5 @@
 -- A law for each case of walking the chains of answers.
-use Prim.Native.Nat.{ℕ, zero, suc, _+_, _-_, _*_, _<_, _≤_}
+use Prim.Native.Nat.{ℕ, zero, suc, _+_, _-_, _<_, _≤_}
 use mathlib.Core.Path.{_≡_, refl, sym, ap, _∙_}
 use mathlib.Core.Bool.{Bool, true, false, _||_, or-true}
 use mathlib.Core.List.{List, [], _∷_, _++_, append-assoc, append-nil}
@@ -11,17 +11,16 @@ use borrow.Author.Tests.{eq-eqb, ne-eqb, eqb-true, eqb-false}
 use Rattle.basis.specs.Choice.{pick}
 use Rattle.basis.proofs.Cases.{by-cases}
 use Rattle.plain.specs.Coding.{Coding, codingOf}
-use Rattle.space.specs.Layout.{most}
-use Rattle.space.specs.Sound.{Bounds, subgoalUnder, answerUnder}
+use Rattle.space.specs.Sound.{subgoalUnder, answerUnder}
 use Rattle.space.specs.declared.Head.{Head}
 use Rattle.space.specs.declared.Subgoal.{Subgoal}
 use Rattle.space.specs.declared.Answer.{Answer}
 use Rattle.store.specs.Views.{View}
 use Rattle.store.specs.Contracts.{viewIn}
-use Rattle.agreement.specs.Whole.{subgoalWhole, answerWhole, chain, chains}
+use Rattle.agreement.specs.Whole.{chain, chains}
 use Rattle.agreement.specs.Faults.{among, chained}
 use Rattle.agreement.proofs.WholeTests.{EndsFacts, no-ends, both-ends, AnswerLocal, subgoal-local, answer-local, from-one}
-use Rattle.integrity.specs.Tests.{subgoalTest, answerTest, SubgoalsWhole, AnswersWhole, ChainsWhole, ChainCounted, ChainSearched, chainedIn}
+use Rattle.integrity.specs.Tests.{subgoalTest, answerTest, ChainsWhole, ChainCounted, ChainSearched, chainedIn}
 
 -- ---- numbers in a list
 

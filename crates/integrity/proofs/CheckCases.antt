@@ -7,7 +7,6 @@ use native.Mathlib.Omega.{arith}
 use native.Mathlib.Numerals.{add-one}
 use lib.ListN.{length}
 use borrow.Author.Tests.{eq-eqb, ne-eqb, lt-ltb, le-ltb}
-use Rattle.basis.proofs.Cases.{by-cases}
 use Rattle.plain.specs.Coding.{codingOf}
 use Rattle.space.specs.Heading.{spaceHeader}
 use Rattle.space.specs.Sound.{Bounds}
@@ -15,9 +14,9 @@ use Rattle.space.specs.declared.Head.{Head}
 use Rattle.space.specs.declared.Header.the-variants as header
 use Rattle.store.specs.Contracts.{viewIn}
 use Rattle.agreement.specs.Whole.{everyBelow, chains}
-use Rattle.agreement.specs.Faults.{Fault, nothing, heading, node, subgoal, answer, firstFailing, nodeBroken, subgoalBroken, answerBroken, answerLost, faultIn, faultUnder, faultOf}
+use Rattle.agreement.specs.Faults.{nothing, heading, node, subgoal, answer, firstFailing, nodeBroken, subgoalBroken, answerBroken, answerLost, faultIn, faultUnder, faultOf}
 use Rattle.agreement.proofs.Faults.{none-failing, failing-first, failing-none, failing-most, every-suc}
-use Rattle.integrity.specs.Tests.{subgoalTest, answerTest, chainedIn, chainsFault, ChainsWhole, SubgoalsWhole, AnswersWhole}
+use Rattle.integrity.specs.Tests.{subgoalTest, answerTest, chainedIn, chainsFault, ChainsWhole}
 
 -- ---- a pass over records
 

@@ -22,8 +22,7 @@ use Rattle.space.specs.declared.Subgoal.{Subgoal}
 use Rattle.space.proofs.JudgingLaws.{subgoal-bounds}
 use Rattle.trie.specs.Walks.{Finding, rootSound}
 use Rattle.store.specs.Views.{View, answerTrie}
-use Rattle.store.specs.Decisions as decisions
-use Rattle.store.specs.Decisions.{Decision, says, refuses, known, sound, stateOf, soundSubgoal, soundTarget, broken, unbroken, chainFrom, chainOf, onChains, sideIn, joiningBy, entersAnswers, decideBy}
+use Rattle.store.specs.Decisions.{Decision, refuses, known, sound, stateOf, soundSubgoal, soundTarget, broken, unbroken, chainFrom, chainOf, onChains, sideIn, joiningBy, entersAnswers, decideBy}
 use Rattle.store.specs.Changes.{formsGivenBy, changeBy}
 use Rattle.store.specs.Calls.{usedAnswers, reply}
 use Rattle.store.specs.Contracts.{viewIn, Held, AnswersUnder}

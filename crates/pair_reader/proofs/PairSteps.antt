@@ -8,15 +8,14 @@ use native.Mathlib.Nat.{not-suc-le-zero}
 use native.Mathlib.Numerals.{add-one}
 use lib.ListN.{length, take, drop, getD, set, length-append, length-drop, drop-of-length-le}
 use lib.Seq.{sets, drop-cons, drop-drop, length-take-le}
-use lib.Dec.{eqb, leb}
+use lib.Dec.{leb}
 use borrow.Author.Tests.{ne-eqb, leb-true, leb-false}
 use Rattle.forms.specs.declared.Shape.{Shape}
 use Rattle.forms.specs.declared.Shape.the-variants.{Symbol, Pair, Illegal}
 use Rattle.forms.specs.declared.Step.{Step}
 use Rattle.forms.specs.declared.Step.the-variants.{Done, Malformed}
 use Rattle.forms.specs.Cells.{shapeOf, nil, PAIR, BLIST, ELIST, EPAIR}
-use Rattle.forms.specs.Terms.{Term, cell, arg, pair, pairs, every, applied, paired, begun, reads}
-use Rattle.forms.specs.Numbering.{met}
+use Rattle.forms.specs.Terms.{Term, cell, arg, pairs, every, applied, paired, begun, reads}
 use Rattle.forms.specs.Due.{dueAfter}
 use Rattle.forms.specs.Compact.{compact, elements}
 use Rattle.forms.proofs.ShapeLaws.{pair-cell-of}

@@ -1,20 +1,19 @@
 -- Laws of what the reader of pair form stores: variables numbered, cells written.
-use Prim.Native.Nat.{ℕ, suc, zero, _+_, _*_, _-_, _^_, _≤_, _<_}
-use mathlib.Core.List.{List, [], _∷_, _++_, append-assoc, append-nil}
+use Prim.Native.Nat.{ℕ, suc, _+_, _-_, _≤_, _<_}
+use mathlib.Core.List.{List, [], _∷_, _++_, append-assoc}
 use mathlib.Core.Bool.{Bool, true, false}
-use mathlib.Core.Path.{_≡_, refl, sym, ap, _∙_, subst}
+use mathlib.Core.Path.{_≡_, refl, sym, ap, _∙_}
 use native.Mathlib.Omega.{arith}
-use native.Mathlib.Nat.{suc-sub-suc, sub-suc}
 use native.Mathlib.Numerals.{add-one}
 use lib.ListN.{length, take, drop, getD, set, length-append, length-set}
-use lib.Seq.{sets, sets-eq, drop-set-lt, take-set-le, length-sets, drop-cons, take-append-seam, drop-at, take-at, length-take-le, take-suc-set, slice-cons, slice-empty}
-use lib.Dec.{eqb, leb, ltb}
-use borrow.Author.Tests.{eq-eqb, ne-eqb, le-leb, lt-leb, lt-ltb, le-ltb, eqb-true, ltb-true, ltb-false}
+use lib.Seq.{sets, sets-eq, drop-set-lt, take-set-le, length-sets, drop-cons, take-append-seam, drop-at, length-take-le, take-suc-set, slice-cons, slice-empty}
+use lib.Dec.{eqb, ltb}
+use borrow.Author.Tests.{eq-eqb, ne-eqb, le-leb, lt-leb, lt-ltb, le-ltb, ltb-true, ltb-false}
 use Rattle.basis.specs.Choice.{pick}
 use Rattle.basis.proofs.SetsLaws.{sets-append}
-use Rattle.forms.specs.Cells.{kind, tag, variable, ELIST}
+use Rattle.forms.specs.Cells.{tag, variable, ELIST}
 use Rattle.forms.specs.Numbering.{rank, seen, met, renamed}
-use Rattle.forms.proofs.NumberingLaws.{rank-le, met-append, met-length}
+use Rattle.forms.proofs.NumberingLaws.{rank-le, met-append}
 use Rattle.pair_reader.specs.Storing.{numberedFrom, Stored}
 
 minus-one : (m n : ℕ) → n < m → m - n ≡ suc (m - suc n)

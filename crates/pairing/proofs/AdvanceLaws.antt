@@ -1,26 +1,23 @@
 -- The next pair of a join that matches: with the answer in hand, or with one of those behind it.
 use mathlib.Core.Path.{_≡_, refl, sym, ap, _∙_, subst}
-use mathlib.Core.Bool.{Bool, true, false}
 use mathlib.Core.List.{List, [], _∷_, _++_, map}
-use Prim.Native.Nat.{ℕ, suc, _+_, _-_, _≤_, _<_}
+use Prim.Native.Nat.{ℕ, _+_, _-_, _≤_, _<_}
 use native.Mathlib.Omega.{arith}
-use lib.ListN.{length, take, drop}
+use lib.ListN.{length}
 use Rattle.forms.specs.Cells.{arityOf}
-use Rattle.forms.specs.Compact.{pairForm}
 use Rattle.plain.specs.Words.{Word}
 use Rattle.plain.specs.Joins.{Terms, along, combined}
 use Rattle.space.specs.Sound.{answerUnder}
 use Rattle.space.specs.declared.Answer.{Answer}
 use Rattle.space.proofs.HeaderLaws.{bounds-nodes}
-use Rattle.parts.specs.Parts.{parts, GroundForm, InHand}
-use Rattle.pairing.specs.declared.Source.{Source}
+use Rattle.parts.specs.Parts.{parts, InHand}
 use Rattle.pairing.specs.declared.Sides.{Sides}
 use Rattle.pairing.specs.declared.Cursor.{Cursor}
 use Rattle.pairing.specs.declared.Found.{Found}
 use Rattle.pairing.specs.declared.Found.the-variants as found
 use Rattle.pairing.specs.declared.Match.{Match}
 use Rattle.pairing.specs.declared.Match.the-variants as match
-use Rattle.pairing.specs.Pairing.{formsFrom, SourceIn, Remains, twoHands, mostTokens, formIn, FirstTakeable, TakesFirst, endOf, Known, Compared, Stands, partsFrom, alongHand, toCome, FirstTooLong, Finds, matchAt, Advances}
+use Rattle.pairing.specs.Pairing.{formsFrom, formIn, FirstTakeable, TakesFirst, Known, Compared, Stands, partsFrom, toCome, Finds, matchAt, Advances}
 use Rattle.pairing.proofs.RemainsLaws.{forms-none, Stop, remains-some}
 use Rattle.pairing.proofs.HandLaws.{form-in, hand-said}
 

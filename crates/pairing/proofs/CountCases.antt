@@ -1,11 +1,10 @@
 -- The small functions behind the counts of a join, case by case.
-use mathlib.Core.Path.{_≡_, refl, sym, ap, _∙_}
+use mathlib.Core.Path.{_≡_, refl}
 use mathlib.Core.Bool.{Bool, true, false, _&&_}
 use Prim.Native.Nat.{ℕ, _+_, _-_, _≤_, min}
 use native.Mathlib.Omega.{arith}
 use lib.Dec.{eqb}
 use borrow.Author.Tests.{eq-eqb, ne-eqb}
-use Rattle.basis.specs.Choice.{pick}
 use Rattle.sides.specs.declared.Met.{Met}
 use Rattle.pairing.specs.declared.Sums.{Sums}
 use Rattle.pairing.specs.declared.Needs.{Needs}

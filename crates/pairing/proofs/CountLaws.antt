@@ -9,7 +9,7 @@ use borrow.Author.Tests.{le-leb, lt-leb}
 use Rattle.basis.specs.Choice.{pick}
 use Rattle.forms.specs.Cells.{arityOf}
 use Rattle.forms.specs.Compact.{pairForm}
-use Rattle.plain.specs.Words.{Word, most, has}
+use Rattle.plain.specs.Words.{Word}
 use Rattle.plain.specs.Coding.{codingOf}
 use Rattle.space.specs.Sound.{Bounds, subgoalUnder}
 use Rattle.space.specs.declared.Head.{Head}

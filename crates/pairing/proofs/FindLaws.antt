@@ -2,30 +2,26 @@
 -- answer by answer.
 use mathlib.Core.Path.{_≡_, refl, sym, ap, _∙_, subst}
 use mathlib.Core.Bool.{Bool, true, false}
-use mathlib.Core.List.{List, [], _∷_, _++_, map}
-use Prim.Native.Nat.{ℕ, suc, _+_, _-_, _≤_, _<_}
+use mathlib.Core.List.{List, [], _∷_, map}
+use Prim.Native.Nat.{ℕ, _-_, _≤_, _<_}
 use native.Mathlib.Omega.{arith}
 use lib.ListN.{length, take, drop, length-drop, length-take}
-use lib.Seq.{length-take-le}
 use Rattle.basis.specs.Choice.{pick}
 use Rattle.forms.specs.Cells.{arityOf}
 use Rattle.forms.specs.Compact.{pairForm}
 use Rattle.plain.specs.Words.{Word}
 use Rattle.plain.specs.Joins.{Terms, matching, copied, along}
 use Rattle.space.specs.Sound.{answerUnder}
-use Rattle.space.specs.declared.Head.{Head}
 use Rattle.space.specs.declared.Answer.{Answer}
-use Rattle.parts.specs.Parts.{parts, GroundForm, InHand}
+use Rattle.parts.specs.Parts.{parts, InHand}
 use Rattle.parts.specs.Hands.{Holds}
 use Rattle.parts.specs.declared.Together.{Together}
 use Rattle.parts.specs.declared.Together.the-variants.{Form, TooLong}
-use Rattle.pairing.specs.declared.Source.{Source}
 use Rattle.pairing.specs.declared.Sides.{Sides}
-use Rattle.pairing.specs.declared.Found.{Found}
 use Rattle.pairing.specs.declared.Found.the-variants as found
-use Rattle.pairing.specs.Pairing.{formsFrom, SourceIn, Remains, hand, twoHands, mostTokens, formIn, Takeable, TakesSecond, SecondTakeable, FirstTakeable, endOf, HandsComparable, HandsCompare, HandsCopyable, HandsCopied, Known, Compared, partsFrom, alongHand, FormLeft, FirstTooLong, Finds}
+use Rattle.pairing.specs.Pairing.{formsFrom, Remains, hand, twoHands, mostTokens, formIn, TakesSecond, SecondTakeable, HandsComparable, HandsCompare, HandsCopyable, HandsCopied, Known, Compared, partsFrom, alongHand, Finds}
 use Rattle.pairing.proofs.RemainsLaws.{forms-none, Stop, remains-some}
-use Rattle.pairing.proofs.HandLaws.{form-in, hand-kept, hand-stays, ground-short}
+use Rattle.pairing.proofs.HandLaws.{hand-stays}
 use Rattle.space.proofs.HeaderLaws.{bounds-nodes}
 
 -- ---- one answer of the second

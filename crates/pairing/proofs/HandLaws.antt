@@ -2,17 +2,16 @@
 use mathlib.Core.Path.{_≡_, refl, sym, ap, _∙_, subst}
 use mathlib.Core.Bool.{Bool, true, false}
 use mathlib.Core.List.{List, [], _∷_, _++_, append-nil}
-use Prim.Native.Nat.{ℕ, zero, suc, _+_, _-_, _≤_, _<_}
+use Prim.Native.Nat.{ℕ, zero, suc, _+_, _-_, _≤_}
 use native.Mathlib.Omega.{arith}
-use lib.ListN.{length, take, drop, getD, length-take, length-drop}
+use lib.ListN.{length, take, drop, getD, length-drop}
 use borrow.Rule.Slice.PartMut.{putMid, post-is, take-put}
-use lib.Seq.{drop-at, take-all, take-take, getD-take, take-add, length-take-le}
+use lib.Seq.{drop-at, take-all, take-take, getD-take, length-take-le}
 use Rattle.forms.specs.Terms.{Term, every}
 use Rattle.forms.specs.Compact.{compact, formTerms}
 use Rattle.forms.proofs.ExactLaws.{forms-compact}
 use Rattle.forms.proofs.RoundTrip.{legal-parts}
 use Rattle.plain.specs.Words.{Word}
-use Rattle.plain.specs.Coding.{compactCoding}
 use Rattle.plain.proofs.CompactCoding.{compact-laws}
 use Rattle.trie.specs.Paths.{Path, none, tokens}
 use Rattle.trie.specs.Runs.{pathTo}

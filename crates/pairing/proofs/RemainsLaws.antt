@@ -1,25 +1,21 @@
 -- The answers of a source from one on: its path, its form, and those behind it.
 use mathlib.Core.Path.{_≡_, refl, sym, ap, _∙_, subst}
 use mathlib.Core.Bool.{Bool, true, false, _&&_}
-use mathlib.Core.List.{List, [], _∷_, _++_, map}
+use mathlib.Core.List.{List, [], _∷_}
 use Prim.Native.Nat.{ℕ, zero, suc, _+_, _≤_, _<_}
 use native.Mathlib.Omega.{arith}
 use lib.Dec.{eqb}
-use lib.ListN.{length}
-use borrow.Author.Tests.{eqb-true}
-use Rattle.basis.proofs.Cases.{by-cases}
 use Rattle.forms.specs.Cells.{arityOf}
 use Rattle.plain.specs.Words.{Word}
 use Rattle.plain.specs.Coding.{Coding, codingOf}
-use Rattle.space.specs.Judging.{answerSound}
 use Rattle.space.specs.Sound.{answerUnder}
 use Rattle.space.specs.declared.Head.{Head}
 use Rattle.space.specs.declared.Answer.{Answer}
 use Rattle.space.proofs.JudgingLaws.{answer-bounds, follows-rises, follows-within}
-use Rattle.trie.specs.Paths.{Path, tokens, gather, longest}
+use Rattle.trie.specs.Paths.{tokens}
 use Rattle.trie.specs.Runs.{pathTo}
-use Rattle.store.specs.Views.{View, answerTrie}
-use Rattle.store.specs.Decisions.{Chain, unbroken, chainFrom, soundAnswer, soundAnswerOf}
+use Rattle.store.specs.Views.{View}
+use Rattle.store.specs.Decisions.{unbroken, chainFrom, soundAnswer}
 use Rattle.store.specs.Contracts.{viewIn}
 use Rattle.parts.specs.Parts.{GroundForm, AllGround}
 use Rattle.pairing.specs.declared.Source.{Source}

@@ -8,15 +8,13 @@ use lib.ListN.{length, take, drop, getD}
 use Rattle.forms.specs.Cells.{arityOf}
 use Rattle.forms.specs.Compact.{pairForm}
 use Rattle.plain.specs.Words.{Word}
-use Rattle.plain.specs.Coding.{Coding, codingOf}
+use Rattle.plain.specs.Coding.{codingOf}
 use Rattle.plain.specs.Joins.{pairsNamed, copiesNamed, along, combined}
 use Rattle.space.specs.Sound.{Bounds, subgoalUnder}
 use Rattle.space.specs.declared.Head.{Head}
-use Rattle.space.specs.declared.Subgoal.{Subgoal}
-use Rattle.trie.specs.Paths.{Path, tokens}
+use Rattle.trie.specs.Paths.{tokens}
 use Rattle.trie.specs.Runs.{Ends, pathTo}
 use Rattle.trie.specs.declared.End.{End}
-use Rattle.store.specs.Views.{View}
 use Rattle.store.specs.Decisions.{Chain, broken, unbroken, chainFrom}
 use Rattle.store.specs.Contracts.{viewIn}
 use Rattle.parts.specs.Parts.{parts, GroundForm, AllGround, handed, InHand}

@@ -1,7 +1,7 @@
 -- Terms of answers in hand put together copy by copy.
-use Prim.Native.Nat.{ℕ, suc, _+_, _*_, _/_, _≤_, _<_}
+use Prim.Native.Nat.{ℕ, _+_, _*_, _/_, _≤_, _<_}
 use mathlib.Core.Bool.{Bool, true, false}
-use mathlib.Core.List.{List, [], _∷_, _++_, append-assoc, append-nil}
+use mathlib.Core.List.{List, _++_, append-assoc, append-nil}
 use mathlib.Core.Path.{_≡_, refl, sym, ap, _∙_}
 use native.Mathlib.Omega.{arith}
 use lib.Dec.{eqb, leb}
@@ -25,7 +25,7 @@ use Rattle.parts.proofs.GroundForms.{all-well, form-ground, form-count}
 use Rattle.parts.proofs.JoinedForms.{copied-both, pair-cells}
 use Rattle.parts.proofs.SegmentLaws.{hand-spans, hand-segment}
 use Rattle.parts.proofs.Counting.{every-counted}
-use Rattle.parts.proofs.NamedTerms.{NamedCopy, named-copy, copies-even}
+use Rattle.parts.proofs.NamedTerms.{named-copy, copies-even}
 
 -- ---- what is put together
 

@@ -1,23 +1,22 @@
 -- Forms without variables: what holds of their terms, in pair form and in tokens.
-use Prim.Native.Nat.{ℕ, zero, suc, _≤_, _<_}
+use Prim.Native.Nat.{ℕ, zero, suc, _<_}
 use mathlib.Core.Bool.{Bool, true, false}
 use mathlib.Core.List.{List, [], _∷_, _++_, append-nil, map}
 use mathlib.Core.Path.{_≡_, refl, sym, ap, _∙_}
 use native.Mathlib.Omega.{arith}
-use lib.Dec.{eqb}
 use lib.ListN.{length, getD}
 use Rattle.basis.proofs.Cases.{by-cases}
 use Rattle.forms.specs.Cells.{variable, shapeOf, tokenOf}
-use Rattle.forms.specs.Terms.{Term, pairs, every, applied, reads}
+use Rattle.forms.specs.Terms.{Term, pairs, every, reads}
 use Rattle.forms.specs.Numbering.{met}
-use Rattle.forms.specs.Compact.{compact, formTerms, pairForm, same, legalForm}
+use Rattle.forms.specs.Compact.{compact, formTerms, pairForm, same}
 use Rattle.forms.proofs.ShapeLaws.{marks}
 use Rattle.forms.proofs.ReadLaws.{WellFormed, AllWellFormed}
 use Rattle.forms.proofs.CompactLaws.{prefix-free}
 use Rattle.forms.proofs.NumberingLaws.{Each, each-met}
 use Rattle.forms.proofs.ExactLaws.{reads-every, forms-well-formed, forms-compact}
 use Rattle.forms.proofs.RoundTrip.{pair-variables, same-self, same-true, legal-parts}
-use Rattle.forms.proofs.LongestForms.{Constant, constant-met}
+use Rattle.forms.proofs.LongestForms.{Constant}
 use Rattle.plain.specs.Words.{Word}
 use Rattle.parts.specs.Parts.{GroundForm}
 

@@ -9,17 +9,16 @@ use lib.ListN.{length, getD}
 use borrow.Author.Tests.{eqb-true, ltb-true, lt-ltb, le-ltb, leb-true, leb-false}
 use Rattle.basis.specs.Choice.{pick}
 use Rattle.basis.proofs.Cases.{by-cases}
-use Rattle.forms.specs.Cells.{shapeOf}
 use Rattle.forms.specs.Terms.{Term, pairs, every, areTerms}
 use Rattle.forms.specs.Numbering.{met}
-use Rattle.forms.specs.Compact.{compact, compactForm, formTerms, pairForm, same}
+use Rattle.forms.specs.Compact.{compact, compactForm, formTerms, pairForm}
 use Rattle.forms.specs.Converting.{reading}
 use Rattle.forms.proofs.ExactLaws.{pairs-terms, forms-every}
 use Rattle.forms.proofs.RoundTrip.{form-every}
 use Rattle.forms.proofs.LongestForms.{Constant, constant-append, constant-met, constant-numbered}
 use Rattle.plain.specs.Words.{Word}
-use Rattle.plain.specs.Coding.{compactCoding, Reading, refused, accepted, handedOn, judged, compacted}
-use Rattle.plain.specs.Joins.{Terms, Forms, declined, formed, termAt, pairsNamed, copiesNamed, named, matching, copied, along, combined, before, allRead}
+use Rattle.plain.specs.Coding.{compactCoding, refused, accepted, handedOn, judged, compacted}
+use Rattle.plain.specs.Joins.{Terms, pairsNamed, copiesNamed, named, matching, copied, along, combined, before, allRead}
 use Rattle.parts.specs.Parts.{parts, GroundForm, AllGround, allFit, fitted, JoinedForms}
 use Rattle.parts.proofs.GroundForms.{GroundTerms, all-well, form-ground, form-count, same-either, TermAt, term-at}
 

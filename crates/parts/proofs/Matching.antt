@@ -1,9 +1,8 @@
 -- Answers in hand compared pair by pair.
 use Prim.Native.Nat.{ℕ, _+_, _≤_, _<_}
 use mathlib.Core.Bool.{Bool, true, false}
-use mathlib.Core.List.{List, [], _∷_}
+use mathlib.Core.List.{List}
 use mathlib.Core.Path.{_≡_, refl, sym, ap, _∙_}
-use native.Mathlib.Omega.{arith}
 use lib.ListN.{length, drop, getD, drop-of-length-le}
 use Rattle.basis.specs.Choice.{pick}
 use Rattle.forms.specs.Compact.{same}
@@ -13,7 +12,7 @@ use Rattle.parts.specs.Parts.{parts, InHand}
 use Rattle.parts.specs.Segments.{Spans, segment}
 use Rattle.parts.specs.Hands.{Comparable, Compares}
 use Rattle.parts.proofs.SegmentLaws.{hand-spans, hand-segment}
-use Rattle.parts.proofs.NamedTerms.{NamedPair, named-pair}
+use Rattle.parts.proofs.NamedTerms.{named-pair}
 
 -- what is left to be compared decides
 pub record Left (m n : ℕ) (us vs : Terms) (pairs : List ℕ) (i : ℕ) : Type 0 where

@@ -1,7 +1,7 @@
 -- One pass over the tokens of a form finds where its terms begin: by the arguments still due and the lists still open.
-use Prim.Native.Nat.{ℕ, zero, suc, _+_, _*_, _-_, _≤_, _<_}
+use Prim.Native.Nat.{ℕ, zero, suc, _+_, _-_, _<_}
 use mathlib.Core.Bool.{Bool, true, false, false≢true}
-use mathlib.Core.List.{List, [], _∷_, _++_, append-assoc, append-nil}
+use mathlib.Core.List.{List, [], _∷_, _++_, append-assoc}
 use mathlib.Core.Path.{_≡_, refl, sym, ap, _∙_}
 use native.Mathlib.Omega.{arith}
 use native.Mathlib.Nat.{add-suc, suc-add, zero-add, add-zero, add-assoc}
@@ -14,7 +14,7 @@ use Rattle.basis.proofs.Cases.{by-cases}
 use Rattle.forms.specs.declared.Shape.the-variants.{Symbol, Illegal}
 use Rattle.forms.specs.Cells.{nil, BLIST, ELIST, EPAIR, shapeOf}
 use Rattle.forms.specs.Due.{arguments, dueAfter}
-use Rattle.forms.specs.Terms.{Term, cell, arg, pair, pairs, every}
+use Rattle.forms.specs.Terms.{Term, cell, arg, pair, every}
 use Rattle.forms.specs.Compact.{compact, elements, formTerms}
 use Rattle.forms.proofs.ReadLaws.{WellFormed, AllWellFormed}
 use Rattle.forms.proofs.FormLaws.{pairs-size}

@@ -1,18 +1,17 @@
 -- The tokens of a term stand between the places of an answer in hand.
 use Prim.Native.Nat.{ℕ, zero, suc, _+_, _-_, _≤_, _<_}
-use mathlib.Core.Bool.{Bool, true, false}
 use mathlib.Core.List.{List, [], _∷_, _++_, append-nil, map}
-use mathlib.Core.Path.{_≡_, refl, sym, ap, _∙_}
+use mathlib.Core.Path.{_≡_, sym, ap, _∙_}
 use native.Mathlib.Omega.{arith}
 use native.Mathlib.Nat.{suc-add, zero-add}
 use native.Mathlib.Numerals.{add-one}
-use lib.ListN.{length, take, drop, getD, length-append, length-take}
+use lib.ListN.{length, take, drop, getD, length-append}
 use lib.Seq.{slice, take-take, take-nil, drop-nil, take-append-seam, drop-append-seam}
 use Rattle.forms.specs.Terms.{Term, every}
 use Rattle.forms.specs.Compact.{compact, formTerms}
 use Rattle.plain.specs.Words.{Word}
 use Rattle.plain.specs.Joins.{termAt}
-use Rattle.parts.specs.Parts.{parts, startOf, handed, InHand}
+use Rattle.parts.specs.Parts.{parts, handed, InHand}
 use Rattle.parts.specs.Segments.{from, until, Spans, segment}
 use Rattle.parts.proofs.GroundForms.{form-count, form-tokens}
 

@@ -1,11 +1,11 @@
 -- A form taken in hand token by token: its tokens copied, and the places noted at which terms begin.
 use Prim.Native.Nat.{ℕ, zero, suc, _+_, _*_, _-_, _≤_, _<_}
-use mathlib.Core.Bool.{Bool, true, false}
+use mathlib.Core.Bool.{true, false}
 use mathlib.Core.List.{List, [], _∷_, _++_}
 use mathlib.Core.Path.{_≡_, refl, sym, ap, _∙_, subst}
 use native.Mathlib.Omega.{arith}
 use native.Mathlib.Numerals.{add-one}
-use lib.Dec.{eqb, ltb}
+use lib.Dec.{ltb}
 use lib.ListN.{length, take, drop, getD, set, length-set, length-drop, drop-of-length-le}
 use lib.Seq.{drop-cons, take-length, drop-set-lt, drop-set-add, take-suc, take-suc-set, getD-set-same, getD-set-other}
 use borrow.Author.Tests.{ltb-true, ltb-false, eq-eqb, ne-eqb}
@@ -13,9 +13,8 @@ use Rattle.basis.specs.Choice.{pick}
 use Rattle.basis.proofs.Cases.{by-cases}
 use Rattle.forms.specs.Cells.{BLIST, arityOf}
 use Rattle.forms.specs.Due.{dueAfter}
-use Rattle.plain.specs.Coding.{compactCoding}
 use Rattle.plain.proofs.CompactCoding.{compact-laws}
-use Rattle.parts.specs.Parts.{startOf, GroundForm, InHand}
+use Rattle.parts.specs.Parts.{startOf, GroundForm}
 use Rattle.parts.specs.Segments.{closing, takes}
 use Rattle.parts.specs.Hands.{Takeable, Taken}
 use Rattle.parts.proofs.Scanning.{isNone, less, depthAfter, Sound, dueAfterToken, begins, begins-here, begins-count, begins-at, form-sound, start-last}

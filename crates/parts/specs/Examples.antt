@@ -7,9 +7,8 @@ use lib.ListN.{length, replicate}
 use Rattle.forms.specs.Cells.{tag, BLIST, ELIST, EPAIR, arityOf, shapeOf, symbolic, tokenOf}
 use Rattle.forms.specs.Due.{arguments}
 use Rattle.forms.specs.Terms.{pairs, every}
-use Rattle.forms.specs.Numbering.{rank, seen, met, renamed, numbered}
 use Rattle.forms.specs.Compact.{compact, elements, filled, lastOf, tailOf, inside, into, collected, whole, entered}
-use Rattle.forms.specs.Compact.{items, front, formTerms, pairForm, same, areForms, legalForm}
+use Rattle.forms.specs.Compact.{items, front, formTerms, pairForm, same}
 use Rattle.plain.specs.Words.{Word}
 use Rattle.plain.specs.Joins.{Terms, declined, formed, matching, copied}
 use Rattle.parts.specs.Parts.{parts, startOf, allFit, fitted}

@@ -1,8 +1,8 @@
 -- The line that is printed for each reply.
 use Prim.Native.Nat.{ℕ, _+_, _*_}
-use mathlib.Core.List.{List, [], _∷_, _++_}
+use mathlib.Core.List.{List, _∷_, _++_}
 use lib.ListN.{take}
-use Rattle.plain.specs.Requests.{State, Open, Finished, Counts}
+use Rattle.plain.specs.Requests.{State, Open, Finished}
 use Rattle.plain.specs.Requests.{Reply, new, oldSubgoal, oldAnswer, done, at, noneYet, noMore, cells, used, joined}
 use Rattle.plain.specs.Requests.{refused, short}
 use Rattle.text.specs.Letters.{letters}

@@ -14,11 +14,11 @@ use Rattle.text.specs.Fields.{Fields, fields, Number, noNumber, number, Cells, 
 use Rattle.text.specs.Digits.{Puts}
 use Rattle.text.specs.Places.{restAt, EndsFirst}
 use Rattle.basis.proofs.SetsLaws.{sets-append}
-use Rattle.plain.specs.Requests.{Request, Reply, call, answer, finish, next, counts}
+use Rattle.plain.specs.Requests.{Request, call, answer, finish, next, counts}
 use Rattle.store.specs.Calls.{spaceStep}
 use Rattle.asking.specs.Lines.{Meaning, bad, asks, withCells, withNumber, oneNumber, twoNumbers, numberAndCells, noField, wordCall, wordAnswer, wordFinish, wordNext, wordLoad, wordInstance, wordCounts, wordMeans, means, meansCall, meansAnswer, meansFinish, meansNext, meansLoad, meansInstance, meansCounts}
 use Rattle.text.specs.Cutting.{newline}
-use Rattle.replies.specs.Texts.{textBad, replyText, textRoom}
+use Rattle.replies.specs.Texts.{textRoom}
 use Rattle.asking.specs.Saying.{Said, outLeft, says}
 use Rattle.asking.specs.Asking.{Prints}
 use Rattle.asking.proofs.AskingLaws.{bad-out, asks-out}

@@ -1,5 +1,5 @@
 -- The program prints the session of its input's lines: line after line first, then byte after byte.
-use Prim.Native.Nat.{ℕ, suc, zero, _+_, _*_, _≤_, _<_}
+use Prim.Native.Nat.{ℕ, suc, zero, _+_, _≤_, _<_}
 use mathlib.Core.Bool.{Bool, true, false}
 use mathlib.Core.List.{List, [], _∷_, _++_, append-assoc}
 use mathlib.Core.Path.{_≡_, refl, sym, ap, _∙_}
@@ -7,17 +7,15 @@ use native.Mathlib.Omega.{arith}
 use lib.Dec.{eqb, leb}
 use lib.ListN.{length, take, drop, set, length-append, length-drop, length-set}
 use lib.Seq.{take-all, take-nil, take-append-seam, length-take-le, length-front}
-use borrow.Author.Tests.{le-leb, lt-leb, leb-true, leb-false, eq-eqb, ne-eqb}
+use borrow.Author.Tests.{le-leb, leb-true, leb-false, eq-eqb, ne-eqb}
 use Rattle.basis.specs.Choice.{pick}
 use Rattle.basis.specs.Editions.{knownEdition}
 use Rattle.basis.proofs.Cases.{by-cases}
 use Rattle.forms.specs.Compact.{same}
 use Rattle.plain.specs.Requests.{Request, call, answer, finish, next, load, instance, counts, join, lent}
-use Rattle.plain.specs.Table.{fresh}
-use Rattle.space.specs.Layout.{sizesOf, subgoalWidth, answerWidth, endOffset}
+use Rattle.space.specs.Layout.{sizesOf, subgoalWidth, answerWidth}
 use Rattle.space.specs.Heading.{inRange}
 use Rattle.space.specs.Fresh.{freshFits, freshAnswer, freshAnswerIn}
-use Rattle.space.specs.declared.FreshAnswer.the-variants.{Done}
 use Rattle.space.specs.declared.Header.{Header}
 use Rattle.space.specs.declared.Header.the-variants as header
 use Rattle.space.specs.Heading.{spaceHeader}
@@ -30,13 +28,13 @@ use Rattle.text.specs.Cutting.{newline, Lines, linesFrom, lastLine, linesOf, jo
 use Rattle.text.specs.declared.Taking.{Taking}
 use Rattle.text.specs.declared.Taking.the-variants.{Line, More}
 use Rattle.text.proofs.CuttingLaws.{keeps-more, lines-end, lines-on, taking-end, taking-on, rest-behind}
-use Rattle.asking.specs.Lines.{Meaning, bad, asks, withCells, withNumber, longestLine, meansCall, meansAnswer, meansFinish, meansNext, meansLoad, meansInstance, meansCounts, wordMeans, means, wordCall, wordAnswer, wordFinish, wordNext, wordLoad, wordInstance, wordCounts}
+use Rattle.asking.specs.Lines.{Meaning, bad, asks, withCells, withNumber, longestLine, meansCounts, wordMeans, means, wordCall, wordAnswer, wordFinish, wordNext, wordLoad, wordInstance, wordCounts}
 use Rattle.replies.specs.Texts.{textRoom}
-use Rattle.session.specs.Numbers.{sessionEdition, sessionNodes, sessionSubgoals, sessionAnswers, spaceCells, startAnswer, startSpace}
+use Rattle.session.specs.Numbers.{sessionNodes, sessionSubgoals, sessionAnswers, startSpace}
 use Rattle.asking.specs.Saying.{Said, outLeft, says}
-use Rattle.session.specs.Session.{session, Response, responding, cellSession}
+use Rattle.session.specs.Session.{session, Response, responding}
 use Rattle.session.specs.Program.{responses, Responded, Held, Turn, turn, withLine, answersLine, keepsByte, feed, lastPrinted, runs, goesOn, TurnByTurn, Ready, starts, AnyInput, Lengths, Started, Sessions}
-use Rattle.session.proofs.LineLaws.{means-short, means-long}
+use Rattle.session.proofs.LineLaws.{means-long}
 use Rattle.session.proofs.Theorem.{printed}
 
 -- ---- a call leaves out as long as it was lent

@@ -7,7 +7,7 @@ use Rattle.basis.specs.Editions.{knownEdition}
 use Rattle.forms.specs.Numbering.{rank, seen, met, renamed, numbered}
 use Rattle.forms.specs.Compact.{compact, elements, compactForm, filled, lastOf, tailOf, inside, into, collected}
 use Rattle.forms.specs.Compact.{entered, items, front, formTerms, pairForm, same}
-use Rattle.forms.specs.Cells.{arityOf, callable, tag, nil, PAIR, shapeOf, symbolic, tokenOf}
+use Rattle.forms.specs.Cells.{arityOf, callable, shapeOf, symbolic, tokenOf}
 use Rattle.forms.specs.Terms.{pairs, every, applied, paired, begun, reads, areTerms}
 use Rattle.forms.specs.Converting.{reading}
 use Rattle.forms.specs.Compact.{areForms, legalForm}
@@ -24,7 +24,7 @@ use Rattle.store.specs.Decisions.{calledOld, calledNew, calledAt, calledBy, ans
 use Rattle.store.specs.Decisions.{answeredBy, starting, handed, onward, onPath, loaded, instanced, decideBy}
 use Rattle.store.specs.Changes.{subgoalEntered, answerEntered, changeBy}
 use Rattle.store.specs.Calls.{reply, outAfter, underBy, underAnyBy, spaceStepBy}
-use Rattle.plain.specs.Requests.{Open, Request, call, answer, finish, next, load, instance, counts, Reply, new}
+use Rattle.plain.specs.Requests.{Open, call, answer, finish, next, load, instance, counts, new}
 use Rattle.plain.specs.Requests.{oldSubgoal, cells, used, refused, short, lent}
 use Rattle.text.specs.Fields.{fields, valueFrom, numeral, hexCells}
 use Rattle.text.specs.Digits.{digitsBefore, cellTexts}

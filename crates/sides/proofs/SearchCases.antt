@@ -16,7 +16,7 @@ use Rattle.space.specs.declared.Answer.{Answer}
 use Rattle.space.specs.declared.AnswerRead.the-variants as answer
 use Rattle.space.proofs.JudgingLaws.{read-answer-sound}
 use Rattle.trie.specs.Siblings.{trieIn}
-use Rattle.trie.specs.Walks.{whole, Finding, walkBy, shown}
+use Rattle.trie.specs.Walks.{Finding, walkBy, shown}
 use Rattle.trie.specs.declared.Walked.{Walked}
 use Rattle.trie.specs.declared.Walked.the-variants as walked
 use Rattle.store.specs.Views.{View}

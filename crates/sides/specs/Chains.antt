@@ -12,7 +12,7 @@ use Rattle.plain.specs.Words.{Word}
 use Rattle.plain.specs.Coding.{codingOf}
 use Rattle.plain.specs.Joins.{ground}
 use Rattle.space.specs.declared.Head.{Head}
-use Rattle.trie.specs.Paths.{Path, none, tokens}
+use Rattle.trie.specs.Paths.{Path, tokens}
 use Rattle.store.specs.Contracts.{viewIn}
 use Rattle.store.specs.Decisions.{Chain, broken, unbroken, headed, chainFrom, chainOf}
 use Rattle.sides.specs.declared.Judged.{Judged}

@@ -1,12 +1,9 @@
 -- A law for each case of judging.
 use Prim.Native.Nat.{ℕ, _+_, _<_, _≤_}
-use mathlib.Core.Path.{_≡_, refl}
-use mathlib.Core.Bool.{Bool, true, false, not}
-use mathlib.Core.List.{List}
+use mathlib.Core.Path.{_≡_}
+use mathlib.Core.Bool.{true, false, not}
 use lib.Dec.{eqb, leb, ltb}
-use lib.ListN.{length, getD}
 use borrow.Author.Tests.{lt-ltb, le-ltb, le-leb, lt-leb, eq-eqb, ne-eqb}
-use Rattle.space.specs.Layout.{sizes, nodeIn}
 use Rattle.space.specs.Judging.{follows, bothOrNeither, nodeSound, subgoalSound, answerSound, readNode, readSubgoal, readAnswer}
 use Rattle.space.specs.declared.Node.{Node}
 use Rattle.space.specs.declared.Subgoal.{Subgoal}

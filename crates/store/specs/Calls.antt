@@ -11,7 +11,6 @@ use Rattle.plain.specs.Requests.{Request, lent, Counts, Reply, new, done, cells
 use Rattle.plain.specs.Requests.{trace}
 use Rattle.space.specs.Layout.{Sizes, sizesOf, nodesCell, subgoalsCell, answersCell}
 use Rattle.space.specs.Heading.{headerOf, spaceHeader}
-use Rattle.space.specs.declared.Head.{Head}
 use Rattle.space.specs.declared.Header.{Header}
 use Rattle.space.specs.declared.Header.the-variants as header
 use Rattle.trie.specs.Siblings.{searchChildren}

@@ -11,13 +11,11 @@ use Rattle.forms.specs.Numbering.{met}
 use Rattle.plain.specs.Words.{Word, has, most}
 use Rattle.plain.specs.Coding.{Coding, Reading, refused, accepted}
 use Rattle.plain.specs.Requests.{State, Open, Finished, Request, call, answer, finish, next, load, instance, counts}
-use Rattle.plain.specs.Requests.{Counts, Reply, new, oldSubgoal, oldAnswer, done, at, cells, used, refused}
-use Rattle.plain.specs.Requests.{short, lacksNext, join}
+use Rattle.plain.specs.Requests.{Reply, oldSubgoal, oldAnswer, at, used, refused}
+use Rattle.plain.specs.Requests.{lacksNext, join}
 use Rattle.plain.specs.Joins.{Forms, declined, formed, Side, joinOf}
 use Rattle.space.specs.Judging.{subgoalSound, answerSound}
-use Rattle.space.specs.declared.Subgoal.{Subgoal}
-use Rattle.space.specs.declared.Answer.{Answer}
-use Rattle.trie.specs.Siblings.{Trie, searchChildren}
+use Rattle.trie.specs.Siblings.{searchChildren}
 use Rattle.trie.specs.Walks.{Walk, whole, stopped, damaged, Finding, rootSound, walkBy}
 use Rattle.trie.specs.Paths.{Path, none, tokens, gather, longest}
 use Rattle.store.specs.Views.{View, subgoalTrie, answerTrie}

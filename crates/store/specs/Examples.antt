@@ -1,10 +1,10 @@
 -- The marked tables, the worked session and refusals in their order, on the cells of small spaces.
-use mathlib.Core.List.{List, [], _∷_, _++_, map}
+use mathlib.Core.List.{List, [], _∷_, map}
 use mathlib.Core.Path.{_≡_, refl}
 use Prim.Native.Nat.{ℕ}
 use lib.ListN.{set, replicate}
 use Rattle.basis.specs.Editions.{knownEdition}
-use Rattle.forms.specs.Cells.{arityOf, callable, tag, nil, PAIR, shapeOf, symbolic, tokenOf}
+use Rattle.forms.specs.Cells.{arityOf, callable, tag, shapeOf, symbolic, tokenOf}
 use Rattle.forms.specs.Terms.{pairs, every, applied, paired, begun, reads, areTerms}
 use Rattle.forms.specs.Numbering.{rank, seen, met, renamed, numbered}
 use Rattle.forms.specs.Compact.{compact, elements, compactForm, filled, lastOf, tailOf, inside, into, collected}
@@ -12,10 +12,10 @@ use Rattle.forms.specs.Compact.{entered, items, front, formTerms, pairForm, sam
 use Rattle.forms.specs.Converting.{reading}
 use Rattle.forms.specs.Compact.{areForms, legalForm}
 use Rattle.plain.specs.Coding.{judged, handedOn, predicate, compacted, substituted, codingOf}
-use Rattle.plain.specs.Requests.{Open, Finished, Request, call, answer, finish, next, load, instance, counts, Counts}
-use Rattle.plain.specs.Requests.{Reply, new, oldSubgoal, oldAnswer, done, at, cells, used, refused, short, Seen}
+use Rattle.plain.specs.Requests.{Request, call, answer, counts}
+use Rattle.plain.specs.Requests.{Reply, new, oldAnswer, used, refused, Seen}
 use Rattle.plain.specs.Requests.{lent, trace}
-use Rattle.plain.specs.Examples.{var, atom, int, fun, count, saw, three, sessionCalls, sessionSeen, numberCalls}
+use Rattle.plain.specs.Examples.{atom, fun, count, saw, three, sessionCalls, sessionSeen, numberCalls}
 use Rattle.plain.specs.Examples.{numberReplies}
 use Rattle.space.specs.Layout.{sizes, sizesOf, subgoalWidth, answerWidth}
 use Rattle.space.specs.Heading.{inRange, capacity, whole, counted, headerOf, spaceHeader}

@@ -1,6 +1,5 @@
 -- What each answer of the code says: the number and values that the request's paper gives for each case.
-use mathlib.Core.List.{List}
-use Rattle.plain.specs.Requests.{State, Open, Finished, Counts, Reply, new, oldSubgoal, oldAnswer, done, at}
+use Rattle.plain.specs.Requests.{State, Open, Finished, Reply, new, oldSubgoal, oldAnswer, done, at}
 use Rattle.plain.specs.Requests.{lacksNext, cells, used, joined, refused, short}
 use Rattle.forms.specs.declared.Answer.{Answer}
 use Rattle.forms.specs.declared.Answer.the-variants as converted
@@ -16,7 +15,6 @@ use Rattle.store.specs.declared.NextAnswer.{NextAnswer}
 use Rattle.store.specs.declared.NextAnswer.the-variants as next
 use Rattle.store.specs.declared.JoinAnswer.{JoinAnswer}
 use Rattle.store.specs.declared.JoinAnswer.the-variants as join
-use Rattle.store.specs.declared.Counts as declared-counts
 use Rattle.store.specs.declared.CountsAnswer.{CountsAnswer}
 use Rattle.store.specs.declared.CountsAnswer.the-variants as counts
 

@@ -1,6 +1,6 @@
 -- Lines cut from chunks: each step keeps what the buffer holds of a line, and the chunks' borders do not show.
-use Prim.Native.Nat.{ℕ, suc, _+_, _-_, _≤_, _<_}
-use mathlib.Core.Bool.{Bool, true, false}
+use Prim.Native.Nat.{ℕ, _+_, _-_, _≤_, _<_}
+use mathlib.Core.Bool.{true, false}
 use mathlib.Core.List.{List, [], _∷_, _++_}
 use mathlib.Core.Path.{_≡_, refl, sym, ap, _∙_}
 use native.Mathlib.Numerals.{add-one}
@@ -9,9 +9,8 @@ use lib.Dec.{eqb, ltb, leb}
 use lib.ListN.{length, take, drop, getD, set, length-append, length-drop, length-set, drop-of-length-le}
 use lib.Seq.{drop-cons, drop-drop, take-all, take-append-le, length-take-le, take-suc-set, set-out}
 use borrow.Author.Tests.{ltb-true, lt-ltb, le-ltb, leb-true, leb-false, eq-eqb, ne-eqb}
-use Rattle.basis.specs.Choice.{pick}
 use Rattle.basis.proofs.Cases.{by-cases}
-use Rattle.text.specs.Cutting.{newline, Lines, lines, linesFrom, lastLine, linesOf, joined, linesOfChunks, AnyChunks, Took, took, keptMore, taking, Keeps, InRange, Cuts, TakesLines}
+use Rattle.text.specs.Cutting.{newline, Lines, lines, linesFrom, joined, linesOfChunks, AnyChunks, Took, took, keptMore, taking, Keeps, InRange, Cuts, TakesLines}
 use Rattle.text.specs.declared.Taking.{Taking}
 use Rattle.text.specs.declared.Taking.the-variants.{Line, More}
 

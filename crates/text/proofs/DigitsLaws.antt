@@ -4,7 +4,7 @@ use mathlib.Core.List.{List, [], _∷_, _++_, append-nil, append-assoc}
 use mathlib.Core.Bool.{Bool, true, false, not, _&&_}
 use mathlib.Core.Path.{_≡_, refl, sym, ap, _∙_}
 use native.Mathlib.Omega.{arith}
-use native.Mathlib.Nat.{add-suc, suc-add, add-zero, pow-zero, pow-suc, div-lt-iff-lt-mul, mul-le-mul-left, lt-of-lt-of-le}
+use native.Mathlib.Nat.{pow-zero, pow-suc, div-lt-iff-lt-mul, mul-le-mul-left, lt-of-lt-of-le}
 use native.Mathlib.Numerals.{add-one}
 use lib.Dec.{eqb, leb}
 use lib.ListN.{length, take, drop, getD, set, length-append, length-set, length-take, length-drop, drop-of-length-le}

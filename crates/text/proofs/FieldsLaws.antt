@@ -9,11 +9,11 @@ use lib.Pow.{pow-add}
 use lib.Dec.{eqb, leb, ltb}
 use lib.ListN.{length, take, drop, getD, set}
 use lib.Seq.{drop-cons, drop-length, take-suc, append-snoc, take-suc-set}
-use borrow.Author.Tests.{ltb-true, ltb-false, not-true, not-false, eqb-true, lt-ltb, le-ltb, le-leb, lt-leb, ne-eqb, eq-eqb}
+use borrow.Author.Tests.{ltb-true, ltb-false, not-true, not-false, lt-ltb, le-ltb, le-leb, lt-leb, ne-eqb, eq-eqb}
 use Rattle.basis.specs.Choice.{pick}
 use Rattle.basis.proofs.Cases.{by-cases}
 use Rattle.forms.specs.Compact.{same}
-use Rattle.text.specs.Fields.{space, digitOf, Fields, fields, Number, noNumber, number, Cells, noCells, cellsOf, valueFrom, numeral, numeralFirst, behind, firstNumber, onlyNumber, before, hexCells}
+use Rattle.text.specs.Fields.{space, digitOf, fields, Number, noNumber, number, Cells, noCells, cellsOf, valueFrom, numeral, numeralFirst, behind, firstNumber, onlyNumber, before, hexCells}
 use Rattle.text.specs.Places.{fieldAt, restAt, inField, Ends}
 
 -- ---- fields

@@ -1,17 +1,15 @@
 -- A law for each case of the append.
-use Prim.Native.Nat.{ℕ, suc, zero, _+_, _*_, _<_, _≤_}
+use Prim.Native.Nat.{ℕ, _+_, _*_, _<_, _≤_}
 use mathlib.Core.Path.{_≡_, refl, sym, ap, _∙_}
-use mathlib.Core.Bool.{Bool, true, false}
 use mathlib.Core.List.{List, [], _∷_}
 use native.Mathlib.Omega.{arith}
 use native.Mathlib.Numerals.{add-one}
-use lib.ListN.{length, getD, drop, set, length-set}
+use lib.ListN.{length, getD, drop, set}
 use lib.Seq.{drop-cons, drop-length}
 use lib.Dec.{eqb}
 use borrow.Author.Tests.{eq-eqb, ne-eqb, eqb-true, eqb-false}
-use Rattle.basis.specs.Writes.{Write, put, writes}
+use Rattle.basis.specs.Writes.{writes}
 use Rattle.basis.proofs.Cases.{by-cases}
-use Rattle.basis.proofs.WritesLaws.{length-writes}
 use Rattle.space.specs.Layout.{sizes, nodeAt, childCell, siblingCell, nodeTo}
 use Rattle.trie.specs.Append.{newNode, leadCell, appendNode, appendPath}
 

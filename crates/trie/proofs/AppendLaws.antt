@@ -1,17 +1,16 @@
 -- What an append changes and what it leaves.
-use Prim.Native.Nat.{ℕ, suc, zero, _+_, _*_, _<_, _≤_}
+use Prim.Native.Nat.{ℕ, _+_, _*_, _<_, _≤_}
 use mathlib.Core.Path.{_≡_, refl, sym, ap, _∙_}
 use mathlib.Core.Logic.{_⊎_, inl, inr}
-use mathlib.Core.Bool.{Bool, true, false}
 use mathlib.Core.List.{List, [], _∷_}
 use native.Mathlib.Omega.{arith}
 use lib.ListN.{length, getD, set, length-set}
 use lib.Dec.{eqb, ltb}
 use borrow.Author.Tests.{eq-eqb, ne-eqb, eqb-true, eqb-false, ltb-true, ltb-false}
-use Rattle.basis.specs.Writes.{Write, put, writes}
+use Rattle.basis.specs.Writes.{put}
 use Rattle.basis.proofs.Cases.{by-cases}
-use Rattle.basis.proofs.WritesLaws.{length-writes, Apart, writes-frame, writes-first}
-use Rattle.space.specs.Layout.{sizes, nodeAt, nodeFrom, nodeIn, nodeTo}
+use Rattle.basis.proofs.WritesLaws.{length-writes, writes-frame, writes-first}
+use Rattle.space.specs.Layout.{sizes, nodeAt, nodeIn, nodeTo}
 use Rattle.space.specs.declared.Node.{Node}
 use Rattle.space.proofs.LayoutLaws.{node-equal, node-apart, node-written}
 use Rattle.trie.specs.Append.{newNode, leadCell, appendNode, appendPath, withChild, withSibling, withNode, withPath}

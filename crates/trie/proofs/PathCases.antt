@@ -15,7 +15,7 @@ use Rattle.space.specs.declared.NodeRead.the-variants as node
 use Rattle.space.proofs.JudgingLaws.{node-bounds, read-node-sound, read-node-damaged}
 use Rattle.trie.specs.Siblings.{Trie, sound}
 use Rattle.trie.specs.Paths.{Path, none, tokens, gather, longest}
-use Rattle.trie.specs.Runs.{levels, pathCells, onto, Climb, lost, whole, cut, longer, climbed, lostCode, onCode, Ran, RunCopied, PathHolds, RunsHold, trieOf, pathTo, pathBy, Begun, Found, GoesOn}
+use Rattle.trie.specs.Runs.{levels, pathCells, onto, Climb, lost, whole, cut, longer, climbed, lostCode, onCode, Ran, RunCopied, PathHolds, RunsHold, trieOf, pathBy, Begun, Found, GoesOn}
 use Rattle.trie.specs.declared.End.{End}
 use Rattle.trie.specs.declared.Short.the-variants as short
 use Rattle.trie.specs.declared.Gathered.the-variants.{Tokens, Damaged}

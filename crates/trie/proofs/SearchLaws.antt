@@ -1,12 +1,11 @@
 -- What is known of a child that was found, and of the last sibling.
-use Prim.Native.Nat.{ℕ, suc, zero, _+_, _<_, _≤_}
-use mathlib.Core.Path.{_≡_, refl, sym, ap, _∙_}
-use mathlib.Core.Bool.{true, false}
+use Prim.Native.Nat.{ℕ, suc, zero, _<_, _≤_}
+use mathlib.Core.Path.{_≡_, refl, _∙_}
+use mathlib.Core.Bool.{true}
 use native.Mathlib.Omega.{arith}
 use lib.Dec.{eqb}
 use borrow.Author.Tests.{eqb-true, eqb-false}
 use Rattle.basis.proofs.Cases.{by-cases}
-use Rattle.space.specs.declared.Node.{Node}
 use Rattle.space.proofs.JudgingLaws.{node-bounds, follows-rises, follows-within}
 use Rattle.trie.specs.Siblings.{Trie, sound, searchSiblings, searchChildren}
 use Rattle.trie.specs.Walks.{Finding}

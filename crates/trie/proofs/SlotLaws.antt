@@ -7,7 +7,7 @@ use native.Mathlib.Omega.{arith}
 use lib.Bits.{bitAnd, and-mask}
 use lib.Count.{ones, ones-step, ones-cat}
 use lib.Dec.{eqb}
-use borrow.Author.Tests.{eqb-true, eqb-false, eq-eqb, ne-eqb}
+use borrow.Author.Tests.{eqb-true, eqb-false}
 use Rattle.basis.proofs.Cases.{by-cases}
 use Rattle.trie.specs.Index.{powerBelow, powerOfTwo, usedSlots, slotOf, slotAfter}
 

@@ -1,7 +1,7 @@
 -- A law for each case of the walk, by any way of finding a child.
 use Prim.Native.Nat.{ℕ, _+_, _-_, _<_, _≤_}
 use mathlib.Core.Path.{_≡_, refl, sym, ap, _∙_}
-use mathlib.Core.Bool.{true, false}
+use mathlib.Core.Bool.{true}
 use mathlib.Core.List.{List, [], _∷_}
 use native.Mathlib.Omega.{arith}
 use native.Mathlib.Numerals.{add-one}
@@ -13,12 +13,10 @@ use Rattle.space.specs.declared.Node.{Node}
 use Rattle.space.specs.declared.NodeRead.the-variants as node
 use Rattle.space.proofs.JudgingLaws.{read-node-sound, read-node-damaged}
 use Rattle.trie.specs.Siblings.{Trie, sound}
-use Rattle.trie.specs.Walks.{Walk, whole, stopped, damaged, onward, Finding, walkFromBy, walkBy, shown}
-use Rattle.trie.specs.declared.Search.{Search}
+use Rattle.trie.specs.Walks.{Walk, stopped, damaged, Finding, walkFromBy, walkBy, shown}
 use Rattle.trie.specs.declared.Search.the-variants.{Found, Last, Damaged}
-use Rattle.trie.specs.declared.Walked.{Walked}
 use Rattle.trie.specs.declared.Walked.the-variants as walked
-use Rattle.trie.proofs.SearchLaws.{Child, Finds}
+use Rattle.trie.proofs.SearchLaws.{Finds}
 
 -- one token of the walk
 module _ (find : Finding) (t : Trie) (n x : ℕ) (xs : List ℕ) where

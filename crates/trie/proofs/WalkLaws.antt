@@ -6,21 +6,21 @@ use mathlib.Core.List.{List, [], _∷_}
 use native.Mathlib.Omega.{arith}
 use lib.ListN.{length}
 use lib.Dec.{eqb}
-use borrow.Author.Tests.{eq-eqb, ne-eqb, eqb-true, eqb-false}
+use borrow.Author.Tests.{eq-eqb, eqb-true, eqb-false}
 use Rattle.basis.proofs.Cases.{by-cases}
-use Rattle.space.specs.Layout.{sizes, nodeIn}
+use Rattle.space.specs.Layout.{sizes}
 use Rattle.space.specs.Judging.{nodeSound}
 use Rattle.space.specs.declared.Node.{Node}
-use Rattle.space.proofs.JudgingLaws.{NodeBounds, node-bounds, node-sound, follows-zero, follows-last, follows-more, follows-within}
+use Rattle.space.proofs.JudgingLaws.{NodeBounds, node-bounds, node-sound, follows-zero, follows-last, follows-more}
 use Rattle.trie.specs.Siblings.{Trie, trieIn, sound, searchSiblings, searchChildren}
-use Rattle.trie.specs.Walks.{Walk, whole, stopped, damaged, walkFrom, walk, walkBy, walkFromBy}
+use Rattle.trie.specs.Walks.{whole, stopped, walkFrom, walk, walkBy, walkFromBy}
 use Rattle.trie.specs.Paths.{Path, none, tokens, below, gather}
 use Rattle.trie.proofs.PathLaws.{gather-unsound, gather-root, gather-other, gather-deep, gather-up}
 use Rattle.trie.specs.Append.{newNode, withChild, withSibling, withNode, appendNode, appendPath}
 use Rattle.trie.specs.declared.Search.{Search}
 use Rattle.trie.specs.declared.Search.the-variants.{Found, Last, Damaged}
-use Rattle.trie.proofs.SearchCases.{search-unsound, search-stray, search-same, search-last, search-next, children-none, children-some}
-use Rattle.trie.proofs.SearchLaws.{Step, hurt, same, ended, onto, search-step, sibling-within, Child, first-within, children-found, Ends, children-ended}
+use Rattle.trie.proofs.SearchCases.{search-same, search-next, children-none, children-some}
+use Rattle.trie.proofs.SearchLaws.{Step, hurt, same, ended, onto, search-step, sibling-within, first-within, children-found, Ends, children-ended}
 use Rattle.trie.proofs.WalkCases.{walk-found, walk-last, walk-damaged}
 use Rattle.trie.proofs.AppendLaws.{with-new, with-child, with-no-child, with-sibling, with-no-sibling, append-node-size, append-node-records}
 

@@ -4,7 +4,7 @@ use mathlib.Core.List.{List, [], _∷_}
 use lib.Dec.{eqb}
 use lib.ListN.{length}
 use Rattle.basis.specs.Choice.{pick}
-use Rattle.basis.specs.Writes.{Write, put, writes}
+use Rattle.basis.specs.Writes.{put, writes}
 use Rattle.space.specs.Layout.{Sizes, nodeAt, childCell, siblingCell, nodeTo}
 use Rattle.space.specs.Sound.{NodesIn}
 use Rattle.space.specs.declared.Node.{Node}

@@ -1,25 +1,17 @@
 -- `ask_answer` meets its contract.
 use Prim.Native.Nat.{ℕ}
 use mathlib.Core.List.{List}
-use mathlib.Core.Path.{_≡_, refl, sym, ap, _∙_}
+use mathlib.Core.Path.{sym, _∙_}
 use native.Mathlib.Omega.{arith}
-use lib.ListN.{length, take}
 use lib.Seq.{length-take-le}
 use borrow.Author.Needs.{needs}
-use Rattle.text.specs.Fields.{hexCells, behind}
-use Rattle.text.specs.Places.{fieldAt, restAt}
+use Rattle.text.specs.Fields.{hexCells}
+use Rattle.text.specs.Places.{restAt}
 use Rattle.plain.specs.Requests as request
 use Rattle.asking.specs.Lines.{withCells, numberAndCells}
 use Rattle.asking.proofs.AskingLaws.{first-means, first-bad, cells-ask, cells-bad, bad-leaves, asks-leaves}
 use Rattle.asking.proofs.ask_answer.Statement.{statement}
 use Rattle.asking.proofs.ask_answer.Tie as tie
-use Rattle.asking.proofs.ask_answer.Reads as reads
-use Rattle.asking.proofs.ask_answer.Lts as lts
-use Rattle.replies.proofs.print_answer.Reads as print-answer-reads
-use Rattle.replies.proofs.print_bad.Reads as print-bad-reads
-use Rattle.answering.proofs.answer.Reads as answer-reads
-use Rattle.text.proofs.fields.first_number.Reads as first-number-reads
-use Rattle.text.proofs.fields.read_cells.Reads as read-cells-reads
 
 first-number-requires : tie.Need-first-number-requires
 first-number-requires c κs = search needs

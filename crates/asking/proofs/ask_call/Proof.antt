@@ -1,22 +1,14 @@
 -- `ask_call` meets its contract.
-use mathlib.Core.Path.{_≡_, refl, sym, ap, _∙_}
-use native.Mathlib.Omega.{arith}
-use lib.ListN.{length, take}
+use mathlib.Core.Path.{sym}
 use lib.Seq.{length-take-le}
 use borrow.Author.Needs.{needs}
 use Rattle.text.specs.Fields.{hexCells}
-use Rattle.text.specs.Places.{fieldAt, restAt}
+use Rattle.text.specs.Places.{restAt}
 use Rattle.plain.specs.Requests as request
 use Rattle.asking.specs.Lines.{withCells}
 use Rattle.asking.proofs.AskingLaws.{cells-ask, cells-bad, bad-leaves, asks-leaves}
 use Rattle.asking.proofs.ask_call.Statement.{statement}
 use Rattle.asking.proofs.ask_call.Tie as tie
-use Rattle.asking.proofs.ask_call.Reads as reads
-use Rattle.asking.proofs.ask_call.Lts as lts
-use Rattle.replies.proofs.print_bad.Reads as print-bad-reads
-use Rattle.replies.proofs.print_call.Reads as print-call-reads
-use Rattle.calling.proofs.call.Reads as call-reads
-use Rattle.text.proofs.fields.read_cells.Reads as read-cells-reads
 
 slice-aggregate-read-cells : tie.Need-slice-aggregate-read-cells
 slice-aggregate-read-cells c = search needs

@@ -1,19 +1,13 @@
 -- `ask_counts` meets its contract.
-use mathlib.Core.Path.{_≡_, refl, sym, ap, _∙_}
 use native.Mathlib.Omega.{arith}
 use borrow.Author.Needs.{needs}
-use Rattle.text.specs.Places.{fieldAt, restAt}
+use Rattle.text.specs.Places.{restAt}
 use Rattle.plain.specs.Requests as request
 use Rattle.text.proofs.FieldsLaws.{rest-next, place-end}
 use Rattle.asking.specs.Lines.{noField}
 use Rattle.asking.proofs.AskingLaws.{none-asks, some-bad, bad-leaves, asks-leaves}
 use Rattle.asking.proofs.ask_counts.Statement.{statement}
 use Rattle.asking.proofs.ask_counts.Tie as tie
-use Rattle.asking.proofs.ask_counts.Reads as reads
-use Rattle.asking.proofs.ask_counts.Lts as lts
-use Rattle.replies.proofs.print_bad.Reads as print-bad-reads
-use Rattle.replies.proofs.print_counts.Reads as print-counts-reads
-use Rattle.reads.proofs.counts.Reads as counts-reads
 
 print-bad-requires : tie.Need-print-bad-requires
 print-bad-requires c κs = search needs

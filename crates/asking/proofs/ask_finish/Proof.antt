@@ -1,18 +1,11 @@
 -- `ask_finish` meets its contract.
-use mathlib.Core.Path.{_≡_, refl, sym, ap, _∙_}
 use borrow.Author.Needs.{needs}
-use Rattle.text.specs.Places.{fieldAt, restAt}
+use Rattle.text.specs.Places.{restAt}
 use Rattle.plain.specs.Requests as request
 use Rattle.asking.specs.Lines.{oneNumber}
 use Rattle.asking.proofs.AskingLaws.{one-asks, one-bad, bad-leaves, asks-leaves}
 use Rattle.asking.proofs.ask_finish.Statement.{statement}
 use Rattle.asking.proofs.ask_finish.Tie as tie
-use Rattle.asking.proofs.ask_finish.Reads as reads
-use Rattle.asking.proofs.ask_finish.Lts as lts
-use Rattle.replies.proofs.print_bad.Reads as print-bad-reads
-use Rattle.replies.proofs.print_finish.Reads as print-finish-reads
-use Rattle.calling.proofs.finish.Reads as finish-reads
-use Rattle.text.proofs.fields.only_number.Reads as only-number-reads
 
 only-number-requires : tie.Need-only-number-requires
 only-number-requires c κs = search needs

@@ -1,25 +1,14 @@
 -- `ask_load` meets its contract.
-use Prim.Native.Nat.{ℕ}
-use mathlib.Core.List.{List}
-use mathlib.Core.Path.{_≡_, refl, sym, ap, _∙_}
+use mathlib.Core.Path.{sym, _∙_}
 use native.Mathlib.Omega.{arith}
 use borrow.Author.Needs.{needs}
-use Rattle.text.specs.Places.{fieldAt, restAt}
+use Rattle.text.specs.Places.{restAt}
 use Rattle.plain.specs.Requests as request
-use Rattle.store.specs.Replies.{saidCells}
 use Rattle.reads.proofs.ReadsLaws.{load-fits}
 use Rattle.asking.specs.Lines.{oneNumber}
-use Rattle.replies.specs.Texts.{replyText}
-use Rattle.text.specs.Digits.{Puts}
 use Rattle.asking.proofs.AskingLaws.{one-asks, one-bad, bad-leaves, bad-out, asks-leaves, asks-out}
 use Rattle.asking.proofs.ask_load.Statement.{statement}
 use Rattle.asking.proofs.ask_load.Tie as tie
-use Rattle.asking.proofs.ask_load.Reads as reads
-use Rattle.asking.proofs.ask_load.Lts as lts
-use Rattle.replies.proofs.print_bad.Reads as print-bad-reads
-use Rattle.replies.proofs.print_cells.Reads as print-cells-reads
-use Rattle.reads.proofs.load.Reads as load-reads
-use Rattle.text.proofs.fields.only_number.Reads as only-number-reads
 
 only-number-requires : tie.Need-only-number-requires
 only-number-requires c κs = search needs

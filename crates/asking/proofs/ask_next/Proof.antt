@@ -1,22 +1,15 @@
 -- `ask_next` meets its contract.
 use Prim.Native.Nat.{ℕ}
 use mathlib.Core.List.{List}
-use mathlib.Core.Path.{_≡_, refl, sym, ap, _∙_}
+use mathlib.Core.Path.{_∙_}
 use borrow.Author.Needs.{needs}
-use Rattle.text.specs.Fields.{onlyNumber, behind}
-use Rattle.text.specs.Places.{fieldAt, restAt}
+use Rattle.text.specs.Fields.{onlyNumber}
+use Rattle.text.specs.Places.{restAt}
 use Rattle.plain.specs.Requests as request
 use Rattle.asking.specs.Lines.{asks, withNumber, twoNumbers}
 use Rattle.asking.proofs.AskingLaws.{first-means, first-bad, one-asks, one-bad, bad-leaves, asks-leaves}
 use Rattle.asking.proofs.ask_next.Statement.{statement}
 use Rattle.asking.proofs.ask_next.Tie as tie
-use Rattle.asking.proofs.ask_next.Reads as reads
-use Rattle.asking.proofs.ask_next.Lts as lts
-use Rattle.replies.proofs.print_bad.Reads as print-bad-reads
-use Rattle.replies.proofs.print_next.Reads as print-next-reads
-use Rattle.reads.proofs.next.Reads as next-reads
-use Rattle.text.proofs.fields.first_number.Reads as first-number-reads
-use Rattle.text.proofs.fields.only_number.Reads as only-number-reads
 
 first-number-requires : tie.Need-first-number-requires
 first-number-requires c κs = search needs

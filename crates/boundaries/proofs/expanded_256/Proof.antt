@@ -5,10 +5,6 @@ use lib.Seq.{length-take-le}
 use borrow.Author.Needs.{needs}
 use Rattle.boundaries.proofs.expanded_256.Statement.{statement}
 use Rattle.boundaries.proofs.expanded_256.Tie as tie
-use Rattle.boundaries.proofs.expanded_256.Reads as reads
-use Rattle.boundaries.proofs.expanded_256.Lts as lts
-use Rattle.trials.proofs.count_expand.Reads as count-expand-reads
-use Rattle.boundaries.proofs.fill.Reads as fill-reads
 
 slice-aggregate-fill : tie.Need-slice-aggregate-fill
 slice-aggregate-fill c = search needs

@@ -1,13 +1,10 @@
 -- `fill` stays inside its cells and ends.
-use Prim.Native.Nat.{_≤_, _-_, _+_}
-use mathlib.Core.Path.{_≡_, refl, _∙_}
-use native.Mathlib.Omega.{arith}
-use lib.ListN.{length, length-set}
+use Prim.Native.Nat.{_-_}
+use mathlib.Core.Path.{_≡_}
+use lib.ListN.{length}
 use borrow.Author.Needs.{needs}
 use Rattle.boundaries.proofs.fill.Statement.{statement}
 use Rattle.boundaries.proofs.fill.Tie as tie
-use Rattle.boundaries.proofs.fill.Reads as reads
-use Rattle.boundaries.proofs.fill.Lts as lts
 
 abbrev Inv-loop : tie.InvT-loop
 Inv-loop cells₀ from end x i₀ cells i = length cells ≡ length cells₀

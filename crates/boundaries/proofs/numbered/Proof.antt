@@ -5,8 +5,6 @@ use lib.ListN.{length}
 use borrow.Author.Needs.{needs}
 use Rattle.boundaries.proofs.numbered.Statement.{statement}
 use Rattle.boundaries.proofs.numbered.Tie as tie
-use Rattle.boundaries.proofs.numbered.Reads as reads
-use Rattle.boundaries.proofs.numbered.Lts as lts
 
 abbrev Inv-loop : tie.InvT-loop
 Inv-loop form₀ i₀ form i = (length form ≡ length form₀) × (i ≤ length form₀)

@@ -1,13 +1,11 @@
 -- `variable_list` stays inside its cells and ends.
-use Prim.Native.Nat.{_≤_, _-_, _+_}
-use mathlib.Core.Path.{_≡_, refl, _∙_}
+use Prim.Native.Nat.{_≤_, _-_}
+use mathlib.Core.Path.{_≡_}
 use native.Mathlib.Omega.{arith}
 use lib.ListN.{length, length-set}
 use borrow.Author.Needs.{needs}
 use Rattle.boundaries.proofs.variable_list.Statement.{statement}
 use Rattle.boundaries.proofs.variable_list.Tie as tie
-use Rattle.boundaries.proofs.variable_list.Reads as reads
-use Rattle.boundaries.proofs.variable_list.Lts as lts
 
 abbrev Inv-loop : tie.InvT-loop
 Inv-loop cells₀ n i₀ cells i = (length cells ≡ length cells₀) × (i ≤ n)

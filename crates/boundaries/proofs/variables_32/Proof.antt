@@ -5,12 +5,6 @@ use lib.Seq.{length-take-le}
 use borrow.Author.Needs.{needs}
 use Rattle.boundaries.proofs.variables_32.Statement.{statement}
 use Rattle.boundaries.proofs.variables_32.Tie as tie
-use Rattle.boundaries.proofs.variables_32.Reads as reads
-use Rattle.boundaries.proofs.variables_32.Lts as lts
-use Rattle.trials.proofs.count_compact.Reads as count-compact-reads
-use Rattle.trials.proofs.count_expand.Reads as count-expand-reads
-use Rattle.boundaries.proofs.numbered.Reads as numbered-reads
-use Rattle.boundaries.proofs.variable_list.Reads as variable-list-reads
 
 slice-aggregate-variable-list : tie.Need-slice-aggregate-variable-list
 slice-aggregate-variable-list c = search needs

@@ -1,15 +1,12 @@
 -- `copy` meets its contract: the cells passed are copied.
-use Prim.Native.Nat.{_≤_, _-_, _<_}
-use mathlib.Core.Path.{_≡_, refl, sym, ap, _∙_}
+use Prim.Native.Nat.{_≤_, _-_}
+use mathlib.Core.Path.{_≡_, refl, _∙_}
 use mathlib.Core.List.{_++_}
 use native.Mathlib.Omega.{arith}
-use lib.ListN.{length, take, drop, set, length-set}
-use borrow.Author.Needs.{needs}
+use lib.ListN.{length, take, drop, length-set}
 use Rattle.convert.proofs.CopyLaws.{copy-step}
 use Rattle.convert.proofs.copy.Statement.{statement}
 use Rattle.convert.proofs.copy.Tie as tie
-use Rattle.convert.proofs.copy.Reads as reads
-use Rattle.convert.proofs.copy.Lts as lts
 
 abbrev Inv-loop : tie.InvT-loop
 Inv-loop from n out₀ i₀ out i = (i ≤ n) × (out ≡ take i from ++ drop i out₀) × (length out ≡ length out₀)

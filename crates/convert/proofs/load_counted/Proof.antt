@@ -1,8 +1,7 @@
 -- `load_counted` meets its contract: each answer by its law.
-use mathlib.Core.Path.{_≡_, refl, sym, ap, _∙_, subst}
 use native.Mathlib.Omega.{arith}
 use lib.ListN.{length}
-use Rattle.forms.specs.declared.Step.the-variants.{Done, Malformed}
+use Rattle.forms.specs.declared.Step.the-variants.{Done}
 use Rattle.forms.specs.Cells.{arityOf}
 use Rattle.form_reader.specs.Loading.{FormsRan}
 use Rattle.convert.proofs.LoadingLaws.{loading-many, loading-malformed, loading-left, loading-crowded, loading-terms, variables}

@@ -1,9 +1,7 @@
 -- `damage::subgoals_of` meets its contract.
 use native.Mathlib.Omega.{arith}
 use borrow.Author.Needs.{needs}
-use Prim.Native.Nat.{_≤_, _<_, _+_, _-_}
-use mathlib.Core.Path.{_≡_}
-use lib.ListN.{length}
+use Prim.Native.Nat.{_≤_, _+_, _-_}
 use Rattle.damage.proofs.subgoals_of.Statement.{statement}
 use Rattle.damage.proofs.subgoals_of.Tie as tie
 

@@ -1,16 +1,16 @@
 -- The proof of the cycle of calls {ending, list, terms}. The measure is three times the cells left, and one or two more for all but terms.
 use Prim.Native.Nat.{_≤_, _-_, _*_, _+_}
 use mathlib.Core.Bool.{true, false}
-use mathlib.Core.Path.{_≡_, refl, sym, ap, _∙_, subst}
+use mathlib.Core.Path.{_≡_, refl, sym, _∙_, subst}
 use native.Mathlib.Omega.{arith}
 use borrow.Author.Needs.{needs}
 use lib.ListN.{length, length-set, set, getD}
-use Rattle.forms.specs.declared.Shape.the-variants.{Symbol, Pair, Illegal}
+use Rattle.forms.specs.declared.Shape.the-variants.{Symbol}
 use Rattle.forms.specs.declared.Step.the-variants.{Done, Malformed}
-use Rattle.forms.specs.Cells.{payload, variable, constant, shapeOf, arityOf, BLIST, ELIST, EPAIR, PAIR, nil}
+use Rattle.forms.specs.Cells.{variable, constant, shapeOf, arityOf, PAIR, nil}
 use Rattle.forms.specs.Due.{dueAfter}
-use Rattle.forms.proofs.ShapeLaws.{arity-small, symbol-small, variable-shape, constant-shape}
-use Rattle.form_reader.specs.Loading.{after, ordered, FormsRan, RestRan}
+use Rattle.forms.proofs.ShapeLaws.{arity-small, symbol-small, variable-shape}
+use Rattle.form_reader.specs.Loading.{FormsRan, RestRan}
 use Rattle.form_reader.proofs.FormSteps.{ordered-variable, ordered-cell, forms-none, forms-end, forms-full, forms-illegal, forms-unordered, forms-symbol, forms-begin-short, forms-begin, rest-end, rest-last-short, rest-tail-first, rest-tail-end, rest-tail-nil, rest-tail-list, rest-full, constant-no-tail, rest-element-short, rest-last, rest-tail, rest-element, forms-room, rest-room, forms-constant}
 use Rattle.form_reader.proofs.FormTurns.{FormsTurn, RestTurn, after-most}
 use mathlib.Core.List.{[], _∷_}

@@ -4,9 +4,6 @@ use Rattle.marshalling.proofs.ExportLaws.{compact-odd, compact-long}
 use borrow.Author.Needs.{needs}
 use Rattle.marshalling.proofs.compact_input.Statement.{statement}
 use Rattle.marshalling.proofs.compact_input.Tie as tie
-use Rattle.marshalling.proofs.compact_input.Reads as reads
-use Rattle.marshalling.proofs.compact_input.Lts as lts
-use Rattle.marshalling.proofs.compact_with.Reads as compact-with-reads
 
 add-result : tie.Need-add-result
 add-result c = omega arith

@@ -9,9 +9,6 @@ use Rattle.marshalling.specs.Bytes.{cellsOf}
 use Rattle.marshalling.proofs.BytesLaws.{cells-next, cells-all}
 use Rattle.marshalling.proofs.decode.Statement.{statement}
 use Rattle.marshalling.proofs.decode.Tie as tie
-use Rattle.marshalling.proofs.decode.Reads as reads
-use Rattle.marshalling.proofs.decode.Lts as lts
-use Rattle.marshalling.proofs.cell_of.Reads as cell-of-reads
 
 abbrev Inv-loop : tie.InvT-loop
 Inv-loop bytes n cells₀ i₀ cells i = (i ≤ n) × (cells ≡ take i (cellsOf bytes) ++ drop i cells₀) × (length cells ≡ length cells₀)

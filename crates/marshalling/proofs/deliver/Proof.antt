@@ -4,9 +4,6 @@ use borrow.Author.Needs.{needs}
 use Rattle.marshalling.proofs.ExportLaws.{handed-short, handed-cells}
 use Rattle.marshalling.proofs.deliver.Statement.{statement}
 use Rattle.marshalling.proofs.deliver.Tie as tie
-use Rattle.marshalling.proofs.deliver.Reads as reads
-use Rattle.marshalling.proofs.deliver.Lts as lts
-use Rattle.marshalling.proofs.encode.Reads as encode-reads
 
 add-result : tie.Need-add-result
 add-result c = omega arith

@@ -8,8 +8,6 @@ use Rattle.marshalling.specs.Bytes.{bytesOf}
 use Rattle.marshalling.proofs.BytesLaws.{bytes-next, bytes-all}
 use Rattle.marshalling.proofs.encode.Statement.{statement}
 use Rattle.marshalling.proofs.encode.Tie as tie
-use Rattle.marshalling.proofs.encode.Reads as reads
-use Rattle.marshalling.proofs.encode.Lts as lts
 
 abbrev Inv-loop : tie.InvT-loop
 Inv-loop cells n out₀ i₀ out i = (i ≤ n) × (out ≡ take (4 * i) (bytesOf cells) ++ drop (4 * i) out₀) × (length out ≡ length out₀)

@@ -4,9 +4,6 @@ use Rattle.marshalling.proofs.ExportLaws.{expand-odd, expand-long}
 use borrow.Author.Needs.{needs}
 use Rattle.marshalling.proofs.expand_input.Statement.{statement}
 use Rattle.marshalling.proofs.expand_input.Tie as tie
-use Rattle.marshalling.proofs.expand_input.Reads as reads
-use Rattle.marshalling.proofs.expand_input.Lts as lts
-use Rattle.marshalling.proofs.expand_with.Reads as expand-with-reads
 
 add-result : tie.Need-add-result
 add-result c = omega arith

@@ -1,16 +1,14 @@
 -- `insert` meets its contract: at each turn what is still to be moved gives the whole.
-use Prim.Native.Nat.{_≤_, _<_, _-_, _+_}
-use mathlib.Core.Path.{_≡_, refl, sym, ap, _∙_}
+use Prim.Native.Nat.{_≤_, _-_}
+use mathlib.Core.Path.{_≡_, refl, _∙_}
 use mathlib.Core.List.{_∷_}
 use native.Mathlib.Omega.{arith}
-use lib.ListN.{length, take, drop, getD, set, length-set}
+use lib.ListN.{length, take, drop, length-set}
 use lib.Seq.{sets}
 use borrow.Author.Needs.{needs}
 use Rattle.pair_reader.proofs.StoringLaws.{insert-step, insert-last}
 use Rattle.pair_reader.proofs.insert.Statement.{statement}
 use Rattle.pair_reader.proofs.insert.Tie as tie
-use Rattle.pair_reader.proofs.insert.Reads as reads
-use Rattle.pair_reader.proofs.insert.Lts as lts
 
 abbrev Inv-loop : tie.InvT-loop
 Inv-loop out₀ to end x i₀ moved₀ out i moved =

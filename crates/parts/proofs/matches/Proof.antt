@@ -6,10 +6,6 @@ use borrow.Author.Tests.{not-true, not-false}
 use Rattle.parts.proofs.Matching.{Passed, passed-none, Here, passed-here, passed-more, passed-other, passed-all}
 use Rattle.parts.proofs.matches.Statement.{statement}
 use Rattle.parts.proofs.matches.Tie as tie
-use Rattle.parts.proofs.matches.Reads as reads
-use Rattle.parts.proofs.matches.Lts as lts
-use Rattle.basis.proofs.wide.Reads as wide-reads
-use Rattle.parts.proofs.hands.are_equal.Reads as are-equal-reads
 
 abbrev Inv-loop : tie.InvT-loop
 Inv-loop pairs outer inner i₀ i = Passed pairs outer inner i

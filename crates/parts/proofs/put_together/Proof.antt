@@ -6,11 +6,6 @@ use borrow.Author.Needs.{needs}
 use Rattle.parts.proofs.Gathering.{Gathered, gathered-none, Copyable-here, gathered-here, gathered-more, gathered-over, gathered-short, gathered-countable, gathered-long, gathered-form}
 use Rattle.parts.proofs.put_together.Statement.{statement}
 use Rattle.parts.proofs.put_together.Tie as tie
-use Rattle.parts.proofs.put_together.Reads as reads
-use Rattle.parts.proofs.put_together.Lts as lts
-use Rattle.basis.proofs.wide.Reads as wide-reads
-use Rattle.parts.proofs.hands.copy_from.Reads as copy-from-reads
-use Rattle.parts.proofs.tokens.cells_of.Reads as cells-of-reads
 
 abbrev Inv-loop : tie.InvT-loop
 Inv-loop copies outer inner form₀ edition i₀ to₀ form i to = Gathered edition copies outer inner form i to × (length form ≡ length form₀)

@@ -6,9 +6,6 @@ use borrow.Author.Needs.{needs}
 use Rattle.parts.proofs.Taking.{Taking, taking-none, place-free, taking-place, opens, shuts, passes, counts, taking-open, taking-token, taking-end}
 use Rattle.parts.proofs.take_in_hand.Statement.{statement}
 use Rattle.parts.proofs.take_in_hand.Tie as tie
-use Rattle.parts.proofs.take_in_hand.Reads as reads
-use Rattle.parts.proofs.take_in_hand.Lts as lts
-use Rattle.parts.proofs.tokens.closes.Reads as closes-reads
 
 abbrev Inv-loop : tie.InvT-loop
 Inv-loop form m held₀ edition at₀ begun₀ due₀ depth₀ held at begun due depth = Taking edition m form held₀ held at begun due depth

@@ -3,8 +3,6 @@ use Rattle.reads.proofs.ReadsCases.{step-refused, counts-used, counts-f
 use Rattle.plain.specs.Requests.{counts}
 use Rattle.space.specs.declared.Header.the-variants as header
 use Rattle.space.specs.Heading.{spaceHeader}
-use Rattle.space.specs.Layout.{sizesOf}
-use Rattle.plain.specs.Coding.{codingOf}
 use native.Mathlib.Omega.{arith}
 use mathlib.Core.Path.{_≡_}
 use Rattle.basis.proofs.Tests.{told}

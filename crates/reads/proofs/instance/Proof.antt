@@ -3,19 +3,12 @@ use Rattle.reads.proofs.ReadsInstance.{instance-refused, instance-step}
 use Rattle.space.proofs.HeaderLaws.{header-bounds}
 use Rattle.space.specs.declared.Header.the-variants as header
 use Rattle.space.specs.Heading.{spaceHeader}
-use Rattle.space.specs.Layout.{sizesOf}
-use Rattle.plain.specs.Coding.{codingOf}
-use mathlib.Core.Path.{_≡_, sym, ap, _∙_}
+use mathlib.Core.Path.{_≡_}
 use Rattle.basis.proofs.Tests.{told}
 use Rattle.reads.proofs.ReadsLaws.{instance-answers}
 use borrow.Author.Needs.{needs}
 use Rattle.reads.proofs.instance.Statement.{statement}
 use Rattle.reads.proofs.instance.Tie as tie
-use Rattle.reads.proofs.instance.Reads as reads
-use Rattle.reads.proofs.instance.Lts as lts
-use Rattle.basis.proofs.wide.Reads as wide-reads
-use Rattle.space.proofs.heading.read_header.Reads as read-header-reads
-use Rattle.reads.proofs.instance_in.Reads as instance-in-reads
 
 -- the header that was read
 sound-header : (c : tie.After-header) → header.Sound (c .header .given .0 .0) ≡ spaceHeader (c .before .before .before .before .before .args .space .now)

@@ -4,8 +4,6 @@ use Rattle.space.proofs.HeaderLaws.{header-bounds}
 use Rattle.plain.specs.Requests.{next}
 use Rattle.space.specs.declared.Header.the-variants as header
 use Rattle.space.specs.Heading.{spaceHeader}
-use Rattle.space.specs.Layout.{sizesOf}
-use Rattle.plain.specs.Coding.{codingOf}
 use mathlib.Core.Path.{_≡_}
 use Rattle.basis.proofs.Tests.{told}
 use Rattle.reads.proofs.ReadsLaws.{next-answers}

@@ -2,7 +2,6 @@
 use Rattle.reads.proofs.ReadsCases.{starting-within, next-zero, next-above, next-elsewhere, next-onward}
 use Rattle.store.specs.Views.{viewOf}
 use Rattle.space.specs.Layout.{sizesOf}
-use Rattle.plain.specs.Coding.{codingOf}
 use native.Mathlib.Omega.{arith}
 use mathlib.Core.Path.{_∙_}
 use Rattle.basis.proofs.Tests.{told}

@@ -8,11 +8,6 @@ use Rattle.text.proofs.DigitsLaws.{decimal-length, puts-append}
 use Rattle.replies.specs.Texts.{textOld, stateText, replyText}
 use Rattle.replies.proofs.print_call.Statement.{statement}
 use Rattle.replies.proofs.print_call.Tie as tie
-use Rattle.replies.proofs.print_call.Reads as reads
-use Rattle.replies.proofs.print_call.Lts as lts
-use Rattle.replies.proofs.print_refused.Reads as print-refused-reads
-use Rattle.replies.proofs.put_state.Reads as put-state-reads
-use Rattle.text.proofs.digits.put_numbered.Reads as put-numbered-reads
 
 enum-known-answer : tie.Need-enum-known-answer
 enum-known-answer c = search needs

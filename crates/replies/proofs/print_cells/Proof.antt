@@ -9,11 +9,6 @@ use Rattle.text.proofs.DigitsLaws.{puts-append}
 use Rattle.replies.specs.Texts.{textCells, replyText}
 use Rattle.replies.proofs.print_cells.Statement.{statement}
 use Rattle.replies.proofs.print_cells.Tie as tie
-use Rattle.replies.proofs.print_cells.Reads as reads
-use Rattle.replies.proofs.print_cells.Lts as lts
-use Rattle.replies.proofs.print_refused.Reads as print-refused-reads
-use Rattle.text.proofs.digits.put.Reads as put-reads
-use Rattle.text.proofs.digits.put_cells.Reads as put-cells-reads
 
 enum-known-answer : tie.Need-enum-known-answer
 enum-known-answer c = search needs

@@ -3,10 +3,6 @@ use borrow.Author.Needs.{needs}
 use Rattle.replies.specs.Texts.{replyText}
 use Rattle.replies.proofs.print_counts.Statement.{statement}
 use Rattle.replies.proofs.print_counts.Tie as tie
-use Rattle.replies.proofs.print_counts.Reads as reads
-use Rattle.replies.proofs.print_counts.Lts as lts
-use Rattle.replies.proofs.print_refused.Reads as print-refused-reads
-use Rattle.replies.proofs.print_used.Reads as print-used-reads
 
 enum-known-answer : tie.Need-enum-known-answer
 enum-known-answer c = search needs

@@ -3,10 +3,6 @@ use borrow.Author.Needs.{needs}
 use Rattle.replies.specs.Texts.{replyText}
 use Rattle.replies.proofs.print_finish.Statement.{statement}
 use Rattle.replies.proofs.print_finish.Tie as tie
-use Rattle.replies.proofs.print_finish.Reads as reads
-use Rattle.replies.proofs.print_finish.Lts as lts
-use Rattle.replies.proofs.print_refused.Reads as print-refused-reads
-use Rattle.text.proofs.digits.put.Reads as put-reads
 
 enum-told : tie.Need-enum-told
 enum-told c = search needs

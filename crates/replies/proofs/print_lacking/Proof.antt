@@ -3,9 +3,6 @@ use borrow.Author.Needs.{needs}
 use Rattle.replies.specs.Texts.{replyText}
 use Rattle.replies.proofs.print_lacking.Statement.{statement}
 use Rattle.replies.proofs.print_lacking.Tie as tie
-use Rattle.replies.proofs.print_lacking.Reads as reads
-use Rattle.replies.proofs.print_lacking.Lts as lts
-use Rattle.text.proofs.digits.put.Reads as put-reads
 
 enum-told : tie.Need-enum-told
 enum-told c = search needs

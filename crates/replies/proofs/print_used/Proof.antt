@@ -7,10 +7,6 @@ use Rattle.text.proofs.DigitsLaws.{decimal-length, puts-append}
 use Rattle.replies.specs.Texts.{textCounts}
 use Rattle.replies.proofs.print_used.Statement.{statement}
 use Rattle.replies.proofs.print_used.Tie as tie
-use Rattle.replies.proofs.print_used.Reads as reads
-use Rattle.replies.proofs.print_used.Lts as lts
-use Rattle.text.proofs.digits.put_field.Reads as put-field-reads
-use Rattle.text.proofs.digits.put_numbered.Reads as put-numbered-reads
 
 slice-aggregate-put-numbered : tie.Need-slice-aggregate-put-numbered
 slice-aggregate-put-numbered c = search needs

@@ -2,9 +2,6 @@
 use borrow.Author.Needs.{needs}
 use Rattle.replies.proofs.put_state.Statement.{statement}
 use Rattle.replies.proofs.put_state.Tie as tie
-use Rattle.replies.proofs.put_state.Reads as reads
-use Rattle.replies.proofs.put_state.Lts as lts
-use Rattle.text.proofs.digits.put.Reads as put-reads
 
 enum-told : tie.Need-enum-told
 enum-told c = search needs

@@ -1,13 +1,8 @@
 -- `has_room` meets its contract.
-use mathlib.Core.Path.{_≡_, refl, sym, ap, _∙_}
-use native.Mathlib.Omega.{arith}
 use borrow.Author.Needs.{needs}
-use lib.Dec.{leb}
 use Rattle.session.proofs.LineLaws.{room-short, room-left}
 use Rattle.session.proofs.has_room.Statement.{statement}
 use Rattle.session.proofs.has_room.Tie as tie
-use Rattle.session.proofs.has_room.Reads as reads
-use Rattle.session.proofs.has_room.Lts as lts
 
 returns : tie.Need-returns
 returns c = room-short _ _ (c .if1 .taken)

@@ -1,5 +1,5 @@
 -- `reply_or_bad` meets its contract.
-use mathlib.Core.Path.{_≡_, refl, sym, ap, _∙_}
+use mathlib.Core.Path.{sym, ap, _∙_}
 use native.Mathlib.Omega.{arith}
 use borrow.Author.Needs.{needs}
 use Rattle.text.specs.Fields.{fields}
@@ -10,10 +10,6 @@ use Rattle.asking.proofs.AskingLaws.{bad-leaves, bad-out, leaves-alike}
 use Rattle.session.proofs.LineLaws.{means-short, means-long, flat}
 use Rattle.session.proofs.reply_or_bad.Statement.{statement}
 use Rattle.session.proofs.reply_or_bad.Tie as tie
-use Rattle.session.proofs.reply_or_bad.Reads as reads
-use Rattle.session.proofs.reply_or_bad.Lts as lts
-use Rattle.replies.proofs.print_bad.Reads as print-bad-reads
-use Rattle.session.proofs.reply.Reads as reply-reads
 
 reply-requires : tie.Need-reply-requires
 reply-requires c κs = search needs

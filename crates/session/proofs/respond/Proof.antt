@@ -1,7 +1,5 @@
 -- `respond` meets its contract.
-use mathlib.Core.Path.{_≡_, refl, sym, ap, _∙_}
 use native.Mathlib.Omega.{arith}
-use lib.Dec.{leb}
 use borrow.Author.Tests.{leb-true, leb-false}
 use borrow.Author.Needs.{needs}
 use Rattle.basis.proofs.Tests.{told}
@@ -11,10 +9,6 @@ use Rattle.asking.specs.Saying.{says}
 use Rattle.session.proofs.LineLaws.{response-none, response-line, response-parts, line-within}
 use Rattle.session.proofs.respond.Statement.{statement}
 use Rattle.session.proofs.respond.Tie as tie
-use Rattle.session.proofs.respond.Reads as reads
-use Rattle.session.proofs.respond.Lts as lts
-use Rattle.session.proofs.has_room.Reads as has-room-reads
-use Rattle.session.proofs.reply_or_bad.Reads as reply-or-bad-reads
 
 has-room-requires : tie.Need-has-room-requires
 has-room-requires c κs = search needs

@@ -1,14 +1,9 @@
 -- `answer` is safe and ends.
-use mathlib.Core.Path.{_≡_, refl, sym, ap, _∙_}
+use mathlib.Core.Path.{sym}
 use lib.Seq.{length-take-le}
 use borrow.Author.Needs.{needs}
 use Rattle.tables.proofs.answer.Statement.{statement}
 use Rattle.tables.proofs.answer.Tie as tie
-use Rattle.tables.proofs.answer.Reads as reads
-use Rattle.tables.proofs.answer.Lts as lts
-use Rattle.io.proofs.write_all.Reads as write-all-reads
-use Rattle.os.proofs.fail.Reads as fail-reads
-use Rattle.session.proofs.respond.Reads as respond-reads
 
 respond-requires : tie.Need-respond-requires
 respond-requires c κs = search needs

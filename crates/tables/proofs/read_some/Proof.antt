@@ -1,16 +1,9 @@
 -- `read_some` meets its contract.
-use mathlib.Core.Path.{_≡_, refl, sym, ap, _∙_}
+use mathlib.Core.Path.{sym}
 use lib.Seq.{length-take-le}
 use borrow.Author.Needs.{needs}
 use Rattle.tables.proofs.read_some.Statement.{statement}
 use Rattle.tables.proofs.read_some.Tie as tie
-use Rattle.tables.proofs.read_some.Reads as reads
-use Rattle.tables.proofs.read_some.Lts as lts
-use Rattle.io.proofs.count.Reads as count-reads
-use Rattle.libc.proofs.read.Reads as read-reads
-use Rattle.os.proofs.fail.Reads as fail-reads
-use Rattle.tables.proofs.answer.Reads as answer-reads
-use Rattle.tables.proofs.take_chunk.Reads as take-chunk-reads
 
 read-requires : tie.Need-read-requires
 read-requires c κs = search needs

@@ -1,14 +1,11 @@
 -- `run` is safe and ends.
 use Prim.Native.Nat.{_≤_}
-use mathlib.Core.Path.{_≡_, refl, sym, ap, _∙_}
+use mathlib.Core.Path.{_≡_, refl}
 use native.Mathlib.Omega.{arith}
 use lib.ListN.{length}
 use borrow.Author.Needs.{needs}
 use Rattle.tables.proofs.run.Statement.{statement}
 use Rattle.tables.proofs.run.Tie as tie
-use Rattle.tables.proofs.run.Reads as reads
-use Rattle.tables.proofs.run.Lts as lts
-use Rattle.tables.proofs.read_some.Reads as read-some-reads
 
 abbrev Inv-loop : tie.InvT-loop
 Inv-loop read₀ line₀ space₀ out₀ text₀ kept₀ turns₀ read line space out text kept turns = (length read ≡ length read₀) × (length line ≡ length line₀) × (length space ≡ length space₀) × (length out ≡ length out₀) × (length text ≡ length text₀) × (kept ≤ length line₀)

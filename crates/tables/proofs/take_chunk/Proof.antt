@@ -1,16 +1,12 @@
 -- `take_chunk` meets its contract.
 use Prim.Native.Nat.{_-_, _≤_}
-use mathlib.Core.Path.{_≡_, refl, sym, ap, _∙_}
+use mathlib.Core.Path.{_≡_, refl, sym}
 use native.Mathlib.Omega.{arith}
 use lib.ListN.{length}
 use lib.Seq.{length-take-le}
 use borrow.Author.Needs.{needs}
 use Rattle.tables.proofs.take_chunk.Statement.{statement}
 use Rattle.tables.proofs.take_chunk.Tie as tie
-use Rattle.tables.proofs.take_chunk.Reads as reads
-use Rattle.tables.proofs.take_chunk.Lts as lts
-use Rattle.tables.proofs.answer.Reads as answer-reads
-use Rattle.text.proofs.lines.take_line.Reads as take-line-reads
 
 abbrev Inv-loop : tie.InvT-loop
 Inv-loop chunk line₀ kept space₀ out₀ text₀ at₀ n₀ line space out text at n =

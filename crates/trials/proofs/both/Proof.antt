@@ -5,12 +5,6 @@ use lib.Seq.{length-take-le}
 use borrow.Author.Needs.{needs}
 use Rattle.trials.proofs.both.Statement.{statement}
 use Rattle.trials.proofs.both.Tie as tie
-use Rattle.trials.proofs.both.Reads as reads
-use Rattle.trials.proofs.both.Lts as lts
-use Rattle.convert.proofs.compact.Reads as compact-reads
-use Rattle.convert.proofs.expand.Reads as expand-reads
-use Rattle.trials.proofs.print_answer.Reads as print-answer-reads
-use Rattle.trials.proofs.text.Reads as text-reads
 
 text-requires : tie.Need-text-requires
 text-requires c κs = search needs

@@ -3,11 +3,6 @@ use Prim.Native.Nat.{_≤_, _-_}
 use borrow.Author.Needs.{needs}
 use Rattle.trials.proofs.print_cells.Statement.{statement}
 use Rattle.trials.proofs.print_cells.Tie as tie
-use Rattle.trials.proofs.print_cells.Reads as reads
-use Rattle.trials.proofs.print_cells.Lts as lts
-use Rattle.basis.proofs.wide.Reads as wide-reads
-use Rattle.io.proofs.print_hex.Reads as print-hex-reads
-use Rattle.trials.proofs.text.Reads as text-reads
 
 abbrev Inv-loop : tie.InvT-loop
 Inv-loop out n i₀ t4 i = i ≤ n

@@ -4,10 +4,6 @@ use Rattle.trie.specs.Index.{searchIndexed}
 use borrow.Author.Needs.{needs}
 use Rattle.join.proofs.entering.give.Statement.{statement}
 use Rattle.join.proofs.entering.give.Tie as tie
-use Rattle.join.proofs.entering.give.Reads as reads
-use Rattle.join.proofs.entering.give.Lts as lts
-use Rattle.space.proofs.records.subgoal_in.Reads as subgoal-in-reads
-use Rattle.answering.proofs.answer_at.Reads as answer-at-reads
 
 subgoal-in-requires : tie.Need-subgoal-in-requires
 subgoal-in-requires c κs = search needs

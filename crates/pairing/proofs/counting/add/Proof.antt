@@ -3,10 +3,6 @@ use Rattle.pairing.proofs.CountCases.{sums-added}
 use borrow.Author.Needs.{needs}
 use Rattle.pairing.proofs.counting.add.Statement.{statement}
 use Rattle.pairing.proofs.counting.add.Tie as tie
-use Rattle.pairing.proofs.counting.add.Reads as reads
-use Rattle.pairing.proofs.counting.add.Lts as lts
-use Rattle.pairing.proofs.counting.both.Reads as both-reads
-use Rattle.pairing.proofs.counting.one_if.Reads as one-if-reads
 
 both-requires : tie.Need-both-requires
 both-requires c κs = search needs

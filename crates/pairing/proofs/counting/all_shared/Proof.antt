@@ -3,8 +3,6 @@ use Rattle.pairing.proofs.CountCases.{shared-all, shared-less}
 use borrow.Author.Needs.{needs}
 use Rattle.pairing.proofs.counting.all_shared.Statement.{statement}
 use Rattle.pairing.proofs.counting.all_shared.Tie as tie
-use Rattle.pairing.proofs.counting.all_shared.Reads as reads
-use Rattle.pairing.proofs.counting.all_shared.Lts as lts
 
 returns : tie.Need-returns
 returns c = shared-all _ _ _ (search needs)

@@ -3,17 +3,10 @@ use lib.ListN.{length}
 use Rattle.pairing.specs.Counting.{allShared}
 -- `pairing::counting::meet` meets its contract.
 use Rattle.pairing.proofs.NeedLaws.{meets}
-use Rattle.basis.proofs.Tests.{told}
 use mathlib.Core.Path.{_∙_, ap}
 use borrow.Author.Needs.{needs}
 use Rattle.pairing.proofs.counting.meet.Statement.{statement}
 use Rattle.pairing.proofs.counting.meet.Tie as tie
-use Rattle.pairing.proofs.counting.meet.Reads as reads
-use Rattle.pairing.proofs.counting.meet.Lts as lts
-use Rattle.pairing.proofs.counting.all_shared.Reads as all-shared-reads
-use Rattle.pairing.proofs.counting.either.Reads as either-reads
-use Rattle.pairing.proofs.counting.larger.Reads as larger-reads
-use Rattle.sides.proofs.searches.common.Reads as common-reads
 
 common-requires : tie.Need-common-requires
 common-requires c κs = search needs

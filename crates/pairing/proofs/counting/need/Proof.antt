@@ -3,10 +3,6 @@ use Rattle.pairing.proofs.CountCases.{needs-added}
 use borrow.Author.Needs.{needs}
 use Rattle.pairing.proofs.counting.need.Statement.{statement}
 use Rattle.pairing.proofs.counting.need.Tie as tie
-use Rattle.pairing.proofs.counting.need.Reads as reads
-use Rattle.pairing.proofs.counting.need.Lts as lts
-use Rattle.pairing.proofs.counting.one_new.Reads as one-new-reads
-use Rattle.pairing.proofs.counting.smaller.Reads as smaller-reads
 
 sub-smaller : tie.Need-sub-smaller
 sub-smaller c = search needs

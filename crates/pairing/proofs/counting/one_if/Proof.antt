@@ -3,8 +3,6 @@ use Rattle.pairing.proofs.CountCases.{one-true, one-false}
 use borrow.Author.Needs.{needs}
 use Rattle.pairing.proofs.counting.one_if.Statement.{statement}
 use Rattle.pairing.proofs.counting.one_if.Tie as tie
-use Rattle.pairing.proofs.counting.one_if.Reads as reads
-use Rattle.pairing.proofs.counting.one_if.Lts as lts
 
 returns : tie.Need-returns
 returns c = one-true _ (search needs)

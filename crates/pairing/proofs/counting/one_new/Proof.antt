@@ -3,8 +3,6 @@ use Rattle.pairing.proofs.CountCases.{new-held, new-one, new-old}
 use borrow.Author.Needs.{needs}
 use Rattle.pairing.proofs.counting.one_new.Statement.{statement}
 use Rattle.pairing.proofs.counting.one_new.Tie as tie
-use Rattle.pairing.proofs.counting.one_new.Reads as reads
-use Rattle.pairing.proofs.counting.one_new.Lts as lts
 
 returns : tie.Need-returns
 returns c = new-held _ _ (search needs) (search needs)

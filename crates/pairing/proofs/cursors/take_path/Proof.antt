@@ -4,7 +4,7 @@ use Rattle.pairing.proofs.GatherLaws.{gathered-there}
 use Rattle.trie.specs.Paths.{tokens}
 use Rattle.trie.specs.Runs.{pathTo}
 use Prim.Native.Nat.{ℕ, _-_}
-use mathlib.Core.Path.{_≡_, refl}
+use mathlib.Core.Path.{_≡_}
 use lib.ListN.{length, take, drop}
 use borrow.Author.Needs.{needs}
 use Rattle.pairing.proofs.cursors.take_path.Statement.{statement}

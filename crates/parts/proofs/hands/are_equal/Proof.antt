@@ -6,9 +6,6 @@ use Rattle.parts.specs.Segments.{until, segment}
 use Rattle.parts.proofs.EqualTokens.{EqualFrom, unequal, equal-start, equal-more, equal-other, equal-end}
 use Rattle.parts.proofs.hands.are_equal.Statement.{statement}
 use Rattle.parts.proofs.hands.are_equal.Tie as tie
-use Rattle.parts.proofs.hands.are_equal.Reads as reads
-use Rattle.parts.proofs.hands.are_equal.Lts as lts
-use Rattle.basis.proofs.wide.Reads as wide-reads
 
 abbrev Inv-loop : tie.InvT-loop
 Inv-loop outer x inner y end at₀ other₀ at other =

@@ -3,9 +3,6 @@ use borrow.Author.Needs.{needs}
 use borrow.Author.Tests.{eq-eqb, ne-eqb}
 use Rattle.parts.proofs.hands.copy_from.Statement.{statement}
 use Rattle.parts.proofs.hands.copy_from.Tie as tie
-use Rattle.parts.proofs.hands.copy_from.Reads as reads
-use Rattle.parts.proofs.hands.copy_from.Lts as lts
-use Rattle.parts.proofs.hands.copy_term.Reads as copy-term-reads
 
 copy-term-requires : tie.Need-copy-term-requires
 copy-term-requires c κs = rw (eq-eqb _ _ (c .before .if1 .taken)) at (c .before .before .before .before .before .pre)

@@ -5,9 +5,6 @@ use borrow.Author.Needs.{needs}
 use Rattle.parts.proofs.CopyTokens.{Copying, copying-start, copying-more, copying-end, copying-none}
 use Rattle.parts.proofs.hands.copy_term.Statement.{statement}
 use Rattle.parts.proofs.hands.copy_term.Tie as tie
-use Rattle.parts.proofs.hands.copy_term.Reads as reads
-use Rattle.parts.proofs.hands.copy_term.Lts as lts
-use Rattle.basis.proofs.wide.Reads as wide-reads
 
 abbrev Inv-loop : tie.InvT-loop
 Inv-loop held x form₀ to from₀ end behind at₀ form from at = Copying form₀ held x to behind form from at

@@ -9,9 +9,6 @@ use Rattle.parts.specs.Segments.{weights, allTake}
 use Rattle.parts.proofs.Counting.{weights-grow, take-grow-one, sums-end}
 use Rattle.parts.proofs.tokens.cells_of.Statement.{statement}
 use Rattle.parts.proofs.tokens.cells_of.Tie as tie
-use Rattle.parts.proofs.tokens.cells_of.Reads as reads
-use Rattle.parts.proofs.tokens.cells_of.Lts as lts
-use Rattle.parts.proofs.tokens.weight_of.Reads as weight-of-reads
 
 abbrev Inv-loop : tie.InvT-loop
 Inv-loop form n k edition at₀ cells₀ taken₀ at cells taken =

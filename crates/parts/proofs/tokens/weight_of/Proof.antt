@@ -7,9 +7,6 @@ use Rattle.parts.proofs.Counting.{symbol-weight, other-weight}
 use borrow.Author.Needs.{needs}
 use Rattle.parts.proofs.tokens.weight_of.Statement.{statement}
 use Rattle.parts.proofs.tokens.weight_of.Tie as tie
-use Rattle.parts.proofs.tokens.weight_of.Reads as reads
-use Rattle.parts.proofs.tokens.weight_of.Lts as lts
-use Rattle.forms.proofs.shape_of.Reads as shape-of-reads
 
 returns : tie.Need-returns
 unfolding weight

@@ -4,7 +4,7 @@ use Rattle.space.proofs.FreshCases.{zeros-more, zeros-full}
 use Prim.Native.Nat.{ℕ, _≤_, _-_}
 use mathlib.Core.List.{_++_, List}
 use mathlib.Core.Path.{_≡_, refl, ap, _∙_}
-use lib.ListN.{length, drop, replicate, length-set, set}
+use lib.ListN.{length, drop, replicate, set}
 use native.Mathlib.Omega.{arith}
 use Rattle.space.proofs.fresh.clear.Statement.{statement}
 use Rattle.space.proofs.fresh.clear.Tie as tie

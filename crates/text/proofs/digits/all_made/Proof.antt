@@ -3,8 +3,6 @@ use borrow.Author.Tests.{eq-eqb, ne-eqb}
 use Rattle.text.proofs.DigitsLaws.{leb-minus}
 use Rattle.text.proofs.digits.all_made.Statement.{statement}
 use Rattle.text.proofs.digits.all_made.Tie as tie
-use Rattle.text.proofs.digits.all_made.Reads as reads
-use Rattle.text.proofs.digits.all_made.Lts as lts
 
 returns : tie.Need-returns
 returns c = rw (eq-eqb _ _ (c .if1 .taken)) (leb-minus (c .before .args .width) (c .before .args .made))

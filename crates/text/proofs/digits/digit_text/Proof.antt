@@ -3,8 +3,6 @@ use borrow.Author.Tests.{lt-ltb, le-ltb}
 use borrow.Author.Needs.{needs}
 use Rattle.text.proofs.digits.digit_text.Statement.{statement}
 use Rattle.text.proofs.digits.digit_text.Tie as tie
-use Rattle.text.proofs.digits.digit_text.Reads as reads
-use Rattle.text.proofs.digits.digit_text.Lts as lts
 
 add-result : tie.Need-add-result
 add-result c = search needs

@@ -10,10 +10,6 @@ use Rattle.text.specs.Digits.{digits, digitsBefore}
 use Rattle.text.proofs.DigitsLaws.{not-made, place-left, fill-start, fill-next, digits-end, quotient-below}
 use Rattle.text.proofs.digits.fill.Statement.{statement}
 use Rattle.text.proofs.digits.fill.Tie as tie
-use Rattle.text.proofs.digits.fill.Reads as reads
-use Rattle.text.proofs.digits.fill.Lts as lts
-use Rattle.text.proofs.digits.all_made.Reads as all-made-reads
-use Rattle.text.proofs.digits.digit_text.Reads as digit-text-reads
 
 abbrev Inv-loop : tie.InvT-loop
 Inv-loop n base width buffer₀ left₀ i₀ buffer left i =

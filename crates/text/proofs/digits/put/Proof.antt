@@ -7,8 +7,6 @@ use lib.Seq.{sets}
 use Rattle.text.proofs.DigitsLaws.{puts-next, puts-all}
 use Rattle.text.proofs.digits.put.Statement.{statement}
 use Rattle.text.proofs.digits.put.Tie as tie
-use Rattle.text.proofs.digits.put.Reads as reads
-use Rattle.text.proofs.digits.put.Lts as lts
 
 abbrev Inv-loop : tie.InvT-loop
 Inv-loop bytes text₀ at i₀ text i = (i ≤ length bytes) × (text ≡ sets text₀ at (take i bytes)) × (length text ≡ length text₀)

@@ -7,9 +7,6 @@ use Rattle.text.specs.Digits.{cellTexts, Puts}
 use Rattle.text.proofs.DigitsLaws.{cell-length, cells-next, cells-none}
 use Rattle.text.proofs.digits.put_cells.Statement.{statement}
 use Rattle.text.proofs.digits.put_cells.Tie as tie
-use Rattle.text.proofs.digits.put_cells.Reads as reads
-use Rattle.text.proofs.digits.put_cells.Lts as lts
-use Rattle.text.proofs.digits.put_field.Reads as put-field-reads
 
 abbrev Inv-loop : tie.InvT-loop
 Inv-loop cells n text₀ at end₀ i₀ text end i =

@@ -5,10 +5,6 @@ use Rattle.text.proofs.DigitsLaws.{part-length, field-put}
 use borrow.Author.Needs.{needs}
 use Rattle.text.proofs.digits.put_field.Statement.{statement}
 use Rattle.text.proofs.digits.put_field.Tie as tie
-use Rattle.text.proofs.digits.put_field.Reads as reads
-use Rattle.text.proofs.digits.put_field.Lts as lts
-use Rattle.text.proofs.digits.fill.Reads as fill-reads
-use Rattle.text.proofs.digits.put.Reads as put-reads
 
 slice-aggregate-fill : tie.Need-slice-aggregate-fill
 slice-aggregate-fill c = search needs

@@ -5,10 +5,6 @@ use Rattle.text.proofs.DigitsLaws.{puts-append}
 use borrow.Author.Needs.{needs}
 use Rattle.text.proofs.digits.put_numbered.Statement.{statement}
 use Rattle.text.proofs.digits.put_numbered.Tie as tie
-use Rattle.text.proofs.digits.put_numbered.Reads as reads
-use Rattle.text.proofs.digits.put_numbered.Lts as lts
-use Rattle.text.proofs.digits.put.Reads as put-reads
-use Rattle.text.proofs.digits.put_field.Reads as put-field-reads
 
 put-requires : tie.Need-put-requires
 put-requires c κs = search needs

@@ -7,9 +7,6 @@ use Rattle.basis.proofs.Tests.{told}
 use Rattle.text.proofs.FieldsLaws.{and-first, digit-low, digit-high, digit-none}
 use Rattle.text.proofs.fields.digit_of.Statement.{statement}
 use Rattle.text.proofs.fields.digit_of.Tie as tie
-use Rattle.text.proofs.fields.digit_of.Reads as reads
-use Rattle.text.proofs.fields.digit_of.Lts as lts
-use Rattle.text.proofs.fields.is_between.Reads as is-between-reads
 
 is-between-requires : tie.Need-is-between-requires
 is-between-requires c κs = search needs

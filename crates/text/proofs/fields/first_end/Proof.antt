@@ -1,9 +1,9 @@
 -- `first_end` meets its contract: what is passed, and the field that goes on, make up the first field.
-use Prim.Native.Nat.{ℕ, _+_, _-_, _≤_}
-use mathlib.Core.List.{List, _++_}
-use mathlib.Core.Path.{_≡_, refl, sym, ap, _∙_}
+use Prim.Native.Nat.{_+_, _-_, _≤_}
+use mathlib.Core.List.{_++_}
+use mathlib.Core.Path.{_≡_, refl, sym, _∙_}
 use native.Mathlib.Omega.{arith}
-use lib.ListN.{length, take, getD}
+use lib.ListN.{length, take}
 use borrow.Author.Needs.{needs}
 use Rattle.basis.proofs.Tests.{told}
 use Rattle.text.specs.Fields.{fields}
@@ -11,9 +11,6 @@ use Rattle.text.specs.Places.{fieldAt, restAt}
 use Rattle.text.proofs.FieldsLaws.{field-more, field-over, first-step, first-whole}
 use Rattle.text.proofs.fields.first_end.Statement.{statement}
 use Rattle.text.proofs.fields.first_end.Tie as tie
-use Rattle.text.proofs.fields.first_end.Reads as reads
-use Rattle.text.proofs.fields.first_end.Lts as lts
-use Rattle.text.proofs.fields.in_field.Reads as in-field-reads
 
 abbrev Inv-loop : tie.InvT-loop
 Inv-loop line i₀ i = (i ≤ length line) × (fields line .first ≡ take i line ++ fieldAt line i) × (restAt line i ≡ fields line .others)

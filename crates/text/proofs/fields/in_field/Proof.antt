@@ -4,8 +4,6 @@ use borrow.Author.Tests.{lt-ltb, le-ltb}
 use Rattle.text.proofs.FieldsLaws.{and-holds, and-fails}
 use Rattle.text.proofs.fields.in_field.Statement.{statement}
 use Rattle.text.proofs.fields.in_field.Tie as tie
-use Rattle.text.proofs.fields.in_field.Reads as reads
-use Rattle.text.proofs.fields.in_field.Lts as lts
 
 shared-slice-read-result : tie.Need-shared-slice-read-result
 shared-slice-read-result c = search needs

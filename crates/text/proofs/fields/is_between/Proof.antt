@@ -1,11 +1,8 @@
 -- `is_between` meets its contract.
-use lib.Dec.{leb}
 use borrow.Author.Tests.{le-leb, lt-leb}
 use Rattle.text.proofs.FieldsLaws.{and-holds, and-fails}
 use Rattle.text.proofs.fields.is_between.Statement.{statement}
 use Rattle.text.proofs.fields.is_between.Tie as tie
-use Rattle.text.proofs.fields.is_between.Reads as reads
-use Rattle.text.proofs.fields.is_between.Lts as lts
 
 returns : tie.Need-returns
 returns c = and-holds _ _ (le-leb _ _ (c .if1 .taken))

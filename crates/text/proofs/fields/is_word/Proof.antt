@@ -1,14 +1,12 @@
 -- `is_word` meets its contract.
 use Prim.Native.Nat.{_-_, _≤_}
-use mathlib.Core.Path.{_≡_, refl, sym, ap, _∙_}
+use mathlib.Core.Path.{_≡_, refl}
 use native.Mathlib.Omega.{arith}
 use lib.ListN.{length, drop}
 use Rattle.forms.specs.Compact.{same}
 use Rattle.text.proofs.FieldsLaws.{same-longer, same-step, same-apart, same-over}
 use Rattle.text.proofs.fields.is_word.Statement.{statement}
 use Rattle.text.proofs.fields.is_word.Tie as tie
-use Rattle.text.proofs.fields.is_word.Reads as reads
-use Rattle.text.proofs.fields.is_word.Lts as lts
 
 abbrev Inv-loop : tie.InvT-loop
 Inv-loop bytes word i₀ i = (i ≤ length bytes) × (length bytes ≡ length word) × (same bytes word ≡ same (drop i bytes) (drop i word))

@@ -1,14 +1,11 @@
 -- `only_number` meets its contract.
-use mathlib.Core.Path.{_≡_, refl, sym, ap, _∙_}
+use mathlib.Core.Path.{sym, _∙_}
 use native.Mathlib.Omega.{arith}
 use borrow.Author.Needs.{needs}
-use Rattle.text.specs.Places.{fieldAt, restAt}
+use Rattle.text.specs.Places.{restAt}
 use Rattle.text.proofs.FieldsLaws.{place-end, rest-next, only-right, only-many, only-none}
 use Rattle.text.proofs.fields.only_number.Statement.{statement}
 use Rattle.text.proofs.fields.only_number.Tie as tie
-use Rattle.text.proofs.fields.only_number.Reads as reads
-use Rattle.text.proofs.fields.only_number.Lts as lts
-use Rattle.text.proofs.fields.first_number.Reads as first-number-reads
 
 first-number-requires : tie.Need-first-number-requires
 first-number-requires c κs = search needs

@@ -1,17 +1,14 @@
 -- `read_cells` meets its contract: the cells read come before those still to be read.
-use Prim.Native.Nat.{ℕ, _+_, _*_, _-_, _≤_}
-use mathlib.Core.Path.{_≡_, refl, sym, ap, _∙_}
+use Prim.Native.Nat.{_*_, _-_, _≤_}
+use mathlib.Core.Path.{_≡_, refl}
 use native.Mathlib.Omega.{arith}
 use lib.ListN.{length, take, length-set}
 use borrow.Author.Needs.{needs}
 use Rattle.text.specs.Fields.{hexCells}
-use Rattle.text.specs.Places.{fieldAt, restAt, Ends}
+use Rattle.text.specs.Places.{restAt, Ends}
 use Rattle.text.proofs.FieldsLaws.{prepend, prepend-none, cells-step, cells-over, cells-refused}
 use Rattle.text.proofs.fields.read_cells.Statement.{statement}
 use Rattle.text.proofs.fields.read_cells.Tie as tie
-use Rattle.text.proofs.fields.read_cells.Reads as reads
-use Rattle.text.proofs.fields.read_cells.Lts as lts
-use Rattle.text.proofs.fields.read_numeral.Reads as read-numeral-reads
 
 abbrev Inv-loop : tie.InvT-loop
 Inv-loop line at cells₀ n₀ i₀ cells n i = Ends line i × (9 * n ≤ i) × (length cells ≡ length cells₀) × (hexCells (restAt line at) ≡ prepend (take n cells) (hexCells (restAt line i)))

@@ -1,19 +1,13 @@
 -- `read_numeral` meets its contract.
-use Prim.Native.Nat.{ℕ, _+_, _*_, _-_}
-use mathlib.Core.Path.{_≡_, refl, sym, ap, _∙_}
+use Prim.Native.Nat.{_+_, _-_}
+use mathlib.Core.Path.{_≡_, sym, _∙_}
 use native.Mathlib.Omega.{arith}
-use lib.ListN.{length, getD}
+use lib.ListN.{length}
 use borrow.Author.Needs.{needs}
 use Rattle.basis.proofs.Tests.{told}
-use Rattle.text.specs.Fields.{digitOf}
-use Rattle.text.specs.Places.{fieldAt, restAt, inField}
-use Rattle.text.proofs.FieldsLaws.{Reading, field-more, field-over, hexRoom, hex-room-seven, product-most, first-none, first-numeral, first-behind, reading-starts, reading-digit, reading-bad, reading-long, reading-short, reading-done}
+use Rattle.text.proofs.FieldsLaws.{Reading, field-more, field-over, hex-room-seven, product-most, first-none, first-numeral, first-behind, reading-starts, reading-digit, reading-bad, reading-long, reading-short, reading-done}
 use Rattle.text.proofs.fields.read_numeral.Statement.{statement}
 use Rattle.text.proofs.fields.read_numeral.Tie as tie
-use Rattle.text.proofs.fields.read_numeral.Reads as reads
-use Rattle.text.proofs.fields.read_numeral.Lts as lts
-use Rattle.text.proofs.fields.digit_of.Reads as digit-of-reads
-use Rattle.text.proofs.fields.in_field.Reads as in-field-reads
 
 abbrev Inv-loop : tie.InvT-loop
 Inv-loop line at base least most start value₀ i₀ value i = (start ≡ at + 1) × Reading line start base most value i

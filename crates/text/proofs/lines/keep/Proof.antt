@@ -1,11 +1,9 @@
 -- `keep` meets its contract.
-use mathlib.Core.Path.{_≡_, refl}
+use mathlib.Core.Path.{refl}
 use borrow.Author.Needs.{needs}
 use Rattle.text.proofs.CuttingLaws.{keep-more, keep-none}
 use Rattle.text.proofs.lines.keep.Statement.{statement}
 use Rattle.text.proofs.lines.keep.Tie as tie
-use Rattle.text.proofs.lines.keep.Reads as reads
-use Rattle.text.proofs.lines.keep.Lts as lts
 
 slice-write-line : tie.Need-slice-write-line
 slice-write-line c = search needs

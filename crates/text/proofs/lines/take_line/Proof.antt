@@ -1,17 +1,13 @@
 -- `take_line` meets its contract: at each turn, what is left to take comes to what the whole does.
-use Prim.Native.Nat.{ℕ, _+_, _-_, _≤_}
-use mathlib.Core.Path.{_≡_, refl, sym, ap, _∙_}
+use Prim.Native.Nat.{_-_}
+use mathlib.Core.Path.{_≡_, refl, _∙_}
 use native.Mathlib.Omega.{arith}
-use lib.ListN.{length, drop, length-set}
+use lib.ListN.{length, drop}
 use borrow.Author.Needs.{needs}
-use Rattle.text.specs.Cutting.{Took, took, keptMore, taking}
-use Rattle.text.specs.declared.Taking.the-variants.{Line, More}
+use Rattle.text.specs.Cutting.{taking}
 use Rattle.text.proofs.CuttingLaws.{in-range, step-over, step-end, step-turn}
 use Rattle.text.proofs.lines.take_line.Statement.{statement}
 use Rattle.text.proofs.lines.take_line.Tie as tie
-use Rattle.text.proofs.lines.take_line.Reads as reads
-use Rattle.text.proofs.lines.take_line.Lts as lts
-use Rattle.text.proofs.lines.keep.Reads as keep-reads
 
 abbrev Inv-loop : tie.InvT-loop
 Inv-loop chunk at line₀ kept n₀ i₀ line n i =

@@ -4,8 +4,7 @@ use Rattle.trie.proofs.SearchCases.{children-none, children-some}
 use Rattle.trie.specs.Siblings.{trieIn}
 use Rattle.space.specs.declared.Node.{Node}
 use Rattle.space.specs.Layout.{sizes}
-use mathlib.Core.Path.{_∙_, ap, _≡_}
-use native.Mathlib.Omega.{arith}
+use mathlib.Core.Path.{_∙_, ap}
 use borrow.Author.Needs.{needs}
 use Rattle.trie.proofs.siblings.search_children.Statement.{statement}
 use Rattle.trie.proofs.siblings.search_children.Tie as tie
