@@ -13,6 +13,10 @@ at-most a b n = by-cases (leb a b) (leb-true a b) (λ t. absurd (n (leb-false a 
 pub equal : (a b : ℕ) → ((a ≡ b → ⊥) → ⊥) → a ≡ b
 equal a b n = by-cases (eqb a b) (eqb-true a b) (λ t. absurd (n (eqb-false a b t)))
 
+-- at most, but not equal
+pub strictly : (a b : ℕ) → a ≤ b → (a ≡ b → ⊥) → a < b
+strictly a b l n = omega arith
+
 pub true-not-false : {b : Bool} → b ≡ true → false ≡ b → ⊥
 true-not-false e f = let z : _≡_ {A = ℕ} 0 1 = cc in omega arith
 

@@ -27,6 +27,18 @@ use Rattle.convert.specs.Holds.{HoldsForm}
 use Rattle.pair_reader.proofs.StoringLaws.{numbered-length}
 use Rattle.pair_reader.proofs.PairSteps.{at-after, at-end}
 
+-- ---- the reader's refusals are small numbers
+
+refusal-tests : (r k w : ℕ) (a b c : Bool) → Refusal r ≡ pick a (Refusal 4) (pick b (pick c (Refusal 5) (Form k w)) (Refusal 3)) → r ≤ 5
+refusal-tests r k w true b c e = let z : r ≡ 4 = cc in omega arith
+refusal-tests r k w false true true e = let z : r ≡ 5 = cc in omega arith
+refusal-tests r k w false true false e = let z : _≡_ {A = ℕ} 0 1 = cc in absurd (omega arith)
+refusal-tests r k w false false c e = let z : r ≡ 3 = cc in omega arith
+
+pub refusal-small : (arity : ℕ → ℕ) (m r : ℕ) (s : List ℕ) → Refusal r ≡ reading arity m s → r ≤ 5
+unfolding reading
+refusal-small arity m r s e = refusal-tests r (length (compactForm arity s)) (length (met [] s)) (ltb 256 (length s)) (areTerms arity m s) (ltb 32 (length (met [] s))) e
+
 -- ---- numbering on the way is numbering
 
 -- variables that are met later change no rank

@@ -55,15 +55,20 @@ pub ordered-cell : (k c : ℕ) → variable c ≡ false → (ordered k (c ∷ []
 unfolding ordered inOrder after
 ordered-cell k c e = (rw e, rw e)
 
-pub counted-most : (xs : List ℕ) (k : ℕ) → counted k xs ≤ k + length xs
-unfolding counted after
-counted-most [] k = omega arith
-counted-most (x ∷ xs) k = omega (arith, counted-most xs (after k x), one (variable x) (eqb (payload x) k))
+-- at most one variable more is met
+pub after-most : (k c : ℕ) → after k c ≤ k + 1
+unfolding after
+after-most k c = go (variable c) (eqb (payload c) k)
   where
-    one : (b d : Bool) → pick b (pick d (k + 1) k) k ≤ k + 1
-    one true true = omega arith
-    one true false = omega arith
-    one false d = omega arith
+    go : (b d : Bool) → pick b (pick d (k + 1) k) k ≤ k + 1
+    go true true = omega arith
+    go true false = omega arith
+    go false d = omega arith
+
+pub counted-most : (xs : List ℕ) (k : ℕ) → counted k xs ≤ k + length xs
+unfolding counted
+counted-most [] k = omega arith
+counted-most (x ∷ xs) k = omega (arith, counted-most xs (after k x), after-most k x)
 
 -- ---- terms and items
 

@@ -1,15 +1,11 @@
 -- The loop invariants of the readers of compact form: what is still to be read gives the whole.
 use Prim.Native.Nat.{ℕ, _+_, _≤_}
-use mathlib.Core.Bool.{Bool, true, false}
+use mathlib.Core.Bool.{Bool, false}
 use mathlib.Core.List.{List}
 use mathlib.Core.Path.{_≡_}
-use native.Mathlib.Omega.{arith}
 use lib.ListN.{length}
-use lib.Dec.{eqb}
-use Rattle.basis.specs.Choice.{pick}
 use Rattle.forms.specs.declared.Step.{Step}
-use Rattle.forms.specs.Cells.{variable, payload}
-use Rattle.form_reader.specs.Loading.{after, FormsRan, RestRan}
+use Rattle.form_reader.specs.Loading.{FormsRan, RestRan}
 
 pub record FormsTurn (arity : ℕ → ℕ) (s : List ℕ) (limit from n known : ℕ) (out₀ : List ℕ) (start : ℕ) (out : List ℕ) (at due count to : ℕ) : Type 0 where
   pub from-at : from ≤ at
@@ -26,13 +22,3 @@ pub record RestTurn (arity : ℕ → ℕ) (s : List ℕ) (limit from known : ℕ
   pub room : to + 1 ≤ limit
   pub out-kept : length out ≡ length out₀
   pub goes-on : (out′ : List ℕ) (r : Step) → RestRan arity s limit at some count out to out′ r → RestRan arity s limit from false known out₀ start out′ r
-
--- at most one variable more is met
-pub after-most : (k c : ℕ) → after k c ≤ k + 1
-unfolding after
-after-most k c = go (variable c) (eqb (payload c) k)
-  where
-    go : (b d : Bool) → pick b (pick d (k + 1) k) k ≤ k + 1
-    go true true = omega arith
-    go true false = omega arith
-    go false d = omega arith

@@ -9,6 +9,7 @@ use lib.Dec.{eqb, leb}
 use lib.ListN.{length, getD, set, drop, length-set}
 use lib.Seq.{drop-cons, drop-length, set-at}
 use borrow.Author.Tests.{eq-eqb, ne-eqb, le-leb, lt-leb, leb-true, leb-false}
+use Rattle.trie.proofs.BuildLaws.{length-free}
 use Rattle.basis.specs.Choice.{pick}
 use Rattle.basis.proofs.Cases.{by-cases}
 use Rattle.space.specs.declared.Node.{Node}
@@ -18,11 +19,6 @@ use Rattle.indexing.specs.Parts.{entered}
 use Rattle.indexing.proofs.EnterCases.{entering-step}
 
 -- ---- free slots
-
-empty-length : (n : ℕ) → length (emptyIndex n) ≡ n
-unfolding emptyIndex
-empty-length zero = refl
-empty-length (suc n) = ap suc (empty-length n)
 
 empty-more : (n : ℕ) (xs : List ℕ) → emptyIndex n ++ (0 ∷ xs) ≡ emptyIndex (suc n) ++ xs
 unfolding emptyIndex
@@ -40,7 +36,7 @@ freed-begin before = refl
 pub freed-on : (before index : List ℕ) (i : ℕ) → i < length before → Freed before i index → Freed before (i + 1) (set index i 0)
 freed-on before index i l e =
     rw (e, add-one, drop-cons before i 0 l)
-    (set-at (emptyIndex i) (getD before i 0) (drop (suc i) before) 0 i (empty-length i) ∙ empty-more i (drop (suc i) before))
+    (set-at (emptyIndex i) (getD before i 0) (drop (suc i) before) 0 i (length-free i) ∙ empty-more i (drop (suc i) before))
 
 pub freed-ended : (before index : List ℕ) (i : ℕ) → i ≡ length before → Freed before i index → index ≡ emptyIndex (length before)
 freed-ended before index i z e =
@@ -174,4 +170,4 @@ half-most count size = by-cases (leb count (size / 2))
     (λ e. let l : size / 2 < count = leb-false _ _ e in e ∙ sym (lt-leb (2 * count) size (omega arith)))
 
 pub cleared-length : (before cleared : List ℕ) → cleared ≡ emptyIndex (length before) → length cleared ≡ length before
-cleared-length before cleared e = ap length e ∙ empty-length (length before)
+cleared-length before cleared e = ap length e ∙ length-free (length before)

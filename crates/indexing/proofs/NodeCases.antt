@@ -7,6 +7,7 @@ use native.Mathlib.Omega.{arith}
 use native.Mathlib.Numerals.{add-one}
 use lib.Dec.{eqb, leb}
 use borrow.Author.Tests.{eq-eqb, ne-eqb, le-leb, lt-leb, leb-true, eqb-true, eqb-false}
+use Rattle.basis.proofs.Tests.{strictly}
 use Rattle.basis.specs.Choice.{pick}
 use Rattle.basis.proofs.Cases.{by-cases}
 use Rattle.basis.proofs.Tests.{true-not-false}
@@ -55,10 +56,7 @@ module _ (at : ℕ → Node) (nodes n : ℕ) where
       pub climb-falls : y .parent < x
       climb-falls =
           let k : y .parent ≤ x = rw e (f x (p .lower)) in
-          below (y .parent) x k z
-        where
-          below : (a b : ℕ) → a ≤ b → (a ≡ b → ⊥) → a < b
-          below a b l o = omega arith
+          strictly (y .parent) x k z
 
       pub climb-on : Climbing at nodes n (y .parent)
       climb-on = record {
@@ -183,10 +181,7 @@ module _ (v : View) where
       let b = both-true _ _ (sym (nodes-step n) ∙ e) in
       by-cases (eqb i n)
       (λ z. ap (nodeFit v) (eqb-true i n z) ∙ b .1)
-      (λ z. nodes-below n i (b .0) (less i n l (eqb-false i n z)))
-    where
-      less : (a b : ℕ) → a < suc b → (a ≡ b → ⊥) → a < b
-      less a b h o = omega arith
+      (λ z. nodes-below n i (b .0) (strictly i n (omega arith) (eqb-false i n z)))
 
   pub nodes-failed : (n i : ℕ) → i < n → nodeFit v i ≡ false → false ≡ nodesFit v n
   nodes-failed n i l f = by-cases (nodesFit v n)
@@ -232,10 +227,7 @@ module _ (cs : List ℕ) (h : Head) (n : ℕ) where
       pub read-falling : Falling (nodeIn sizes cs) n
       read-falling i l = by-cases (eqb i n)
           (λ z. rw (eqb-true i n z) (node-bounds (h .nodes) (h .subgoals + h .answers) n (nodeIn sizes cs n) read-sound .parent-most))
-          (λ z. fit-bounds (viewIn cs h) i (nodes-below (viewIn cs h) n i (w .2) (less i n l (eqb-false i n z))) .parent-most)
-        where
-          less : (a b : ℕ) → a ≤ b → (a ≡ b → ⊥) → a < b
-          less a b h o = omega arith
+          (λ z. fit-bounds (viewIn cs h) i (nodes-below (viewIn cs h) n i (w .2) (strictly i n l (eqb-false i n z))) .parent-most)
 
   pub fit-named : AllFit cs h → n < h .nodes → (y : Node) → y ≡ nodeIn sizes cs n → Named (h .nodes) n y
   fit-named w l y e =

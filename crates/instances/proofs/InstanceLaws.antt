@@ -10,6 +10,7 @@ use lib.ListN.{length, take, getD, set, length-append}
 use lib.Seq.{sets, slice, slice-cons, slice-empty, length-slice, length-sets, length-take-le, getD-set-same, getD-set-other}
 use lib.Dec.{eqb, ltb}
 use borrow.Author.Tests.{eqb-true, eqb-false, ltb-true, ltb-false}
+use Rattle.basis.proofs.Tests.{strictly}
 use Rattle.basis.proofs.Cases.{by-cases}
 use Rattle.forms.specs.Cells.{payload, variable, shapeOf}
 use Rattle.forms.specs.Terms.{Term, cell, pairs, every}
@@ -92,11 +93,8 @@ module _ (arity : ℕ → ℕ) (s : List ℕ) (m : ℕ) (few : m ≤ length (ter
         sum = scan-sum;
         within = λ l. by-cases (eqb (at + 1) stop)
             (λ q. absurd (let x : dueOf arity m (slice 0 (at + 1) s) ≡ m - (i + 1) = ap (λ (n : ℕ). dueOf arity m (take n s)) (eqb-true (at + 1) stop q) ∙ ends .0 in omega (arith, scan-sum)))
-            (λ q. let x : at + 1 ≡ stop → ⊥ = eqb-false (at + 1) stop q in other (at + 1) stop x (omega (arith, scans .within more)));
+            (λ q. let x : at + 1 ≡ stop → ⊥ = eqb-false (at + 1) stop q in strictly (at + 1) stop (omega (arith, scans .within more)) x);
       }
-        where
-          other : (a b : ℕ) → (a ≡ b → ⊥) → a ≤ b → a < b
-          other a b x h = omega arith
 
       -- term i ends, and the next starts
       pub scan-start : due′ + i < m → at + 1 ≡ stop

@@ -8,7 +8,6 @@ use native.Mathlib.Numerals.{add-one}
 use lib.Dec.{eqb}
 use lib.ListN.{length, length-append}
 use borrow.Author.Tests.{eq-eqb, ne-eqb, eqb-true, eqb-false}
-use Rattle.basis.specs.Choice.{pick}
 use Rattle.basis.proofs.Cases.{by-cases}
 use Rattle.plain.specs.Coding.{Coding, codingOf}
 use Rattle.space.specs.Sound.{subgoalUnder, answerUnder}
@@ -89,17 +88,6 @@ pub record Along (cs : List ℕ) (h : Head) (first a : ℕ) : Type 0 where
   pub together : length passed + steps ≡ h .answers
   pub suffice : (a ≡ 0 → ⊥) → h .answers < steps + a
   pub within : a ≤ h .answers
-
--- answers from a on, at most
-unfoldable pub ahead : ℕ → ℕ → ℕ
-ahead answers a = pick (eqb a 0) 0 (answers + 1 - a)
-
-pub ahead-less : (answers a next : ℕ) → (a ≡ 0 → ⊥) → a ≤ answers → ((next ≡ 0 → ⊥) → a < next) → ahead answers next < ahead answers a
-unfolding ahead
-ahead-less answers a next z l r =
-    by-cases (eqb next 0)
-    (λ e. rw (e, ne-eqb a 0 z) (omega arith))
-    (λ e. rw (e, ne-eqb a 0 z) (omega (arith, r (eqb-false next 0 e))))
 
 module _ (cs : List ℕ) (h : Head) (first : ℕ) where
   pub along-begin : first ≤ h .answers → Along cs h first first

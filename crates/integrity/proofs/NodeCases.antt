@@ -6,6 +6,7 @@ use mathlib.Core.List.{List}
 use native.Mathlib.Omega.{arith}
 use lib.Dec.{eqb}
 use borrow.Author.Tests.{eq-eqb, ne-eqb, lt-ltb, le-ltb, le-leb, lt-leb}
+use Rattle.basis.proofs.Tests.{strictly}
 use Rattle.basis.specs.Choice.{pick}
 use Rattle.plain.specs.Coding.{Coding, codingOf}
 use Rattle.space.specs.Layout.{sizes, nodeIn}
@@ -185,8 +186,5 @@ module _ (cs : List ℕ) (h : Head) (i : ℕ) where
 
       pub read-child-of : NodesWhole cs h i → (y .parent ≡ i → ⊥) → ChildOfNumber cs h i y
       read-child-of w o =
-          let p : y .parent < i = below (y .parent) i parent-most o in
+          let p : y .parent < i = strictly (y .parent) i parent-most o in
           (read-node-of, sibling-within, omega (arith, p), whole-sound (codingOf (h .edition)) (viewIn cs h) (y .parent) (every-below (nodeTest cs h) i w (y .parent) p))
-        where
-          below : (p i : ℕ) → p ≤ i → (p ≡ i → ⊥) → p < i
-          below p i m o = omega arith

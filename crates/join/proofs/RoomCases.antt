@@ -1,12 +1,13 @@
 -- The decision on the forms of a join: too long, damaged, none new, no room, or all entered.
 use mathlib.Core.Path.{_≡_, refl, sym, ap, _∙_, subst}
-use mathlib.Core.Bool.{Bool, true, false, _&&_, true≢false, false≢true}
+use mathlib.Core.Bool.{Bool, true, false, _&&_, true≢false}
 use mathlib.Core.List.{List, [], _∷_}
 use Prim.Native.Nat.{ℕ, _+_, _-_, _≤_, _<_}
 use native.Mathlib.Omega.{arith}
 use lib.Dec.{eqb, leb}
 use lib.ListN.{length}
 use borrow.Author.Tests.{eq-eqb, ne-eqb, le-leb, lt-leb}
+use Rattle.trie.proofs.WalkLaws.{both-true}
 use Rattle.basis.specs.Choice.{pick}
 use Rattle.basis.proofs.Cases.{by-cases}
 use Rattle.forms.specs.Cells.{arityOf}
@@ -33,11 +34,6 @@ use Rattle.join.specs.Joining.{asked, sidesOf, Grounded}
 use Rattle.join.proofs.JoinCases.{join-refused, join-entered, decides}
 
 -- ---- forms of which none is new
-
-and-parts : (a b : Bool) → (a && b) ≡ true → (a ≡ true) × (b ≡ true)
-and-parts true true e = (refl, refl)
-and-parts true false e = absurd (false≢true e)
-and-parts false b e = absurd (false≢true e)
 
 -- by any way of finding a child
 module _ (find : Finding) where
@@ -75,7 +71,7 @@ module _ (find : Finding) where
     unfolding allSoundBy formsGivenBy
     none-given [] a l = refl
     none-given (w ∷ ws) a l =
-        let p = and-parts (metSound (viewOf (sizesOf e) cs h) w (walkToBy find (viewOf (sizesOf e) cs h) s w)) (allSoundBy find (viewOf (sizesOf e) cs h) s ws) a in
+        let p = both-true (metSound (viewOf (sizesOf e) cs h) w (walkToBy find (viewOf (sizesOf e) cs h) s w)) (allSoundBy find (viewOf (sizesOf e) cs h) s ws) a in
         let q = some-lacking (viewOf (sizesOf e) cs h) s w ws l in
         ap (λ (ds : List ℕ). formsGivenBy find (sizesOf e) ds s ws) (held-given w (p .0) (q .0)) ∙ none-given ws (p .1) (q .1)
 

@@ -1,19 +1,15 @@
 -- One law for each outcome of the exports.
 use Prim.Native.Nat.{ℕ, _+_, _*_, _^_, _/_, _%_, _≤_, _<_}
-use mathlib.Core.List.{List, [], _++_}
-use mathlib.Core.Bool.{Bool, true, false}
+use mathlib.Core.List.{List, _++_}
+use mathlib.Core.Bool.{true, false}
 use mathlib.Core.Path.{_≡_}
 use native.Mathlib.Omega.{arith}
 use lib.ListN.{length, take, drop}
 use lib.Seq.{take-at}
-use lib.Dec.{ltb}
 use borrow.Author.Tests.{le-leb, lt-leb, eq-eqb, ne-eqb}
-use Rattle.basis.specs.Choice.{pick}
 use Rattle.forms.specs.declared.Reading.the-variants.{Form, Refusal}
 use Rattle.forms.specs.declared.Loading.the-variants.{Terms, NoForm}
 use Rattle.forms.specs.Converting.{converterEdition}
-use Rattle.forms.specs.Terms.{areTerms}
-use Rattle.forms.specs.Numbering.{met}
 use Rattle.forms.specs.Compact.{compactForm, pairForm}
 use Rattle.forms.specs.Converting.{reading, loading, fitting, fittingForm, fittingTerms, compacting, expanding}
 use Rattle.convert.proofs.ReadingLaws.{reading-long}
@@ -21,18 +17,6 @@ use Rattle.convert.proofs.LoadingLaws.{loading-long}
 use Rattle.marshalling.specs.Bytes.{cellsOf, bytesOf}
 use Rattle.marshalling.specs.Export.{Outcome, outcome, word, writtenBytes, handed, exported, compactBytes, expandBytes, outcomeIn}
 use Rattle.marshalling.proofs.BytesLaws.{cells-length}
-
--- ---- the reader's refusals are small numbers
-
-refusal-tests : (r k w : ℕ) (a b c : Bool) → Refusal r ≡ pick a (Refusal 4) (pick b (pick c (Refusal 5) (Form k w)) (Refusal 3)) → r ≤ 5
-refusal-tests r k w true b c e = let z : r ≡ 4 = cc in omega arith
-refusal-tests r k w false true true e = let z : r ≡ 5 = cc in omega arith
-refusal-tests r k w false true false e = let z : _≡_ {A = ℕ} 0 1 = cc in absurd (omega arith)
-refusal-tests r k w false false c e = let z : r ≡ 3 = cc in omega arith
-
-pub refusal-small : (arity : ℕ → ℕ) (m r : ℕ) (s : List ℕ) → Refusal r ≡ reading arity m s → r ≤ 5
-unfolding reading
-refusal-small arity m r s e = refusal-tests r (length (compactForm arity s)) (length (met [] s)) (ltb 256 (length s)) (areTerms arity m s) (ltb 32 (length (met [] s))) e
 
 -- ---- what fits or does not fit
 

@@ -6,8 +6,8 @@ use mathlib.Core.List.{List, [], _∷_, _++_, append-nil, append-assoc}
 use native.Mathlib.Omega.{arith}
 use lib.Dec.{eqb}
 use lib.ListN.{length, take, drop, set, length-append, length-set, drop-of-length-le}
-use lib.Seq.{set-split, drop-at, length-take-le}
 use borrow.Author.Tests.{eqb-true, eqb-false}
+use Rattle.basis.proofs.SetsLaws.{drop-written}
 use Rattle.basis.proofs.Cases.{by-cases}
 use Rattle.forms.specs.Cells.{arityOf}
 use Rattle.plain.specs.Words.{Word}
@@ -70,9 +70,6 @@ pub record Gathering (cs : List ℕ) (e : End) (cells₀ cells : List ℕ) (n at
   pub first : Word
   pub path : gather fuel (trieOf cs e) (e .root) n ≡ tokens first
   pub whole : pathTo cs e ≡ tokens (first ++ drop at cells)
-
-drop-written : (a : List ℕ) (i x : ℕ) → i < length a → drop i (set a i x) ≡ x ∷ drop (suc i) a
-drop-written a i x h = ap (drop i) (set-split a i x h) ∙ drop-at (take i a) (x ∷ drop (suc i) a) i (length-take-le i a (omega arith))
 
 module _ (cs : List ℕ) (e : End) (cells₀ : List ℕ) where
   pub gathering-begun : Gatherable cs e → Gathering cs e cells₀ cells₀ (e .leaf) (length cells₀)

@@ -8,6 +8,8 @@ use lib.Dec.{eqb}
 use lib.ListN.{length, take, length-append}
 use lib.Seq.{take-at, length-take-le}
 use borrow.Author.Tests.{eqb-true, eqb-false}
+use Rattle.basis.proofs.Tests.{strictly}
+use Rattle.plain.proofs.LongestShared.{most-le}
 use Rattle.basis.specs.Choice.{pick}
 use Rattle.basis.proofs.Cases.{by-cases}
 use Rattle.forms.specs.Cells.{arityOf}
@@ -96,10 +98,7 @@ shared-same v w = by-cases (eqb (common v w) (length v))
     (λ e. by-cases (eqb (length v) (length w))
     (λ l. rw (e, l) (sym (same-whole v w (eqb-true _ _ e) (eqb-true _ _ l))))
     (λ l. rw (e, l) (sym (same-longer v w (eqb-false _ _ l)))))
-    (λ e. rw e (sym (same-less v w (less (common v w) (length v) (eqb-false _ _ e) (common-most v w .0)))))
-  where
-    less : (a b : ℕ) → (a ≡ b → ⊥) → a ≤ b → a < b
-    less a b n l = omega arith
+    (λ e. rw e (sym (same-less v w (strictly (common v w) (length v) (common-most v w .0) (eqb-false _ _ e)))))
 
 -- what a form shares with one more before it
 pub meets : (e : Earlier) (v w : Word) (b : Earlier) → b .shared ≡ max (common v w) (e .shared) → (q : Bool) → q ≡ allShared (common v w) (length v) (length w) → b .held ≡ (q || e .held) → Meets e v w b
@@ -162,14 +161,8 @@ module _ (cs : List ℕ) (x : Sides) (ps ks : List ℕ) (w : Word) where
           held = j .1 ∙ ap (λ (ds : List Word). has ds w) (sym (backwards-one (c .done) (take n form′) []));
         }
 
--- no more is shared than a form has
-most-length : (ws : List Word) (w : Word) → most ws w ≤ length w
-unfolding most
-most-length [] w = omega arith
-most-length (v ∷ ws) w = omega (arith, common-most v w .1, most-length ws w)
-
 pub shared-length : (ws : List Word) (k : ℕ) (w : Word) (r : Earlier) → EarlierOf ws k w r → r .shared ≤ length w
-shared-length ws k w r o = omega (arith, o .0, most-length (backwards (take k ws) []) w)
+shared-length ws k w r o = omega (arith, o .0, most-le (backwards (take k ws) []) w)
 
 -- ---- the exact needs
 

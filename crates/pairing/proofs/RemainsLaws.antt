@@ -1,10 +1,10 @@
 -- The answers of a source from one on: its path, its form, and those behind it.
 use mathlib.Core.Path.{_≡_, refl, sym, ap, _∙_, subst}
-use mathlib.Core.Bool.{Bool, true, false, _&&_}
 use mathlib.Core.List.{List, [], _∷_}
 use Prim.Native.Nat.{ℕ, zero, suc, _+_, _≤_, _<_}
 use native.Mathlib.Omega.{arith}
 use lib.Dec.{eqb}
+use Rattle.trie.proofs.WalkLaws.{both-true}
 use Rattle.forms.specs.Cells.{arityOf}
 use Rattle.plain.specs.Words.{Word}
 use Rattle.plain.specs.Coding.{Coding, codingOf}
@@ -21,11 +21,6 @@ use Rattle.parts.specs.Parts.{GroundForm, AllGround}
 use Rattle.pairing.specs.declared.Source.{Source}
 use Rattle.pairing.specs.Pairing.{chainForms, formsFrom, SourceIn, Remains, endOf}
 use Rattle.agreement.proofs.ChainSteps.{Begins, chain-begins, chain-ends, chain-longer}
-
-and-both : (a b : Bool) → (a && b) ≡ true → (a ≡ true) × (b ≡ true)
-and-both true true e = (refl, refl)
-and-both true false e = absurd (mathlib.Core.Bool.false≢true e)
-and-both false b e = absurd (mathlib.Core.Bool.false≢true e)
 
 pub unbroken-is : {ws vs : List Word} → unbroken ws ≡ unbroken vs → ws ≡ vs
 unfolding chainForms
@@ -60,7 +55,7 @@ remains-some cs h x a y i r z e =
     let v : View = viewIn cs h in
     let t = begins-at c v (x .number) (h .answers) a (formsFrom cs h (x .number) a) z (omega (arith, r .within)) (r .sound) in
     let l : Begins c v (x .number) (t .0) a (formsFrom cs h (x .number) a) = t .2 in
-    let both = and-both (soundAnswer v a) (eqb (v .answer a .subgoal) (x .number)) (l .judged) in
+    let both = both-true (soundAnswer v a) (eqb (v .answer a .subgoal) (x .number)) (l .judged) in
     let b = answer-bounds (h .nodes) (h .subgoals) (h .answers) a (answerUnder cs h a) (both .0) in
     let n : y .next ≡ answerUnder cs h a .next = ap (λ (q : Answer). q .next) e in
     let f : y .leaf ≡ answerUnder cs h a .leaf = ap (λ (q : Answer). q .leaf) e in

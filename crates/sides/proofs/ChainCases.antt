@@ -5,9 +5,7 @@ use mathlib.Core.Bool.{Bool, true, false, _&&_}
 use mathlib.Core.List.{List, [], _∷_, _++_, append-assoc, append-nil}
 use native.Mathlib.Omega.{arith}
 use lib.ListN.{length}
-use lib.Dec.{eqb}
-use borrow.Author.Tests.{eq-eqb, ne-eqb, eqb-false}
-use Rattle.basis.specs.Choice.{pick}
+use borrow.Author.Tests.{eq-eqb, ne-eqb}
 use Rattle.forms.specs.Numbering.{met}
 use Rattle.basis.proofs.Cases.{by-cases}
 use Rattle.forms.specs.Cells.{arityOf}
@@ -28,7 +26,7 @@ use Rattle.trie.specs.declared.End.{End}
 use Rattle.store.specs.Contracts.{viewIn}
 use Rattle.store.specs.Decisions.{Chain, broken, unbroken, headed, chainFrom, chainOf}
 use Rattle.path_terms.specs.AlongPaths.{worth}
-use Rattle.reads.proofs.ReadsCases.{reads-answer, read-answer-damaged}
+use Rattle.store.proofs.CallsRecords.{reads-answer, read-answer-damaged}
 use Rattle.sides.specs.Chains.{free, PathBroken, PathHeld, prepended, chainIn, Onward, AnswerJudged, ChainHeld}
 use Rattle.sides.specs.declared.Member.the-variants as member
 
@@ -152,17 +150,6 @@ pub record Passed (cs : List ℕ) (h : Head) (s a : ℕ) (b : Bool) : Type 0 whe
   pub all-free : ground forms ≡ b
   pub suffice : (a ≡ 0 → ⊥) → h .answers < steps + a
   pub within : a ≤ h .answers
-
--- answers from a on, at most
-unfoldable pub ahead : ℕ → ℕ → ℕ
-ahead answers a = pick (eqb a 0) 0 (answers + 1 - a)
-
-pub ahead-less : (answers a next : ℕ) → (a ≡ 0 → ⊥) → a ≤ answers → ((next ≡ 0 → ⊥) → a < next) → ahead answers next < ahead answers a
-unfolding ahead
-ahead-less answers a next z l r =
-    by-cases (eqb next 0)
-    (λ e. rw (e, ne-eqb a 0 z) (omega arith))
-    (λ e. rw (e, ne-eqb a 0 z) (omega (arith, r (eqb-false next 0 e))))
 
 module _ (cs : List ℕ) (h : Head) (s : ℕ) where
   pub passed-begin : (g : Subgoal) → g ≡ subgoalUnder cs h s → g .first ≤ h .answers → Passed cs h s (g .first) true

@@ -23,7 +23,7 @@ use Rattle.store.specs.Views.{View}
 use Rattle.store.specs.Contracts.{viewIn}
 use Rattle.store.specs.Decisions.{metSound, lacking, missing}
 use Rattle.store.proofs.CallsWalks.{shown-whole, shown-stopped, shown-damaged}
-use Rattle.reads.proofs.ReadsCases.{reads-answer, read-answer-damaged}
+use Rattle.store.proofs.CallsRecords.{reads-answer, read-answer-damaged}
 use Rattle.sides.proofs.Places.{drop-next}
 use Rattle.sides.specs.Searches.{wholeSound, Searched}
 

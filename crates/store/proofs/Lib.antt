@@ -1,4 +1,5 @@
 pub mod CallsRecords
+pub mod ChainMeasure
 pub mod CallsWalks
 pub mod CallsReading
 pub mod CallsCases

@@ -8,8 +8,9 @@ use native.Mathlib.Nat.{pow-zero, pow-suc, div-lt-iff-lt-mul, mul-le-mul-left, l
 use native.Mathlib.Numerals.{add-one}
 use lib.Dec.{eqb, leb}
 use lib.ListN.{length, take, drop, getD, set, length-append, length-set, length-take, length-drop, drop-of-length-le}
-use lib.Seq.{sets, length-sets, take-suc, take-all, take-length, length-take-le, drop-cons, drop-set-lt, getD-set-same}
+use lib.Seq.{sets, length-sets, take-suc, take-all, take-length, length-take-le}
 use borrow.Author.Tests.{eq-eqb, ne-eqb, not-true, leb-true, leb-false}
+use Rattle.basis.proofs.SetsLaws.{drop-written}
 use Rattle.basis.proofs.Cases.{by-cases}
 use Rattle.basis.proofs.SetsLaws.{sets-append}
 use Rattle.basis.proofs.Tests.{true-not-false}
@@ -98,12 +99,6 @@ place-left left width zero l h f =
     absurd (true-not-false (rw (e, g)) (sym f))
 place-left left width (suc i) l h f = omega arith
 
-pub drop-set : (l : List ℕ) (j v : ℕ) → j < length l → drop j (set l j v) ≡ v ∷ drop (suc j) l
-drop-set l j v h =
-    let k : j < length (set l j v) = simp length-set (omega arith) in
-    let m : j < suc j = omega arith in
-    rw (drop-cons (set l j v) j 0 k, getD-set-same l j v 0 h, drop-set-lt (suc j) l j v m)
-
 pub fill-start : (base width n : ℕ) (buffer : List ℕ) → length buffer ≡ 10 → digits base width n ≡ digitsBefore base 10 (width - (10 - 10)) n (drop 10 buffer)
 fill-start base width n buffer l =
     let z : width - (10 - 10) ≡ width = omega arith in
@@ -118,7 +113,7 @@ fill-next base width n left i j v buffer e h l f d q =
     let k : width - (10 - suc j) - 1 ≡ width - (10 - j) = omega arith in
     let f′ : allMade left (suc j) width ≡ false = rw e at f in
     let q′ : digits base width n ≡ digitsBefore base (suc j) (width - (10 - suc j)) left (drop (suc j) buffer) = rw e at q in
-    q′ ∙ digits-more base j (width - (10 - suc j)) left (drop (suc j) buffer) f′ ∙ rw (k, drop-set buffer j v (omega arith), d)
+    q′ ∙ digits-more base j (width - (10 - suc j)) left (drop (suc j) buffer) f′ ∙ rw (k, drop-written buffer j v (omega arith), d)
 
 -- a part of ten places
 pub part-length : (b : List ℕ) (first : ℕ) → length (take (10 - first) (drop first b)) ≤ 10

@@ -12,6 +12,7 @@ use lib.Dec.{eqb, leb}
 use lib.ListN.{length, getD, set, length-set}
 use lib.Seq.{getD-set-same, getD-set-other}
 use borrow.Author.Tests.{eqb-true, eqb-false, eq-eqb, ne-eqb, lt-ltb, leb-true, leb-false}
+use Rattle.basis.proofs.Tests.{strictly}
 use Rattle.basis.specs.Choice.{pick}
 use Rattle.basis.proofs.Cases.{by-cases}
 use Rattle.trie.specs.Siblings.{Trie}
@@ -125,7 +126,7 @@ unfolding emptyIndex zeros
 zeros-free zero = refl
 zeros-free (suc n) = ap suc (zeros-free n)
 
-length-free : (n : ℕ) → length (emptyIndex n) ≡ n
+pub length-free : (n : ℕ) → length (emptyIndex n) ≡ n
 unfolding emptyIndex
 length-free zero = refl
 length-free (suc n) = ap suc (length-free n)
@@ -209,10 +210,7 @@ module _ (t : Trie) where
       (λ z. let k : x ≡ n = eqb-true _ _ z in
       let e′ : enters t n ≡ true = ap (enters t) (sym k) ∙ e in
       member-right x (entering t n) (pick (enters t n) (n ∷ []) []) (rw e′ (inl k)))
-      (λ z. member-left x (entering t n) (pick (enters t n) (n ∷ []) []) (entering-has n x (lower x n h (eqb-false _ _ z)) e))
-    where
-      lower : (a b : ℕ) → a < suc b → (a ≡ b → ⊥) → a < b
-      lower a b h e = omega arith
+      (λ z. member-left x (entering t n) (pick (enters t n) (n ∷ []) []) (entering-has n x (strictly x n (omega arith) (eqb-false _ _ z)) e))
 
   -- the subgoal root is no child
   root-out : t .at 0 .parent ≡ 0 → (n : ℕ) → n ≡ 0 → enters t n ≡ true → ⊥

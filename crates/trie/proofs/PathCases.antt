@@ -4,11 +4,12 @@ use mathlib.Core.Path.{_≡_, refl, sym, ap, _∙_}
 use mathlib.Core.Bool.{true}
 use mathlib.Core.List.{List, [], _∷_, _++_, append-nil, append-assoc}
 use native.Mathlib.Omega.{arith}
-use lib.ListN.{length, getD, take, drop, set, length-append, length-set, drop-of-length-le}
+use lib.ListN.{length, getD, drop, set, length-append, length-set, drop-of-length-le}
 use lib.Dec.{leb}
 use borrow.Author.Tests.{leb-true, leb-false}
+use Rattle.basis.proofs.SetsLaws.{drop-written}
 use Rattle.basis.proofs.Cases.{by-cases}
-use lib.Seq.{set-split, drop-at, drop-drop, drop-append-le, drop-cons, length-take-le}
+use lib.Seq.{drop-drop, drop-append-le, drop-cons}
 use Rattle.space.specs.Judging.{readNode}
 use Rattle.space.specs.declared.Node.{Node}
 use Rattle.space.specs.declared.NodeRead.the-variants as node
@@ -30,9 +31,6 @@ done-whole : (left : ℕ) (c : Climb) (a : List ℕ) → c ≡ whole [] → Ran 
 done-whole left c a e =
     let z : left ≡ left - 0 = omega arith in
     rw e (z, ap (λ (i : ℕ). drop i a) (sym z), refl)
-
-drop-written : (a : List ℕ) (i x : ℕ) → i < length a → drop i (set a i x) ≡ x ∷ drop (suc i) a
-drop-written a i x h = ap (drop i) (set-split a i x h) ∙ drop-at (take i a) (x ∷ drop (suc i) a) i (length-take-le i a (omega arith))
 
 -- the tokens met above a token that was written
 behind : (a b xs : List ℕ) (left token : ℕ) → 1 ≤ left → left ≤ length a → drop (left - 1 - length xs) b ≡ xs ++ drop (left - 1) (set a (left - 1) token)

@@ -6,13 +6,15 @@ use mathlib.Core.Path.{_≡_, refl}
 use native.Mathlib.Omega.{arith}
 use lib.Dec.{eqb, leb, ltb}
 use lib.ListN.{length, getD, length-append}
+use Rattle.trie.proofs.WalkLaws.{both-true}
+use Rattle.convert.proofs.ReadingLaws.{refusal-small}
 use Rattle.basis.specs.Choice.{pick}
 use Rattle.basis.specs.Editions.{knownEdition}
 use Rattle.basis.proofs.Cases.{by-cases}
 use Rattle.forms.specs.Cells.{variable, payload, arityOf}
-use Rattle.forms.specs.Terms.{Term, cell, arg, pair, pairs, every, areTerms}
+use Rattle.forms.specs.Terms.{Term, cell, arg, pair, pairs, every}
 use Rattle.forms.specs.Numbering.{met}
-use Rattle.forms.specs.Compact.{compactForm, formTerms, pairForm, legalForm}
+use Rattle.forms.specs.Compact.{formTerms, pairForm, legalForm}
 use Rattle.forms.specs.Converting.{reading}
 use Rattle.forms.specs.declared.Reading as forms
 use Rattle.forms.specs.declared.Reading.the-variants.{Form, Refusal}
@@ -41,17 +43,6 @@ use Rattle.store.specs.Calls.{reply, underBy, underAnyBy, spaceStepBy}
 use Rattle.words.specs.Words.{saidFresh}
 use Rattle.words.specs.Bounded.{Bounded}
 
--- the reader's refusals are small numbers
-refusal-tests : (r k w : ℕ) (a b c : Bool) → Refusal r ≡ pick a (Refusal 4) (pick b (pick c (Refusal 5) (Form k w)) (Refusal 3)) → r ≤ 5
-refusal-tests r k w true b c e = let z : r ≡ 4 = cc in omega arith
-refusal-tests r k w false true true e = let z : r ≡ 5 = cc in omega arith
-refusal-tests r k w false true false e = let z : _≡_ {A = ℕ} 0 1 = cc in absurd (omega arith)
-refusal-tests r k w false false c e = let z : r ≡ 3 = cc in omega arith
-
-pub refusal-small : (arity : ℕ → ℕ) (m r : ℕ) (s : List ℕ) → Refusal r ≡ reading arity m s → r ≤ 5
-unfolding reading
-refusal-small arity m r s e = refusal-tests r (length (compactForm arity s)) (length (met [] s)) (ltb 256 (length s)) (areTerms arity m s) (ltb 32 (length (met [] s))) e
-
 -- ---- the cells of an instance
 
 got-cells : (us : List Term) (i c : ℕ) → length (pairs (getD us i (cell c))) ≤ 1 + length (every pairs us)
@@ -75,10 +66,6 @@ module _ (us : List Term) (few : length (every pairs us) ≤ 256) where
 legal-cells : (arity : ℕ → ℕ) (m : ℕ) (w : Word) → legalForm arity m w ≡ true → length (every pairs (formTerms arity w)) ≤ 256
 unfolding pairForm
 legal-cells arity m w h = legal-parts arity m w h .cells
-
-and-first : (a b : Bool) → (a && b) ≡ true → a ≡ true
-and-first true b e = refl
-and-first false b e = e
 
 -- ---- decisions
 
@@ -252,7 +239,7 @@ module _ (find : Finding) (ed : ℕ) where
   small-instanced v s w l =
       let g = v .subgoal s in
       small-path (gather longest (subgoalTrie v) 0 (g .leaf)) (λ u. legalForm (arityOf ed) 1 u && eqb (length (met [] u)) (g .variables)) (λ u. gives ((codingOf ed) .instanceOf u w))
-      (λ u k. omega (arith, all-cells (formTerms (arityOf ed) w) l (formTerms (arityOf ed) u), legal-cells (arityOf ed) 1 u (and-first (legalForm (arityOf ed) 1 u) (eqb (length (met [] u)) (g .variables)) k)))
+      (λ u k. omega (arith, all-cells (formTerms (arityOf ed) w) l (formTerms (arityOf ed) u), legal-cells (arityOf ed) 1 u (both-true (legalForm (arityOf ed) 1 u) (eqb (length (met [] u)) (g .variables)) k .0)))
 
   small-instance : (v : View) (a : ℕ) → Small (loaded (codingOf ed) v a (λ w. instanced (codingOf ed) v (v .answer a .subgoal) (λ u. gives ((codingOf ed) .instanceOf u w))))
   unfolding loaded

@@ -5,6 +5,7 @@ use mathlib.Core.Path.{_≡_, refl, sym, _∙_, subst}
 use native.Mathlib.Omega.{arith}
 use borrow.Author.Needs.{needs}
 use lib.ListN.{length, length-set, set, getD}
+use Rattle.form_reader.proofs.FormSteps.{after-most}
 use Rattle.forms.specs.declared.Shape.the-variants.{Symbol}
 use Rattle.forms.specs.declared.Step.the-variants.{Done, Malformed}
 use Rattle.forms.specs.Cells.{variable, constant, shapeOf, arityOf, PAIR, nil}
@@ -12,7 +13,7 @@ use Rattle.forms.specs.Due.{dueAfter}
 use Rattle.forms.proofs.ShapeLaws.{arity-small, symbol-small, variable-shape}
 use Rattle.form_reader.specs.Loading.{FormsRan, RestRan}
 use Rattle.form_reader.proofs.FormSteps.{ordered-variable, ordered-cell, forms-none, forms-end, forms-full, forms-illegal, forms-unordered, forms-symbol, forms-begin-short, forms-begin, rest-end, rest-last-short, rest-tail-first, rest-tail-end, rest-tail-nil, rest-tail-list, rest-full, constant-no-tail, rest-element-short, rest-last, rest-tail, rest-element, forms-room, rest-room, forms-constant}
-use Rattle.form_reader.proofs.FormTurns.{FormsTurn, RestTurn, after-most}
+use Rattle.form_reader.proofs.FormTurns.{FormsTurn, RestTurn}
 use mathlib.Core.List.{[], _∷_}
 use mathlib.Core.Logic.{⊎-elim}
 use denote.Enum.Declared.{tagOf}

@@ -3,6 +3,7 @@ use Prim.Native.Nat.{_%_}
 use mathlib.Core.Path.{_≡_, sym, ap, _∙_}
 use native.Mathlib.Omega.{arith}
 use lib.ListN.{length, take}
+use Rattle.convert.proofs.ReadingLaws.{refusal-small}
 use Rattle.forms.specs.Cells.{arityOf}
 use Rattle.forms.specs.declared.Reading.the-variants.{Form, Refusal}
 use Rattle.forms.specs.Compact.{compactForm}
@@ -10,7 +11,7 @@ use Rattle.forms.specs.Converting.{reading}
 use Rattle.convert.proofs.AnswerLaws.{taken-room, reading-length, handed-on}
 use Rattle.marshalling.specs.Bytes.{cellsOf}
 use Rattle.marshalling.proofs.BytesLaws.{cells-length}
-use Rattle.marshalling.proofs.ExportLaws.{refusal-small, cells-decoded, compact-refused, compact-form}
+use Rattle.marshalling.proofs.ExportLaws.{cells-decoded, compact-refused, compact-form}
 use borrow.Author.Needs.{needs}
 use Rattle.marshalling.proofs.compact_with.Statement.{statement}
 use Rattle.marshalling.proofs.compact_with.Tie as tie

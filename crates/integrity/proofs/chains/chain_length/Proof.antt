@@ -1,5 +1,6 @@
 -- `integrity::chains::chain_length` meets its contract.
-use Rattle.integrity.proofs.ChainCases.{Counting, ahead, ahead-less, next-rises, counting-begin, counting-less, counting-on, counting-ended}
+use Rattle.store.proofs.ChainMeasure.{ahead, ahead-less}
+use Rattle.integrity.proofs.ChainCases.{Counting, next-rises, counting-begin, counting-less, counting-on, counting-ended}
 use native.Mathlib.Omega.{arith}
 use borrow.Author.Needs.{needs}
 use Rattle.integrity.proofs.chains.chain_length.Statement.{statement}

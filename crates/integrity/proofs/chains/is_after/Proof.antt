@@ -1,5 +1,6 @@
 -- `integrity::chains::is_after` meets its contract.
-use Rattle.integrity.proofs.ChainCases.{Searching, ahead, ahead-less, next-rises, searching-begin, searching-found, searching-on, searching-ended}
+use Rattle.store.proofs.ChainMeasure.{ahead, ahead-less}
+use Rattle.integrity.proofs.ChainCases.{Searching, next-rises, searching-begin, searching-found, searching-on, searching-ended}
 use native.Mathlib.Omega.{arith}
 use borrow.Author.Needs.{needs}
 use Rattle.integrity.proofs.chains.is_after.Statement.{statement}

@@ -1,5 +1,6 @@
 -- `sides::chains::judge` meets its contract.
-use Rattle.sides.proofs.ChainCases.{Passed, ahead, ahead-less, passed-begin, passed-ended, passed-broken, passed-on}
+use Rattle.store.proofs.ChainMeasure.{ahead, ahead-less}
+use Rattle.sides.proofs.ChainCases.{Passed, passed-begin, passed-ended, passed-broken, passed-on}
 use Rattle.sides.specs.Chains.{AnswerJudged}
 use Rattle.sides.specs.declared.Member.the-variants as member
 use native.Mathlib.Omega.{arith}
