@@ -50,7 +50,7 @@ ghost use Rattle.store.specs.Changes.{chained, answerEntered};
 ghost use Rattle.trie.specs.Index.{searchIndexed};
 ghost use Rattle.store.specs.Calls.{Answers, AnswersIndexed};
 ghost use Rattle.store.specs.Contracts.{viewIn, Does, AnswersUnder};
-ghost use Rattle.store.specs.Contracts.{Held, HeldLast, RefusedBy};
+ghost use Rattle.store.specs.Contracts.{Held, HeldLast, RefusesNew};
 ghost use Rattle.store.specs.Contracts.{enteredBelow, answeredFrom, answeredTerms, FormIn, DoesRead};
 ghost use Rattle.store.specs.Replies.{saidAnswer};
 
@@ -76,7 +76,7 @@ pub fn last_sound(space: &[u32], h: Head, s: usize, last: usize) -> bool
 // The refusal of a new answer that takes so many nodes more; 0 for none. A finished subgoal takes none.
 fn refusal(space: &[u32], h: Head, s: usize, g: Subgoal, more: usize) -> u32
     requires { ⌜ Held (now space) h s g ⌝ }
-    ensures { λ r. ⌜ RefusedBy (old space) h s more r ⌝ }
+    ensures { λ r. ⌜ RefusesNew (old space) h s more r ⌝ }
 {
     if last_sound(space, h, s, g.last) {
         if g.state != 0 {

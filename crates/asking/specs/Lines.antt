@@ -7,7 +7,7 @@ use Rattle.basis.specs.Choice.{pick}
 use Rattle.forms.specs.Compact.{same}
 use Rattle.plain.specs.Requests.{Request, call, answer, finish, next, load, instance, counts}
 use Rattle.text.specs.Letters.{letters}
-use Rattle.text.specs.Fields.{Number, noNumber, number, Cells, noCells, cellsOf}
+use Rattle.text.specs.Fields.{Number, noNumber, someNumber, Cells, noCells, someCells}
 use Rattle.text.specs.Fields.{Fields, fields, firstNumber, behind, hexCells, onlyNumber}
 
 -- the seven words
@@ -44,11 +44,11 @@ pub data Meaning : Type 0 where
 
 abbrev pub withCells : Cells → (List ℕ → Request) → Meaning
 withCells noCells q = bad
-withCells (cellsOf cs) q = asks (q cs)
+withCells (someCells cs) q = asks (q cs)
 
 abbrev pub withNumber : Number → (ℕ → Meaning) → Meaning
 withNumber noNumber m = bad
-withNumber (number n) m = m n
+withNumber (someNumber n) m = m n
 
 abbrev pub oneNumber : List (List ℕ) → (ℕ → Request) → Meaning
 oneNumber fs q = withNumber (onlyNumber fs) (λ n. asks (q n))

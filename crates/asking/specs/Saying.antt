@@ -23,8 +23,8 @@ outLeft counts out after = out
 outLeft (join f g ps s cs) out after = out
 
 -- a line that means nothing prints bad and changes nothing
-unfoldable pub says : {S : Type 0} → (S → Request → Result S) → Meaning → S → List ℕ → Said S
-says calls bad s out = record { text = textBad; state = s; out = out }
-says calls (asks q) s out =
+unfoldable pub saidOf : {S : Type 0} → (S → Request → Result S) → Meaning → S → List ℕ → Said S
+saidOf calls bad s out = record { text = textBad; state = s; out = out }
+saidOf calls (asks q) s out =
     let r = calls s q in
     record { text = replyText (r .reply) (r .out); state = r .state; out = outLeft q out (r .out) }

@@ -22,7 +22,7 @@ use text::fields::read_cells;
 ghost use mathlib.Core.Path.{_≡_};
 ghost use Rattle.basis.specs.Moments.{old, new};
 ghost use Rattle.asking.specs.Asking.{Askable, AskableCells, AskableOut};
-ghost use Rattle.asking.specs.Asking.{Asks, AsksReading, callAt, answerAt, finishAt, nextAt, countsAt};
+ghost use Rattle.asking.specs.Asking.{Asks, AsksReading, callMeant, answerMeant, finishMeant, nextMeant, countsMeant};
 ghost use Rattle.asking.specs.Asking.{loadSaid, instanceSaid, LoadPrints, InstancePrints};
 
 // A line that means something has at most so many bytes, its newline not counted.
@@ -34,7 +34,7 @@ const LINE_CELLS: usize = LONGEST_LINE / CELL_BYTES + 1;
 // call, with cells.
 pub fn ask_call(line: &[u8], at: usize, space: &mut [u32], text: &mut [u8]) -> usize
     requires { ⌜ AskableCells (now line) at (now text) ⌝ }
-    ensures { λ r. ⌜ Asks (callAt (old line) at) (old space) (old text) r (new text) (new space) ⌝ }
+    ensures { λ r. ⌜ Asks (callMeant (old line) at) (old space) (old text) r (new text) (new space) ⌝ }
 {
     let mut cells = [0u32; LINE_CELLS];
     let CellsRead::Cells(n) = read_cells(line, at, &mut cells) else {
@@ -47,7 +47,7 @@ pub fn ask_call(line: &[u8], at: usize, space: &mut [u32], text: &mut [u8]) -> u
 // answer, with a number and cells.
 pub fn ask_answer(line: &[u8], at: usize, space: &mut [u32], text: &mut [u8]) -> usize
     requires { ⌜ AskableCells (now line) at (now text) ⌝ }
-    ensures { λ r. ⌜ Asks (answerAt (old line) at) (old space) (old text) r (new text) (new space) ⌝ }
+    ensures { λ r. ⌜ Asks (answerMeant (old line) at) (old space) (old text) r (new text) (new space) ⌝ }
 {
     let Numeral::Value(subgoal, end) = first_number(line, at) else {
         return print_bad(text);
@@ -63,7 +63,7 @@ pub fn ask_answer(line: &[u8], at: usize, space: &mut [u32], text: &mut [u8]) ->
 // finish, with a number.
 pub fn ask_finish(line: &[u8], at: usize, space: &mut [u32], text: &mut [u8]) -> usize
     requires { ⌜ Askable (now line) at (now text) ⌝ }
-    ensures { λ r. ⌜ Asks (finishAt (old line) at) (old space) (old text) r (new text) (new space) ⌝ }
+    ensures { λ r. ⌜ Asks (finishMeant (old line) at) (old space) (old text) r (new text) (new space) ⌝ }
 {
     let Numeral::Value(subgoal, _) = only_number(line, at) else {
         return print_bad(text);
@@ -75,7 +75,7 @@ pub fn ask_finish(line: &[u8], at: usize, space: &mut [u32], text: &mut [u8]) ->
 // next, with two numbers.
 pub fn ask_next(line: &[u8], at: usize, space: &[u32], text: &mut [u8]) -> usize
     requires { ⌜ Askable (now line) at (now text) ⌝ }
-    ensures { λ r. ⌜ AsksReading (nextAt (old line) at) (old space) (old text) r (new text) ⌝ }
+    ensures { λ r. ⌜ AsksReading (nextMeant (old line) at) (old space) (old text) r (new text) ⌝ }
 {
     let Numeral::Value(subgoal, end) = first_number(line, at) else {
         return print_bad(text);
@@ -122,7 +122,7 @@ pub fn ask_instance(
 // counts, with no field: the line ends behind the word.
 pub fn ask_counts(line: &[u8], at: usize, space: &[u32], text: &mut [u8]) -> usize
     requires { ⌜ Askable (now line) at (now text) ⌝ }
-    ensures { λ r. ⌜ AsksReading (countsAt (old line) at) (old space) (old text) r (new text) ⌝ }
+    ensures { λ r. ⌜ AsksReading (countsMeant (old line) at) (old space) (old text) r (new text) ⌝ }
 {
     if at < line.len() {
         return print_bad(text);

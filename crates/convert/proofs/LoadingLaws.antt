@@ -23,7 +23,7 @@ use Rattle.forms.proofs.FormLaws.{every-compact-short, every-pairs-least, every
 use Rattle.forms.proofs.ExactLaws.{front-every, forms-every, forms-compact, compact-forms}
 use Rattle.forms.proofs.RoundTrip.{same-self, same-true, LegalParts, parts-legal, legal-parts}
 use Rattle.pair_reader.specs.Storing.{numberedFrom}
-use Rattle.form_reader.specs.Loading.{inOrder, after, ordered, counted, FormsRan}
+use Rattle.form_reader.specs.Loading.{inOrder, metAfter, ordered, metIn, FormsRan}
 use Rattle.convert.specs.Holds.{HoldsTerms}
 use Rattle.convert.proofs.ReadingLaws.{numbered-whole, sets-taken}
 
@@ -92,8 +92,8 @@ module _ (k c : ℕ) (v : variable c ≡ true) where
   is-tag = let e : kind c ≡ 1 = eqb-true (kind c) 1 v in omega arith
 
   -- a variable met before
-  firsts-old : payload c < k → (seen (firsts k) c ≡ firsts (after k c)) × (renamed (seen (firsts k) c) c ≡ c)
-  unfolding seen renamed after
+  firsts-old : payload c < k → (seen (firsts k) c ≡ firsts (metAfter k c)) × (renamed (seen (firsts k) c) c ≡ c)
+  unfolding seen renamed metAfter
   firsts-old h =
       let r : rank (firsts k) c ≡ payload c = ap (rank (firsts k)) is-tag ∙ firsts-rank-in k (payload c) h in
       let l : leb (length (firsts k)) (rank (firsts k) c) ≡ false = lt-leb (length (firsts k)) (rank (firsts k) c) (omega (arith, firsts-length k)) in
@@ -101,8 +101,8 @@ module _ (k c : ℕ) (v : variable c ≡ true) where
       rw (v, l, n) (refl, ap (tag 1) r ∙ sym is-tag)
 
   -- the next variable
-  firsts-next : payload c ≡ k → (seen (firsts k) c ≡ firsts (after k c)) × (renamed (seen (firsts k) c) c ≡ c)
-  unfolding seen renamed after firsts
+  firsts-next : payload c ≡ k → (seen (firsts k) c ≡ firsts (metAfter k c)) × (renamed (seen (firsts k) c) c ≡ c)
+  unfolding seen renamed metAfter firsts
   firsts-next h =
       let t : c ≡ tag 1 k = is-tag ∙ ap (tag 1) h in
       let r : rank (firsts k) c ≡ k = ap (rank (firsts k)) t ∙ firsts-rank-out k k (omega arith) in
@@ -111,10 +111,10 @@ module _ (k c : ℕ) (v : variable c ≡ true) where
       let q : rank (firsts k ++ (c ∷ [])) c ≡ k = rank-last (firsts k) c c (r ∙ sym (firsts-length k)) ∙ rw (eq-eqb c c refl) (firsts-length k) in
       rw (v, l, n, add-one) (ap (λ (x : ℕ). firsts k ++ (x ∷ [])) t, ap (tag 1) q ∙ sym t)
 
-  firsts-met : payload c ≤ k → (seen (firsts k) c ≡ firsts (after k c)) × (renamed (seen (firsts k) c) c ≡ c)
+  firsts-met : payload c ≤ k → (seen (firsts k) c ≡ firsts (metAfter k c)) × (renamed (seen (firsts k) c) c ≡ c)
   firsts-met h = go (leb k (payload c)) refl
     where
-      go : (b : Bool) → leb k (payload c) ≡ b → (seen (firsts k) c ≡ firsts (after k c)) × (renamed (seen (firsts k) c) c ≡ c)
+      go : (b : Bool) → leb k (payload c) ≡ b → (seen (firsts k) c ≡ firsts (metAfter k c)) × (renamed (seen (firsts k) c) c ≡ c)
       go true q = firsts-next (omega (arith, leb-true k (payload c) q))
       go false q = firsts-old (leb-false k (payload c) q)
 
@@ -133,47 +133,47 @@ ordered-same [] k = refl
 ordered-same (c ∷ cs) k = go (variable c) refl (λ n. ordered-same cs n)
   where
     met-case : variable c ≡ true → (b : Bool) → leb (payload c) k ≡ b → ((n : ℕ) → same cs (numberedFrom (firsts n) cs) ≡ ordered n cs)
-        → pick (eqb c (renamed (seen (firsts k) c) c)) (same cs (numberedFrom (seen (firsts k) c) cs)) false ≡ pick b (ordered (after k c) cs) false
+        → pick (eqb c (renamed (seen (firsts k) c) c)) (same cs (numberedFrom (seen (firsts k) c) cs)) false ≡ pick b (ordered (metAfter k c) cs) false
     met-case v true q f =
         let w = firsts-met k c v (leb-true (payload c) k q) in
-        rw (w .1, w .0, eq-eqb c c refl) (f (after k c))
+        rw (w .1, w .0, eq-eqb c c refl) (f (metAfter k c))
     met-case v false q f = rw (firsts-unordered k c v (leb-false (payload c) k q))
 
     other-case : variable c ≡ false → ((n : ℕ) → same cs (numberedFrom (firsts n) cs) ≡ ordered n cs)
-        → pick (eqb c (renamed (seen (firsts k) c) c)) (same cs (numberedFrom (seen (firsts k) c) cs)) false ≡ ordered (after k c) cs
-    other-case v f = unfold renamed seen after in rw (v, eq-eqb c c refl) (f k)
+        → pick (eqb c (renamed (seen (firsts k) c) c)) (same cs (numberedFrom (seen (firsts k) c) cs)) false ≡ ordered (metAfter k c) cs
+    other-case v f = unfold renamed seen metAfter in rw (v, eq-eqb c c refl) (f k)
 
     go : (b : Bool) → variable c ≡ b → ((n : ℕ) → same cs (numberedFrom (firsts n) cs) ≡ ordered n cs)
-        → pick (eqb c (renamed (seen (firsts k) c) c)) (same cs (numberedFrom (seen (firsts k) c) cs)) false ≡ pick (pick b (leb (payload c) k) true) (ordered (after k c) cs) false
+        → pick (eqb c (renamed (seen (firsts k) c) c)) (same cs (numberedFrom (seen (firsts k) c) cs)) false ≡ pick (pick b (leb (payload c) k) true) (ordered (metAfter k c) cs) false
     go true v f = met-case v (leb (payload c) k) refl f
     go false v f = other-case v f
 
-ordered-met : (cs : List ℕ) (k : ℕ) → ordered k cs ≡ true → met (firsts k) cs ≡ firsts (counted k cs)
-unfolding met ordered inOrder counted
+ordered-met : (cs : List ℕ) (k : ℕ) → ordered k cs ≡ true → met (firsts k) cs ≡ firsts (metIn k cs)
+unfolding met ordered inOrder metIn
 ordered-met [] k h = refl
 ordered-met (c ∷ cs) k h = go (variable c) refl h (λ n g. ordered-met cs n g)
   where
-    met-case : variable c ≡ true → (b : Bool) → leb (payload c) k ≡ b → pick b (ordered (after k c) cs) false ≡ true → ((n : ℕ) → ordered n cs ≡ true → met (firsts n) cs ≡ firsts (counted n cs))
-        → met (seen (firsts k) c) cs ≡ firsts (counted (after k c) cs)
-    met-case v true q g f = let w = firsts-met k c v (leb-true (payload c) k q) in rw (w .0) (f (after k c) g)
+    met-case : variable c ≡ true → (b : Bool) → leb (payload c) k ≡ b → pick b (ordered (metAfter k c) cs) false ≡ true → ((n : ℕ) → ordered n cs ≡ true → met (firsts n) cs ≡ firsts (metIn n cs))
+        → met (seen (firsts k) c) cs ≡ firsts (metIn (metAfter k c) cs)
+    met-case v true q g f = let w = firsts-met k c v (leb-true (payload c) k q) in rw (w .0) (f (metAfter k c) g)
     met-case v false q g f = let z : _≡_ {A = ℕ} 0 1 = cc in absurd (omega arith)
 
-    other-case : variable c ≡ false → ordered (after k c) cs ≡ true → ((n : ℕ) → ordered n cs ≡ true → met (firsts n) cs ≡ firsts (counted n cs))
-        → met (seen (firsts k) c) cs ≡ firsts (counted (after k c) cs)
+    other-case : variable c ≡ false → ordered (metAfter k c) cs ≡ true → ((n : ℕ) → ordered n cs ≡ true → met (firsts n) cs ≡ firsts (metIn n cs))
+        → met (seen (firsts k) c) cs ≡ firsts (metIn (metAfter k c) cs)
     other-case v g f =
         let e : seen (firsts k) c ≡ firsts k = unfold seen in rw v in
-        let a : after k c ≡ k = unfold after in rw v in
+        let a : metAfter k c ≡ k = unfold metAfter in rw v in
         rw (e, a) (f k (rw a at g))
 
-    go : (b : Bool) → variable c ≡ b → pick (pick b (leb (payload c) k) true) (ordered (after k c) cs) false ≡ true → ((n : ℕ) → ordered n cs ≡ true → met (firsts n) cs ≡ firsts (counted n cs))
-        → met (seen (firsts k) c) cs ≡ firsts (counted (after k c) cs)
+    go : (b : Bool) → variable c ≡ b → pick (pick b (leb (payload c) k) true) (ordered (metAfter k c) cs) false ≡ true → ((n : ℕ) → ordered n cs ≡ true → met (firsts n) cs ≡ firsts (metIn n cs))
+        → met (seen (firsts k) c) cs ≡ firsts (metIn (metAfter k c) cs)
     go true v g f = met-case v (leb (payload c) k) refl g f
     go false v g f = other-case v g f
 
-pub ordered-numbered : (cs : List ℕ) → ordered 0 cs ≡ true → (cs ≡ numbered cs) × (counted 0 cs ≡ length (met [] cs))
+pub ordered-numbered : (cs : List ℕ) → ordered 0 cs ≡ true → (cs ≡ numbered cs) × (metIn 0 cs ≡ length (met [] cs))
 unfolding firsts
 ordered-numbered cs h =
-    (same-true cs (numbered cs) (rw (numbered-whole cs) (ordered-same cs 0 ∙ h)), sym (ap length (ordered-met cs 0 h) ∙ firsts-length (counted 0 cs)))
+    (same-true cs (numbered cs) (rw (numbered-whole cs) (ordered-same cs 0 ∙ h)), sym (ap length (ordered-met cs 0 h) ∙ firsts-length (metIn 0 cs)))
 
 pub unordered-numbered : (cs : List ℕ) → ordered 0 cs ≡ false → cs ≡ numbered cs → ⊥
 unfolding firsts
@@ -261,7 +261,7 @@ module _ (arity : ℕ → ℕ) (m : ℕ) (s : List ℕ) where
       in-order = rw the-form (v .3 .numbers)
 
       pub variables : known ≡ length (met [] s)
-      variables = v .3 .known ∙ ap (counted 0) (sym the-form) ∙ ordered-numbered s in-order .1
+      variables = v .3 .known ∙ ap (metIn 0) (sym the-form) ∙ ordered-numbered s in-order .1
 
       pub loading-crowded : 32 < known → NoForm ≡ loading arity m s
       loading-crowded h = none (λ p. omega (arith, p .variables, variables))

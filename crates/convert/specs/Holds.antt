@@ -48,12 +48,12 @@ abbrev pub loadingOf : Loaded → Loading
 loadingOf (Counted n v) = Terms n
 loadingOf Nothing = NoForm
 
-abbrev pub Counts : List ℕ → Loaded → Type 0
-Counts form (Counted n v) = v ≡ length (met [] form)
-Counts form Nothing = Unit {0}
+abbrev pub CountsVariables : List ℕ → Loaded → Type 0
+CountsVariables form (Counted n v) = v ≡ length (met [] form)
+CountsVariables form Nothing = Unit {0}
 
 abbrev pub LoadsCounted : (e m : ℕ) (form buffer : List ℕ) → Loaded → Type 0
-LoadsCounted e m form buffer r = Loads e m form buffer (loadingOf r) × Counts form r
+LoadsCounted e m form buffer r = Loads e m form buffer (loadingOf r) × CountsVariables form r
 
 -- ---- converting
 

@@ -26,49 +26,49 @@ use Rattle.forms.proofs.ReadLaws.{WellFormed, AllWellFormed, applied-short, app
 use Rattle.forms.proofs.DueLaws.{due-after}
 use Rattle.forms.proofs.CompactLaws.{items-compact, Good, collected-good, forms}
 use Rattle.forms.proofs.FormLaws.{pairs-size, every-pairs-least}
-use Rattle.form_reader.specs.Loading.{inOrder, after, ordered, counted, itemsAt, Span, Unfit, FormsRan, Rest, NoRest, RestRan}
+use Rattle.form_reader.specs.Loading.{inOrder, metAfter, ordered, metIn, itemsAt, Span, Unfit, FormsRan, Rest, NoRest, RestRan}
 use Rattle.basis.proofs.SetsLaws.{sets-append}
 
 -- ---- variables in order
 
-pub ordered-append : (xs ys : List ℕ) (k : ℕ) → ordered k xs ≡ true → ordered k (xs ++ ys) ≡ ordered (counted k xs) ys
-unfolding ordered counted
+pub ordered-append : (xs ys : List ℕ) (k : ℕ) → ordered k xs ≡ true → ordered k (xs ++ ys) ≡ ordered (metIn k xs) ys
+unfolding ordered metIn
 ordered-append [] ys k h = refl
-ordered-append (x ∷ xs) ys k h = go (inOrder k x) h (λ q. ordered-append xs ys (after k x) q)
+ordered-append (x ∷ xs) ys k h = go (inOrder k x) h (λ q. ordered-append xs ys (metAfter k x) q)
   where
-    go : (b : Bool) → pick b (ordered (after k x) xs) false ≡ true → (ordered (after k x) xs ≡ true → ordered (after k x) (xs ++ ys) ≡ ordered (counted (after k x) xs) ys)
-        → pick b (ordered (after k x) (xs ++ ys)) false ≡ ordered (counted (after k x) xs) ys
+    go : (b : Bool) → pick b (ordered (metAfter k x) xs) false ≡ true → (ordered (metAfter k x) xs ≡ true → ordered (metAfter k x) (xs ++ ys) ≡ ordered (metIn (metAfter k x) xs) ys)
+        → pick b (ordered (metAfter k x) (xs ++ ys)) false ≡ ordered (metIn (metAfter k x) xs) ys
     go true q f = f q
     go false q f = let z : _≡_ {A = ℕ} 0 1 = cc in absurd (omega arith)
 
-pub counted-append : (xs ys : List ℕ) (k : ℕ) → counted k (xs ++ ys) ≡ counted (counted k xs) ys
-unfolding counted
-counted-append [] ys k = refl
-counted-append (x ∷ xs) ys k = counted-append xs ys (after k x)
+pub met-in-append : (xs ys : List ℕ) (k : ℕ) → metIn k (xs ++ ys) ≡ metIn (metIn k xs) ys
+unfolding metIn
+met-in-append [] ys k = refl
+met-in-append (x ∷ xs) ys k = met-in-append xs ys (metAfter k x)
 
 -- a variable in order, and a cell that is no variable
 pub ordered-variable : (k c : ℕ) → variable c ≡ true → payload c ≤ k → ordered k (c ∷ []) ≡ true
 unfolding ordered inOrder
 ordered-variable k c e h = rw (e, le-leb (payload c) k h)
 
-pub ordered-cell : (k c : ℕ) → variable c ≡ false → (ordered k (c ∷ []) ≡ true) × (after k c ≡ k)
-unfolding ordered inOrder after
+pub ordered-cell : (k c : ℕ) → variable c ≡ false → (ordered k (c ∷ []) ≡ true) × (metAfter k c ≡ k)
+unfolding ordered inOrder metAfter
 ordered-cell k c e = (rw e, rw e)
 
 -- at most one variable more is met
-pub after-most : (k c : ℕ) → after k c ≤ k + 1
-unfolding after
-after-most k c = go (variable c) (eqb (payload c) k)
+pub met-after-most : (k c : ℕ) → metAfter k c ≤ k + 1
+unfolding metAfter
+met-after-most k c = go (variable c) (eqb (payload c) k)
   where
     go : (b d : Bool) → pick b (pick d (k + 1) k) k ≤ k + 1
     go true true = omega arith
     go true false = omega arith
     go false d = omega arith
 
-pub counted-most : (xs : List ℕ) (k : ℕ) → counted k xs ≤ k + length xs
-unfolding counted
-counted-most [] k = omega arith
-counted-most (x ∷ xs) k = omega (arith, counted-most xs (after k x), after-most k x)
+pub met-in-most : (xs : List ℕ) (k : ℕ) → metIn k xs ≤ k + length xs
+unfolding metIn
+met-in-most [] k = omega arith
+met-in-most (x ∷ xs) k = omega (arith, met-in-most xs (metAfter k x), met-after-most k x)
 
 -- ---- terms and items
 
@@ -347,18 +347,18 @@ module _ (s : List ℕ) where
 
   -- nothing is read, and one cell written
   span-write : (at count : ℕ) (out : List ℕ) (to p : ℕ) → Span s at [] count out to (p ∷ []) (set out to p) at (to + 1) count
-  unfolding ordered counted
+  unfolding ordered metIn
   span-write at count out to p = record { cells = refl; next-at = omega arith; end-at = omega arith; wrote = refl; numbers = refl; known = refl }
 
   -- a mark is read, and nothing written
   span-mark : (at count : ℕ) (out : List ℕ) (to c : ℕ) → at < length s → getD s at 0 ≡ c → variable c ≡ false → Span s at (c ∷ []) count out to [] out (at + 1) to count
-  unfolding counted
+  unfolding metIn
   span-mark at count out to c h e v =
       record { cells = rw e at (cells-cons at h); next-at = omega arith; end-at = omega arith; wrote = refl; numbers = ordered-cell count c v .0; known = sym (ordered-cell count c v .1) }
 
   -- a symbol is read and written
-  span-symbol : (at count : ℕ) (out : List ℕ) (to : ℕ) → at < length s → ordered count (getD s at 0 ∷ []) ≡ true → Span s at (getD s at 0 ∷ []) count out to (getD s at 0 ∷ []) (set out to (getD s at 0)) (at + 1) (to + 1) (after count (getD s at 0))
-  unfolding counted
+  span-symbol : (at count : ℕ) (out : List ℕ) (to : ℕ) → at < length s → ordered count (getD s at 0 ∷ []) ≡ true → Span s at (getD s at 0 ∷ []) count out to (getD s at 0 ∷ []) (set out to (getD s at 0)) (at + 1) (to + 1) (metAfter count (getD s at 0))
+  unfolding metIn
   span-symbol at count out to h o = record { cells = cells-cons at h; next-at = omega arith; end-at = omega arith; wrote = refl; numbers = o; known = refl }
 
   -- one span behind another
@@ -371,7 +371,7 @@ module _ (s : List ℕ) where
         end-at = simp length-append (omega (arith, v .end-at, w .end-at));
         wrote = w .wrote ∙ rw (v .wrote, v .end-at, sets-append p q out to);
         numbers = ordered-append f g count (v .numbers) ∙ rw (v .known) at (w .numbers);
-        known = w .known ∙ rw (v .known, counted-append f g count);
+        known = w .known ∙ rw (v .known, met-in-append f g count);
       }
 
   -- variables out of order behind a span
@@ -395,7 +395,7 @@ module _ (arity : ℕ → ℕ) (s : List ℕ) (limit : ℕ) where
   items-end at h = rw (drop-of-length-le s {i = at} h)
 
   pub forms-none : (at n count : ℕ) (out : List ℕ) (to : ℕ) → n ≡ 0 → to ≤ limit → FormsRan arity s limit at n count out to out (Done at to count)
-  unfolding every ordered counted
+  unfolding every ordered metIn
   forms-none at n count out to e l =
       ([], tt, sym e, record { cells = refl; next-at = omega arith; end-at = omega arith; wrote = refl; numbers = refl; known = refl }, l)
 
@@ -435,19 +435,19 @@ module _ (arity : ℕ → ℕ) (s : List ℕ) (limit : ℕ) where
     to-begun e = let m : Marks (shapeOf arity) (tokenOf arity) = marks arity in rw (items-cons at h, e, m .begins)
 
     -- a symbol whose number is in order, and its arguments
-    pub forms-symbol : (k due count₁ : ℕ) (r : Step) → shapeOf arity (getD s at 0) ≡ Symbol k → due ≡ dueAfter n k → ordered count (getD s at 0 ∷ []) ≡ true → count₁ ≡ after count (getD s at 0)
+    pub forms-symbol : (k due count₁ : ℕ) (r : Step) → shapeOf arity (getD s at 0) ≡ Symbol k → due ≡ dueAfter n k → ordered count (getD s at 0 ∷ []) ≡ true → count₁ ≡ metAfter count (getD s at 0)
         → FormsRan arity s limit (at + 1) due count₁ (set out to (getD s at 0)) (to + 1) out′ r → FormsRan arity s limit at n count out to out′ r
     unfolding pairs compact
     forms-symbol k due count₁ (Done next end count′) e d o q w =
         let c : ℕ = getD s at 0 in
         let ts : List Term = w .0 in
         let l : k ≤ length ts = omega (arith, w .2) in
-        let v : Span s (at + 1) (every compact ts) (after count c) (set out to c) (to + 1) (every pairs ts) out′ next end count′ = rw q at (w .3) in (
+        let v : Span s (at + 1) (every compact ts) (metAfter count c) (set out to c) (to + 1) (every pairs ts) out′ next end count′ = rw q at (w .3) in (
           applied k (cell c) ts,
           applied-well-formed (shapeOf arity) k (cell c) ts e (w .1),
           omega (arith, w .2, applied-length k (cell c) ts l),
           rw (applied-whole compact compact-joins k (cell c) ts l, applied-whole pairs pairs-joins k (cell c) ts l)
-              (span-append s at (c ∷ []) count out to (c ∷ []) (set out to c) (at + 1) (to + 1) (after count c) (every compact ts) (every pairs ts) out′ next end count′ (span-symbol s at count out to h o) v),
+              (span-append s at (c ∷ []) count out to (c ∷ []) (set out to c) (at + 1) (to + 1) (metAfter count c) (every compact ts) (every pairs ts) out′ next end count′ (span-symbol s at count out to h o) v),
           w .4,
         )
     forms-symbol k due count₁ Malformed e d o q (inl w) =
@@ -458,7 +458,7 @@ module _ (arity : ℕ → ℕ) (s : List ℕ) (limit : ℕ) where
         let q₁ : front (itemsAt arity s at) ≡ applied k (cell c) ts = ap front (to-filled k e) ∙ front-filled k (cell c) (itemsAt arity s (at + 1)) in
         inl (subst (λ (l : List Term). Unfit limit to n l) (sym q₁) w₂)
     forms-symbol k due count₁ Malformed e d o q (inr w) =
-        inr (span-unordered s at (getD s at 0 ∷ []) count out to (getD s at 0 ∷ []) (set out to (getD s at 0)) (at + 1) (to + 1) (after count (getD s at 0)) (span-symbol s at count out to h o) (rw q at w))
+        inr (span-unordered s at (getD s at 0 ∷ []) count out to (getD s at 0 ∷ []) (set out to (getD s at 0)) (at + 1) (to + 1) (metAfter count (getD s at 0)) (span-symbol s at count out to h o) (rw q at w))
 
     begin-short : (out₁ : List ℕ) → getD s at 0 ≡ BLIST → RestRan arity s (limit - (n - 1)) (at + 1) false count out to out₁ Malformed → FormsRan arity s limit at n count out to out′ Malformed
     begin-short out₁ e (inl w) =
@@ -653,13 +653,13 @@ module _ (arity : ℕ → ℕ) (s : List ℕ) (limit : ℕ) where
   unfolding One
   forms-room at count out to out₁ next end count₁ v h =
       let w = one limit at count out to out₁ next end count₁ v in
-      omega (arith, v .4, pairs-size (w .0), w .2 .next-at, w .2 .known, counted-most (compact (w .0)) count, span-within s at (compact (w .0)) count out to (pairs (w .0)) out₁ next end count₁ (w .2) h)
+      omega (arith, v .4, pairs-size (w .0), w .2 .next-at, w .2 .known, met-in-most (compact (w .0)) count, span-within s at (compact (w .0)) count out to (pairs (w .0)) out₁ next end count₁ (w .2) h)
 
   -- what a list leaves
   pub rest-room : (at count : ℕ) (out : List ℕ) (to : ℕ) (out₁ : List ℕ) (next end count₁ : ℕ) → RestRan arity s limit at false count out to out₁ (Done next end count₁) → at ≤ length s
       → (end ≤ limit) × (at ≤ next) × (next ≤ length s) × (count₁ + at ≤ count + next)
   rest-room at count out to out₁ next end count₁ v h =
-      omega (arith, v .5, v .4 .next-at, v .4 .known, counted-most (v .2) count, span-within s at (v .2) count out to (pairs (v .0)) out₁ next end count₁ (v .4) h)
+      omega (arith, v .5, v .4 .next-at, v .4 .known, met-in-most (v .2) count, span-within s at (v .2) count out to (pairs (v .0)) out₁ next end count₁ (v .4) h)
 
   -- ---- a constant
 

@@ -23,16 +23,16 @@ unfoldable pub inOrder : ℕ → ℕ → Bool
 inOrder k c = pick (variable c) (leb (payload c) k) true
 
 -- how many are met then
-unfoldable pub after : ℕ → ℕ → ℕ
-after k c = pick (variable c) (pick (eqb (payload c) k) (k + 1) k) k
+unfoldable pub metAfter : ℕ → ℕ → ℕ
+metAfter k c = pick (variable c) (pick (eqb (payload c) k) (k + 1) k) k
 
 unfoldable pub ordered : ℕ → List ℕ → Bool
 ordered k [] = true
-ordered k (c ∷ cs) = pick (inOrder k c) (ordered (after k c) cs) false
+ordered k (c ∷ cs) = pick (inOrder k c) (ordered (metAfter k c) cs) false
 
-unfoldable pub counted : ℕ → List ℕ → ℕ
-counted k [] = k
-counted k (c ∷ cs) = counted (after k c) cs
+unfoldable pub metIn : ℕ → List ℕ → ℕ
+metIn k [] = k
+metIn k (c ∷ cs) = metIn (metAfter k c) cs
 
 -- ---- what was read
 
@@ -48,7 +48,7 @@ pub record Span (s : List ℕ) (at : ℕ) (form : List ℕ) (count : ℕ) (out :
   pub end-at : end ≡ to + length pair-cells
   pub wrote : out′ ≡ sets out to pair-cells
   pub numbers : ordered count form ≡ true
-  pub known : count′ ≡ counted count form
+  pub known : count′ ≡ metIn count form
 
 -- the first n of the terms do not fit: there are fewer, or their pair forms, written from place to on, pass the limit
 abbrev pub Unfit : (limit to n : ℕ) → List Term → Type 0

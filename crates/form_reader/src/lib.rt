@@ -7,12 +7,12 @@ ghost use mathlib.Core.Bool.{false, true};
 ghost use mathlib.Core.Path.{_≡_};
 ghost use Prim.Native.Nat.{_+_, _^_, _<_};
 ghost use Rattle.basis.specs.Moments.{old, new};
-ghost use Rattle.form_reader.specs.Loading.{after, FormRoom, AtTail, ReadsForms, ReadsRest};
+ghost use Rattle.form_reader.specs.Loading.{metAfter, FormRoom, AtTail, ReadsForms, ReadsRest};
 
 // How many variables are met after token c of a numbered form, where `count` were met before it.
 fn met_after(c: u32, count: usize) -> usize
     requires { ⌜ count + 1 < 2 ^ 64 ⌝ }
-    ensures { λ n. ⌜ n ≡ after count c ⌝ }
+    ensures { λ n. ⌜ n ≡ metAfter count c ⌝ }
 {
     if forms::is_variable(c) {
         if forms::payload_of(c) == count {

@@ -13,7 +13,7 @@ use Rattle.trie.specs.Siblings.{Trie}
 use Rattle.trie.specs.Index.{powerOfTwo, entering, builtIndex, roomy}
 use Rattle.store.specs.Contracts.{viewIn}
 use Rattle.store.specs.Building.{nodesFit, buildOn, buildUnder, buildIndex}
-use Rattle.indexing.specs.Parts.{Leaves, Builds, triesIn}
+use Rattle.indexing.specs.Parts.{BuildLeaves, Builds, triesIn}
 use Rattle.indexing.specs.declared.BuildAnswer.{BuildAnswer}
 use Rattle.indexing.specs.declared.BuildAnswer.the-variants as said
 
@@ -21,7 +21,7 @@ use Rattle.indexing.specs.declared.BuildAnswer.the-variants as said
 
 module _ (t : Trie) (before : List ℕ) where
   abbrev Result : BuildAnswer → List ℕ → Type 0
-  Result r after = Leaves (buildOn t before) r after
+  Result r after = BuildLeaves (buildOn t before) r after
 
   pub slots-odd : powerOfTwo (length before) ≡ false → Result (said.Refused 17) before
   unfolding buildOn roomy
@@ -41,12 +41,12 @@ module _ (t : Trie) (before : List ℕ) where
 
 module _ (cs before : List ℕ) where
   module _ (h : Head) where
-    pub nodes-unfit : nodesFit (viewIn cs h) (h .nodes) ≡ false → Leaves (buildUnder cs before (header.Sound h)) (said.Refused 9) before
+    pub nodes-unfit : nodesFit (viewIn cs h) (h .nodes) ≡ false → BuildLeaves (buildUnder cs before (header.Sound h)) (said.Refused 9) before
     unfolding buildUnder
     nodes-unfit e = rw e (refl, refl)
 
     pub nodes-fitting : nodesFit (viewIn cs h) (h .nodes) ≡ true → (r : BuildAnswer) (after : List ℕ)
-        → Leaves (buildOn (triesIn cs h) before) r after → Leaves (buildUnder cs before (header.Sound h)) r after
+        → BuildLeaves (buildOn (triesIn cs h) before) r after → BuildLeaves (buildUnder cs before (header.Sound h)) r after
     unfolding buildUnder
     nodes-fitting e r after d = rw e d
 
@@ -55,6 +55,6 @@ module _ (cs before : List ℕ) where
   header-refused r e = rw (← e) (refl, refl)
 
   pub header-sound : (h : Head) → header.Sound h ≡ spaceHeader cs → (r : BuildAnswer) (after : List ℕ)
-      → Leaves (buildUnder cs before (header.Sound h)) r after → Builds cs before r after
+      → BuildLeaves (buildUnder cs before (header.Sound h)) r after → Builds cs before r after
   unfolding buildIndex
   header-sound h e r after d = rw (← e) d

@@ -15,7 +15,7 @@ use Rattle.basis.proofs.Cases.{by-cases}
 use Rattle.space.specs.declared.Node.{Node}
 use Rattle.trie.specs.Siblings.{Trie}
 use Rattle.trie.specs.Index.{slotOf, slotAfter, enters, entering, insertFrom, insert, insertAll, emptyIndex, builtIndex}
-use Rattle.indexing.specs.Parts.{entered}
+use Rattle.indexing.specs.Parts.{lookedAt}
 use Rattle.indexing.proofs.EnterCases.{entering-step}
 
 -- ---- free slots
@@ -113,8 +113,8 @@ module _ (t : Trie) where
       all-more index x (xs ++ ys) ∙ all-append xs ys (insert t index x)
       ∙ ap (λ (l : List ℕ). insertAll t l ys) (sym (all-more index x xs))
 
-  one-entered : (index : List ℕ) (n : ℕ) → insertAll t index (pick (enters t n) (n ∷ []) []) ≡ entered t index n
-  unfolding entered
+  one-entered : (index : List ℕ) (n : ℕ) → insertAll t index (pick (enters t n) (n ∷ []) []) ≡ lookedAt t index n
+  unfolding lookedAt
   one-entered index n = by-cases (enters t n)
       (λ e. rw e (all-more index n [] ∙ all-none (insert t index n)))
       (λ e. rw e (all-none index))
@@ -127,7 +127,7 @@ module _ (t : Trie) where
   unfolding entering
   entered-begin before = sym (all-none before)
 
-  pub entered-on : (before index after : List ℕ) (n : ℕ) → Entered before n index → after ≡ entered t index n → Entered before (n + 1) after
+  pub entered-on : (before index after : List ℕ) (n : ℕ) → Entered before n index → after ≡ lookedAt t index n → Entered before (n + 1) after
   entered-on before index after n p e =
       e ∙ rw (p, add-one)
       (sym (ap (insertAll t before) (entering-step t n) ∙ all-append (entering t n) (pick (enters t n) (n ∷ []) []) before
@@ -136,21 +136,21 @@ module _ (t : Trie) where
   pub entered-ended : (before index : List ℕ) (n m : ℕ) → n ≤ m → m ≤ n → Entered before n index → Entered before m index
   entered-ended before index n m l k p = let z : m ≡ n = omega arith in p ∙ ap (λ (i : ℕ). insertAll t before (entering t i)) (sym z)
 
-  pub entered-length : (index after : List ℕ) (n : ℕ) → after ≡ entered t index n → length after ≡ length index
-  unfolding entered
+  pub entered-length : (index after : List ℕ) (n : ℕ) → after ≡ lookedAt t index n → length after ≡ length index
+  unfolding lookedAt
   entered-length index after n e =
       ap length e ∙ by-cases (enters t n)
       (λ k. rw k (insert-length index 0 n (length index) (slotOf (length index) (t .at n .parent) (t .at n .token))))
       (λ k. rw k)
 
   module _ (index : List ℕ) (n : ℕ) where
-    pub enter-none : enters t n ≡ false → index ≡ entered t index n
-    unfolding entered
+    pub enter-none : enters t n ≡ false → index ≡ lookedAt t index n
+    unfolding lookedAt
     enter-none e = rw e
 
     pub enter-one : enters t n ≡ true → (y : Node) → y ≡ t .at n → (slot : ℕ) → slot ≡ slotOf (length index) (y .parent) (y .token)
-        → (after : List ℕ) → after ≡ insertFrom (length index) index slot n → after ≡ entered t index n
-    unfolding entered
+        → (after : List ℕ) → after ≡ insertFrom (length index) index slot n → after ≡ lookedAt t index n
+    unfolding lookedAt
     enter-one e y f slot g after k = k ∙ rw (e, g, f)
 
   -- filled only where half of the slots stay free

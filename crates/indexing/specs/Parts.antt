@@ -25,8 +25,8 @@ saidBuild (said.Built n) = built n
 saidBuild (said.Refused r) = refused r
 
 -- the build b is answered by r, and leaves the index `after`
-abbrev pub Leaves : Build → BuildAnswer → List ℕ → Type 0
-Leaves b r after = (saidBuild r ≡ b .reply) × (after ≡ b .index)
+abbrev pub BuildLeaves : Build → BuildAnswer → List ℕ → Type 0
+BuildLeaves b r after = (saidBuild r ≡ b .reply) × (after ≡ b .index)
 
 -- the same of the build on the cells of a space
 abbrev pub Builds : List ℕ → List ℕ → BuildAnswer → List ℕ → Type 0
@@ -45,8 +45,8 @@ linkFits v n link = leb link (linksOf v n)
 -- ---- the entries
 
 -- the index once node n was looked at
-unfoldable pub entered : Trie → List ℕ → ℕ → List ℕ
-entered t index n = pick (enters t n) (insert t index n) index
+unfoldable pub lookedAt : Trie → List ℕ → ℕ → List ℕ
+lookedAt t index n = pick (enters t n) (insert t index n) index
 
 -- ---- under a head
 
@@ -72,12 +72,12 @@ module _ (cs : List ℕ) (h : Head) where
   EnteringCounted count = (count ≡ length (entering triesIn (h .nodes))) × (count ≤ h .nodes)
 
   -- they were entered
-  abbrev pub EntersAll : List ℕ → List ℕ → Type 0
-  EntersAll before after = after ≡ insertAll triesIn before (entering triesIn (h .nodes))
+  abbrev pub EntersChildren : List ℕ → List ℕ → Type 0
+  EntersChildren before after = after ≡ insertAll triesIn before (entering triesIn (h .nodes))
 
   -- the index was built if half of its slots stay free with so many entries, which is r, and else left as it was
-  abbrev pub Fills : ℕ → List ℕ → Bool → List ℕ → Type 0
-  Fills count before r after =
+  abbrev pub FillsIndex : ℕ → List ℕ → Bool → List ℕ → Type 0
+  FillsIndex count before r after =
       (r ≡ leb (2 * count) (length before)) × (after ≡ pick r (builtIndex triesIn (length before)) before)
 
 -- a number of slots that an entry may be looked for in

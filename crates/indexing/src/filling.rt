@@ -10,7 +10,7 @@ ghost use Prim.Native.Nat.{_<_};
 ghost use lib.ListN.{length};
 ghost use Rattle.basis.specs.Moments.{old, new};
 ghost use Rattle.trie.specs.Index.{insertFrom, emptyIndex};
-ghost use Rattle.indexing.specs.Parts.{entered, triesIn, AmongFit, EntersAll, Fills, Slots, Insertable};
+ghost use Rattle.indexing.specs.Parts.{lookedAt, triesIn, AmongFit, EntersChildren, FillsIndex, Slots, Insertable};
 
 // Every slot free.
 fn clear(index: &mut [u32])
@@ -44,7 +44,7 @@ fn insert(index: &mut [u32], first: usize, n: u32)
 // Node n, if it enters.
 fn enter(space: &[u32], h: Head, index: &mut [u32], n: usize)
     requires { ⌜ AmongFit (now space) h n × Slots (length (now index)) ⌝ }
-    ensures { λ _. ⌜ new index ≡ entered (triesIn (old space) h) (old index) n ⌝ }
+    ensures { λ _. ⌜ new index ≡ lookedAt (triesIn (old space) h) (old index) n ⌝ }
 {
     if enters(space, h, n) {
         let y = node_in(space, h.nodes, n);
@@ -56,7 +56,7 @@ fn enter(space: &[u32], h: Head, index: &mut [u32], n: usize)
 // All that enter.
 fn enter_all(space: &[u32], h: Head, index: &mut [u32])
     requires { ⌜ Insertable (now space) h (now index) ⌝ }
-    ensures { λ _. ⌜ EntersAll (old space) h (old index) (new index) ⌝ }
+    ensures { λ _. ⌜ EntersChildren (old space) h (old index) (new index) ⌝ }
 {
     let mut n = 0;
     while n < h.nodes {
@@ -68,7 +68,7 @@ fn enter_all(space: &[u32], h: Head, index: &mut [u32])
 // The index, whatever it held; but only if half of its slots stay free once `count` children are entered.
 pub fn fill(space: &[u32], h: Head, index: &mut [u32], count: usize) -> bool
     requires { ⌜ Insertable (now space) h (now index) ⌝ }
-    ensures { λ r. ⌜ Fills (old space) h count (old index) r (new index) ⌝ }
+    ensures { λ r. ⌜ FillsIndex (old space) h count (old index) r (new index) ⌝ }
 {
     let roomy = count <= index.len() / 2;
     if roomy {

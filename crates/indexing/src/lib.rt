@@ -17,7 +17,7 @@ ghost use Rattle.basis.specs.Moments.{old, new};
 ghost use Rattle.space.specs.Sound.{Bounds};
 ghost use Rattle.space.specs.declared.Header.the-variants as header;
 ghost use Rattle.store.specs.Building.{buildOn, buildUnder};
-ghost use Rattle.indexing.specs.Parts.{Leaves, Builds, triesIn, AllFit};
+ghost use Rattle.indexing.specs.Parts.{BuildLeaves, Builds, triesIn, AllFit};
 
 // The children entered; or the number of the refusal, and the index is as it was.
 pub enum BuildAnswer {
@@ -28,7 +28,7 @@ pub enum BuildAnswer {
 // Where all nodes fit: the slots must be a power of two, and half of them stay free.
 fn build_on(space: &[u32], h: Head, index: &mut [u32]) -> BuildAnswer
     requires { ⌜ AllFit (now space) h ⌝ }
-    ensures { λ r. ⌜ Leaves (buildOn (triesIn (old space) h) (old index)) r (new index) ⌝ }
+    ensures { λ r. ⌜ BuildLeaves (buildOn (triesIn (old space) h) (old index)) r (new index) ⌝ }
 {
     if is_power_of_two(index.len()) {
         let count = count_entering(space, h);
@@ -42,7 +42,7 @@ fn build_on(space: &[u32], h: Head, index: &mut [u32]) -> BuildAnswer
 // Under a sound header.
 fn build_in(space: &[u32], h: Head, index: &mut [u32]) -> BuildAnswer
     requires { ⌜ Bounds (now space) h ⌝ }
-    ensures { λ r. ⌜ Leaves (buildUnder (old space) (old index) (header.Sound h)) r (new index) ⌝ }
+    ensures { λ r. ⌜ BuildLeaves (buildUnder (old space) (old index) (header.Sound h)) r (new index) ⌝ }
 {
     if nodes_fit(space, h) {
         return build_on(space, h, index);

@@ -22,7 +22,7 @@ use Rattle.forms.proofs.DueLaws.{cellsOf, each-end, due-next, due-within}
 use Rattle.pair_reader.specs.Storing.{termsAt}
 use Rattle.basis.proofs.SetsLaws.{sets-append}
 use Rattle.plain.proofs.Instances.{every-suc}
-use Rattle.instances.specs.Instances.{Placed, AllPlaced, width, needed, replaced, instanceCells}
+use Rattle.instances.specs.Instances.{Placed, AllPlaced, width, needed, standsFor, instanceCells}
 
 -- ---- the starts of terms
 
@@ -159,32 +159,32 @@ module _ (s out : List ℕ) (at i end : ℕ) where
 -- ---- what stands for a cell
 
 module _ (terms starts : List ℕ) (c : ℕ) where
-  pub replaced-variable : (i : ℕ) → variable c ≡ true → i ≡ payload c → replaced terms starts c ≡ slice (getD starts i 0) (getD starts (i + 1) 0) terms
-  unfolding replaced
-  replaced-variable i e p = rw (e, p)
+  pub stands-variable : (i : ℕ) → variable c ≡ true → i ≡ payload c → standsFor terms starts c ≡ slice (getD starts i 0) (getD starts (i + 1) 0) terms
+  unfolding standsFor
+  stands-variable i e p = rw (e, p)
 
-  pub replaced-other : variable c ≡ false → replaced terms starts c ≡ c ∷ []
-  unfolding replaced
-  replaced-other e = rw e
+  pub stands-other : variable c ≡ false → standsFor terms starts c ≡ c ∷ []
+  unfolding standsFor
+  stands-other e = rw e
 
-  pub replaced-length : (i : ℕ) → variable c ≡ true → i ≡ payload c → getD starts (i + 1) 0 ≤ length terms
-      → length (replaced terms starts c) ≡ getD starts (i + 1) 0 - getD starts i 0
-  replaced-length i e p h = ap length (replaced-variable i e p) ∙ length-slice (getD starts i 0) (getD starts (i + 1) 0) terms h
+  pub stands-length : (i : ℕ) → variable c ≡ true → i ≡ payload c → getD starts (i + 1) 0 ≤ length terms
+      → length (standsFor terms starts c) ≡ getD starts (i + 1) 0 - getD starts i 0
+  stands-length i e p h = ap length (stands-variable i e p) ∙ length-slice (getD starts i 0) (getD starts (i + 1) 0) terms h
 
   -- the cells were written
-  pub replaced-written : (part out out′ : List ℕ) (to next n : ℕ) → replaced terms starts c ≡ part → length (replaced terms starts c) ≡ n → next ≡ to + n → out′ ≡ sets out to part
-      → (next ≡ to + length (replaced terms starts c)) × (out′ ≡ sets out to (replaced terms starts c))
-  replaced-written part out out′ to next n e l p q = (omega (arith, l), q ∙ ap (sets out to) (sym e))
+  pub stands-written : (part out out′ : List ℕ) (to next n : ℕ) → standsFor terms starts c ≡ part → length (standsFor terms starts c) ≡ n → next ≡ to + n → out′ ≡ sets out to part
+      → (next ≡ to + length (standsFor terms starts c)) × (out′ ≡ sets out to (standsFor terms starts c))
+  stands-written part out out′ to next n e l p q = (omega (arith, l), q ∙ ap (sets out to) (sym e))
 
-  pub replaced-width : Placed (length terms) starts c → length (replaced terms starts c) ≡ width starts c
-  unfolding replaced width
-  replaced-width p = by-cases (variable c)
+  pub stands-width : Placed (length terms) starts c → length (standsFor terms starts c) ≡ width starts c
+  unfolding standsFor width
+  stands-width p = by-cases (variable c)
       (λ e. rw e (length-slice (getD starts (payload c) 0) (getD starts (payload c + 1) 0) terms (p e .2)))
       (λ e. rw e)
 
 module _ (terms starts cells out : List ℕ) (n i to : ℕ) (fits : n ≤ length cells) where
   abbrev here : List ℕ
-  here = replaced terms starts (getD cells i 0)
+  here = standsFor terms starts (getD cells i 0)
 
   abbrev left : List ℕ
   left = instanceCells terms starts (slice (i + 1) n cells)

@@ -30,8 +30,8 @@ use Rattle.pair_reader.specs.Storing.{termsAt}
 use Rattle.convert.proofs.AnswerLaws.{taken-room, loading-length}
 use Rattle.plain.specs.Coding.{compactCoding}
 use Rattle.plain.proofs.Instances.{spread, substituted-every, every-suc}
-use Rattle.instances.specs.Instances.{StartsAt, Placed, AllPlaced, width, needed, Missing, replaced, instanceCells}
-use Rattle.instances.proofs.InstanceLaws.{replaced-variable, replaced-other, replaced-width, needed-most}
+use Rattle.instances.specs.Instances.{StartsAt, Placed, AllPlaced, width, needed, Missing, standsFor, instanceCells}
+use Rattle.instances.proofs.InstanceLaws.{stands-variable, stands-other, stands-width, needed-most}
 
 -- ---- terms one after another
 
@@ -99,18 +99,18 @@ module _ (arity : ℕ → ℕ) (terms starts : List ℕ) (m : ℕ) (us more : Li
   enough-terms : m ≤ length ts
   enough-terms = omega (arith, all, ap length the-terms, length-append us more)
 
-  cell-spread : (c : ℕ) → (variable c ≡ true → payload c < m) → replaced terms starts c ≡ pick (variable c) (pairs (getD us (payload c) (cell c))) (c ∷ [])
+  cell-spread : (c : ℕ) → (variable c ≡ true → payload c < m) → standsFor terms starts c ≡ pick (variable c) (pairs (getD us (payload c) (cell c))) (c ∷ [])
   cell-spread c f = by-cases (variable c)
       (λ q.
       let h : payload c < m = f q in
       let a : getD starts (payload c) 0 ≡ cellsOf (payload c) ts = noted (payload c) (omega arith) in
       let b : getD starts (payload c + 1) 0 ≡ cellsOf (suc (payload c)) ts = noted (payload c + 1) (omega arith) ∙ ap (λ (i : ℕ). cellsOf i ts) (add-one (payload c)) in
       let g : getD ts (payload c) (cell c) ≡ getD us (payload c) (cell c) = ap (λ (l : List Term). getD l (payload c) (cell c)) the-terms ∙ List·getD-append us more (cell c) (payload c) (omega arith) in
-      rw q (replaced-variable terms starts c (payload c) q refl
+      rw q (stands-variable terms starts c (payload c) q refl
       ∙ ap (λ (i : ℕ). slice i (getD starts (payload c + 1) 0) terms) a
       ∙ ap (λ (i : ℕ). slice (cellsOf (payload c) ts) i terms) b
       ∙ term-part arity terms (payload c) (cell c) (omega (arith, enough-terms)) ∙ ap pairs g))
-      (λ q. rw q (replaced-other terms starts c q))
+      (λ q. rw q (stands-other terms starts c q))
 
   spread-cells : (cs : List ℕ) → Below m cs → instanceCells terms starts cs ≡ spread us cs
   unfolding instanceCells spread
@@ -131,7 +131,7 @@ module _ (arity : ℕ → ℕ) (terms starts : List ℕ) (m : ℕ) (us more : Li
   unfolding needed instanceCells
   needed-length [] b = refl
   needed-length (c ∷ cs) b =
-      let e : length (replaced terms starts c) ≡ width starts c = replaced-width terms starts c (placed-cell (length terms) terms-within c (b .0)) in
+      let e : length (standsFor terms starts c) ≡ width starts c = stands-width terms starts c (placed-cell (length terms) terms-within c (b .0)) in
       simp length-append (omega (arith, e, needed-length cs (b .1)))
 
 -- ---- legal forms

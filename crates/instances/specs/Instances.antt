@@ -35,13 +35,13 @@ needed starts [] = 0
 needed starts (c ∷ cs) = width starts c + needed starts cs
 
 -- what stands for a cell: for variable i the cells of term i
-unfoldable pub replaced : List ℕ → List ℕ → ℕ → List ℕ
-replaced terms starts c =
+unfoldable pub standsFor : List ℕ → List ℕ → ℕ → List ℕ
+standsFor terms starts c =
     pick (variable c) (slice (getD starts (payload c) 0) (getD starts (payload c + 1) 0) terms) (c ∷ [])
 
 unfoldable pub instanceCells : List ℕ → List ℕ → List ℕ → List ℕ
 instanceCells terms starts [] = []
-instanceCells terms starts (c ∷ cs) = replaced terms starts c ++ instanceCells terms starts cs
+instanceCells terms starts (c ∷ cs) = standsFor terms starts c ++ instanceCells terms starts cs
 
 -- ---- what is asked and left, function by function
 
@@ -70,12 +70,12 @@ PartCopied s start end to r a b = (r ≡ to + (end - start)) × (b ≡ sets a to
 -- what stands for the cell c is known and fits
 abbrev pub Replaceable : List ℕ → List ℕ → ℕ → ℕ → List ℕ → Type 0
 Replaceable terms starts c to out =
-    Placed (length terms) starts c × (to + length (replaced terms starts c) ≤ length out)
+    Placed (length terms) starts c × (to + length (standsFor terms starts c) ≤ length out)
 
 -- it stands in b from `to` on, and r is the place behind it
 abbrev pub Replaces : List ℕ → List ℕ → ℕ → ℕ → ℕ → List ℕ → List ℕ → Type 0
 Replaces terms starts c to r a b =
-    (r ≡ to + length (replaced terms starts c)) × (b ≡ sets a to (replaced terms starts c))
+    (r ≡ to + length (standsFor terms starts c)) × (b ≡ sets a to (standsFor terms starts c))
 
 -- the instance of the first n cells is known and fits
 abbrev pub Writable : List ℕ → List ℕ → List ℕ → ℕ → List ℕ → Type 0

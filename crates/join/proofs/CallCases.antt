@@ -43,9 +43,9 @@ use Rattle.pairing.specs.declared.Needs.{Needs}
 use Rattle.join.specs.declared.Parties.{Parties}
 use Rattle.pairing.specs.declared.Sides.{Sides}
 use Rattle.pairing.specs.declared.Sums.{Sums}
-use Rattle.pairing.specs.Counting.{allForms, Ready, Fitting, CountedOf, Counts, NeedsOf}
+use Rattle.pairing.specs.Counting.{allForms, JoinReady, Fitting, CountedOf, CountsForms, NeedsOf}
 use Rattle.join.specs.Entering.{Enters}
-use Rattle.join.specs.Joining.{isNumber, asked, Numbered, PartiesIn, sidesOf, Grounded, JoinsUnder, sumsFit, roomFor, Fills, SomeNew, Enterable, EntersAll}
+use Rattle.join.specs.Joining.{isNumber, joinAsked, Numbered, PartiesIn, sidesOf, Grounded, JoinsUnder, sumsFit, roomFor, TellsRoom, SomeNew, Enterable, EntersAll}
 use Rattle.join.proofs.EnterLaws.{sound-is}
 use Rattle.join.proofs.JoinCases.{join-refused, first-unknown, second-unknown, target-unknown, first-damaged, second-damaged, target-damaged, root-damaged, ready, root-within, target-root, target-fit}
 use Rattle.join.proofs.RoomCases.{too-long, forms-unsound, none-new, last-damaged, no-nodes, no-records, all-entered, sums-suffice}
@@ -179,14 +179,14 @@ module _ (cs : List ℕ) (h : Head) (y : Parties) (p : PartiesIn cs h y) where
   target-last = (parties-bounds, p .target .4, ap (λ (r : Subgoal). r .last) (p .target .3))
 
 module _ (cs : List ℕ) (h : Head) (y : Parties) (ps ks : List ℕ) (g : Grounded cs h y ps ks) (x : Sides) (i : x ≡ sidesOf h y) where
-  pub may-count : Ready cs x ps ks × (y .t .root < x .h .nodes)
-  may-count = subst (λ (z : Sides). Ready cs z ps ks × (y .t .root < z .h .nodes)) (sym i) (ready cs h y ps ks g, root-within cs h y ps ks g)
+  pub may-count : JoinReady cs x ps ks × (y .t .root < x .h .nodes)
+  may-count = subst (λ (z : Sides). JoinReady cs z ps ks × (y .t .root < z .h .nodes)) (sym i) (ready cs h y ps ks g, root-within cs h y ps ks g)
 
-  module _ (find : Finding) (r : Counted) (n : Counts find cs x (y .t .root) ps ks r) where
+  module _ (find : Finding) (r : Counted) (n : CountsForms find cs x (y .t .root) ps ks r) where
     counted-of : CountedOf find (viewIn cs h) (y .target) (arityOf (h .edition)) (allForms cs (sidesOf h y) ps ks) r
-    counted-of = subst (λ (z : Sides). Counts find cs z (y .t .root) ps ks r) i n (y .target) (target-root cs h y ps ks g)
+    counted-of = subst (λ (z : Sides). CountsForms find cs z (y .t .root) ps ks r) i n (y .target) (target-root cs h y ps ks g)
 
-    pub ground-long : r ≡ counted.TooLong → AnswersUnder find cs h (asked y ps ks) (refused 4) cs
+    pub ground-long : r ≡ counted.TooLong → AnswersUnder find cs h (joinAsked y ps ks) (refused 4) cs
     ground-long e =
         too-long find cs h y ps ks g
         (subst (CountedOf find (viewIn cs h) (y .target) (arityOf (h .edition)) (allForms cs (sidesOf h y) ps ks)) e counted-of)
@@ -195,11 +195,11 @@ module _ (cs : List ℕ) (h : Head) (y : Parties) (ps ks : List ℕ) (g : Ground
       summed-of : CountedOf find (viewIn cs h) (y .target) (arityOf (h .edition)) (allForms cs (sidesOf h y) ps ks) (counted.Sums sums)
       summed-of = subst (CountedOf find (viewIn cs h) (y .target) (arityOf (h .edition)) (allForms cs (sidesOf h y) ps ks)) e counted-of
 
-      pub ground-unsound : sums .sound ≡ false → AnswersUnder find cs h (asked y ps ks) (refused 9) cs
+      pub ground-unsound : sums .sound ≡ false → AnswersUnder find cs h (joinAsked y ps ks) (refused 9) cs
       ground-unsound d = forms-unsound find cs h y ps ks g (summed-of .0) (sym (summed-of .1) ∙ d)
 
       module _ (d : sums .sound ≡ true) where
-        pub ground-none : sums .lacking ≡ 0 → AnswersUnder find cs h (asked y ps ks) (joined 0) cs
+        pub ground-none : sums .lacking ≡ 0 → AnswersUnder find cs h (joinAsked y ps ks) (joined 0) cs
         ground-none z =
             let b = parties-bounds cs h y (g .parties) in
             none-new find cs h y ps ks g (summed-of .0) (sym (summed-of .1) ∙ d) (sym (summed-of .3) ∙ z) (b .nodes-within) (b .answers-within) (b .answers-cell)
@@ -210,19 +210,19 @@ module _ (cs : List ℕ) (h : Head) (y : Parties) (ps ks : List ℕ) (g : Ground
 -- ---- forms of which some are new
 
 module _ (find : Finding) (cs : List ℕ) (x : Sides) (root : ℕ) (ps ks : List ℕ) (y : Needs) (n : NeedsOf find cs x root ps ks y) where
-  pub fills-nodes : x .h .«node_capacity» - x .h .nodes < y .nodes → Fills find cs x root ps ks 10
+  pub fills-nodes : x .h .«node_capacity» - x .h .nodes < y .nodes → TellsRoom find cs x root ps ks 10
   fills-nodes l s e =
       room-nodes (x .h) (nodesNeededBy find (viewIn cs (x .h)) s [] (allForms cs x ps ks)) (answersNeededBy find (viewIn cs (x .h)) s [] (allForms cs x ps ks))
       (subst (λ (k : ℕ). x .h .«node_capacity» - x .h .nodes < k) (n s e .0) l)
 
   module _ (k : y .nodes ≤ x .h .«node_capacity» - x .h .nodes) where
-    pub fills-answers : x .h .«answer_capacity» - x .h .answers < y .answers → Fills find cs x root ps ks 11
+    pub fills-answers : x .h .«answer_capacity» - x .h .answers < y .answers → TellsRoom find cs x root ps ks 11
     fills-answers l s e =
         room-answers (x .h) (nodesNeededBy find (viewIn cs (x .h)) s [] (allForms cs x ps ks)) (answersNeededBy find (viewIn cs (x .h)) s [] (allForms cs x ps ks))
         (subst (λ (i : ℕ). i ≤ x .h .«node_capacity» - x .h .nodes) (n s e .0) k)
         (subst (λ (i : ℕ). x .h .«answer_capacity» - x .h .answers < i) (n s e .1) l)
 
-    pub fills-none : y .answers ≤ x .h .«answer_capacity» - x .h .answers → Fills find cs x root ps ks 0
+    pub fills-none : y .answers ≤ x .h .«answer_capacity» - x .h .answers → TellsRoom find cs x root ps ks 0
     fills-none l s e =
         room-enough (x .h) (nodesNeededBy find (viewIn cs (x .h)) s [] (allForms cs x ps ks)) (answersNeededBy find (viewIn cs (x .h)) s [] (allForms cs x ps ks))
         (subst (λ (i : ℕ). i ≤ x .h .«node_capacity» - x .h .nodes) (n s e .0) k)
@@ -249,7 +249,7 @@ module _ (find : Finding) (cs : List ℕ) (h : Head) (y : Parties) (ps ks : List
   all-sound : allSoundBy find (viewIn cs h) (y .target) (allForms cs (sidesOf h y) ps ks) ≡ true
   all-sound = sym (n .summed .1) ∙ n .sound
 
-  pub new-last : soundLast (viewIn cs h) (y .target) ≡ false → AnswersUnder find cs h (asked y ps ks) (refused 9) cs
+  pub new-last : soundLast (viewIn cs h) (y .target) ≡ false → AnswersUnder find cs h (joinAsked y ps ks) (refused 9) cs
   new-last e = last-damaged find cs h y ps ks (n .grounded) (n .summed .0) all-sound (λ q. n .some (n .summed .3 ∙ q)) e
 
   module _ (x : Sides) (i : x ≡ sidesOf h y) where
@@ -261,7 +261,7 @@ module _ (find : Finding) (cs : List ℕ) (h : Head) (y : Parties) (ps ks : List
       target = target-fit cs h y ps ks (n .grounded);
     })
 
-    pub may-need : Ready cs x ps ks × Fitting cs x ps ks
+    pub may-need : JoinReady cs x ps ks × Fitting cs x ps ks
     may-need = (may-enter .ready, may-enter .fit)
 
     pub may-need-root : y .t .root < x .h .nodes
@@ -273,7 +273,7 @@ module _ (find : Finding) (cs : List ℕ) (h : Head) (y : Parties) (ps ks : List
           → (r : JoinAnswer) (cs′ : List ℕ) → EntersAll find cs x (y .target) ps ks r cs′ → JoinsUnder find cs h y ps ks r cs′
       entered-all a b r cs′ e =
           let d : EntersAll find cs (sidesOf h y) (y .target) ps ks r cs′ = subst (λ (z : Sides). EntersAll find cs z (y .target) ps ks r cs′) i e in
-          subst (λ (q : Reply). AnswersUnder find cs h (asked y ps ks) q cs′) (sym (d .1))
+          subst (λ (q : Reply). AnswersUnder find cs h (joinAsked y ps ks) q cs′) (sym (d .1))
           (all-entered find cs h y ps ks (n .grounded) (n .summed .0) all-sound l a b (usedAnswers cs′ - h .answers) cs′ (d .0) refl)
 
       pub new-by-sums : sumsFit h sums ≡ true → (r : JoinAnswer) (cs′ : List ℕ) → EntersAll find cs x (y .target) ps ks r cs′ → JoinsUnder find cs h y ps ks r cs′
@@ -286,9 +286,9 @@ module _ (find : Finding) (cs : List ℕ) (h : Head) (y : Parties) (ps ks : List
           (b .nodes-within) (b .answers-within) in
           entered-all (m .0) (m .1)
 
-      module _ (k : ℕ) (w : Fills find cs x (y .t .root) ps ks k) where
+      module _ (k : ℕ) (w : TellsRoom find cs x (y .t .root) ps ks k) where
         room-is : k ≡ roomFor h (nodesNeededBy find (viewIn cs h) (y .target) [] (allForms cs (sidesOf h y) ps ks)) (answersNeededBy find (viewIn cs h) (y .target) [] (allForms cs (sidesOf h y) ps ks))
-        room-is = subst (λ (z : Sides). Fills find cs z (y .t .root) ps ks k) i w (y .target) (target-root cs h y ps ks (n .grounded))
+        room-is = subst (λ (z : Sides). TellsRoom find cs z (y .t .root) ps ks k) i w (y .target) (target-root cs h y ps ks (n .grounded))
 
         pub new-exactly : k ≡ 0 → (r : JoinAnswer) (cs′ : List ℕ) → EntersAll find cs x (y .target) ps ks r cs′ → JoinsUnder find cs h y ps ks r cs′
         new-exactly z =
@@ -296,10 +296,10 @@ module _ (find : Finding) (cs : List ℕ) (h : Head) (y : Parties) (ps ks : List
             let b = new-bounds in
             entered-all (omega (arith, m .0, b .nodes-within)) (omega (arith, m .1, b .answers-within))
 
-        refused-at : (j : ℕ) → k ≡ j → AnswersUnder find cs h (asked y ps ks) (refused j) cs → AnswersUnder find cs h (asked y ps ks) (refused k) cs
-        refused-at j e u = subst (λ (q : ℕ). AnswersUnder find cs h (asked y ps ks) (refused q) cs) (sym e) u
+        refused-at : (j : ℕ) → k ≡ j → AnswersUnder find cs h (joinAsked y ps ks) (refused j) cs → AnswersUnder find cs h (joinAsked y ps ks) (refused k) cs
+        refused-at j e u = subst (λ (q : ℕ). AnswersUnder find cs h (joinAsked y ps ks) (refused q) cs) (sym e) u
 
-        pub new-full : (k ≡ 0 → ⊥) → AnswersUnder find cs h (asked y ps ks) (refused k) cs
+        pub new-full : (k ≡ 0 → ⊥) → AnswersUnder find cs h (joinAsked y ps ks) (refused k) cs
         new-full z =
             let b = new-bounds in
             by-cases (leb (nodesNeededBy find (viewIn cs h) (y .target) [] (allForms cs (sidesOf h y) ps ks)) (h .«node_capacity» - h .nodes))

@@ -35,8 +35,8 @@ use Rattle.pairing.specs.declared.Sides.{Sides}
 use Rattle.pairing.specs.declared.Cursor.{Cursor}
 use Rattle.pairing.specs.declared.Match.{Match}
 use Rattle.pairing.specs.declared.Match.the-variants as match
-use Rattle.pairing.specs.Pairing.{formsFrom, SourceIn, Remains, twoHands, mostTokens, formIn, Known, Stands, partsFrom, toCome, Advances}
-use Rattle.pairing.specs.Counting.{beginning, allForms, Ready, Fitting}
+use Rattle.pairing.specs.Pairing.{formsFrom, SourceIn, Remains, twoHands, mostTokens, formIn, Throughout, Stands, partsFrom, toCome, Advances}
+use Rattle.pairing.specs.Counting.{beginning, allForms, JoinReady, Fitting}
 use Rattle.join.specs.Entering.{underHead, Target, Givable, Enters}
 use Rattle.pairing.proofs.RemainsLaws.{forms-are}
 use Rattle.pairing.proofs.CountLaws.{begins, all-come, fit-cons, not-long}
@@ -98,11 +98,11 @@ module _ (cs : List ℕ) (h : Head) (s : ℕ) (cs′ : List ℕ) (F : Framed (h 
 
 -- ---- the join
 
-module _ (cs : List ℕ) (x : Sides) (s : ℕ) (ps ks : List ℕ) (k : Known cs x ps ks) (t : Target cs x s) (cs′ : List ℕ) (F : Framed (x .h .edition) s cs (x .h) cs′) (h′ : Head) (is : F .head ≡ h′) where
+module _ (cs : List ℕ) (x : Sides) (s : ℕ) (ps ks : List ℕ) (k : Throughout cs x ps ks) (t : Target cs x s) (cs′ : List ℕ) (F : Framed (x .h .edition) s cs (x .h) cs′) (h′ : Head) (is : F .head ≡ h′) where
   abbrev x′ : Sides
   x′ = underHead x h′
 
-  pub known-kept : Known cs′ (underHead x h′) ps ks
+  pub known-kept : Throughout cs′ (underHead x h′) ps ks
   known-kept = record {
     bounds = bounds-kept cs (x .h) s cs′ F h′ is;
     first = source-kept cs (x .h) s cs′ F h′ is (x .first) (k .first) (t .not-first);
@@ -154,7 +154,7 @@ module _ (cs : List ℕ) (x : Sides) (s : ℕ) (ps ks : List ℕ) (k : Known cs 
 module _ (find : Finding) where
   pub record Entering (cs0 : List ℕ) (x0 : Sides) (s : ℕ) (ps ks cs : List ℕ) (x : Sides) (at : Cursor) (hands form : List ℕ) : Type 0 where
     pub space : spaceHeader cs ≡ header.Sound (x .h)
-    pub known : Known cs x ps ks
+    pub known : Throughout cs x ps ks
     pub target : Target cs x s
     pub stands : Stands cs x at hands form
     pub fit : allFit (arityOf (x .h .edition)) (toCome cs x ps ks at hands) ≡ true
@@ -162,7 +162,7 @@ module _ (find : Finding) where
 
 module _ {find : Finding} (finds : Finds find) where
   module _ (cs0 : List ℕ) (x0 : Sides) (s : ℕ) (ps ks : List ℕ) where
-    pub entering-begun : spaceHeader cs0 ≡ header.Sound (x0 .h) → Ready cs0 x0 ps ks → Fitting cs0 x0 ps ks → Target cs0 x0 s → (hands form : List ℕ) → length hands ≡ twoHands → length form ≡ mostTokens
+    pub entering-begun : spaceHeader cs0 ≡ header.Sound (x0 .h) → JoinReady cs0 x0 ps ks → Fitting cs0 x0 ps ks → Target cs0 x0 s → (hands form : List ℕ) → length hands ≡ twoHands → length form ≡ mostTokens
         → Entering find cs0 x0 s ps ks cs0 x0 (beginning x0) hands form
     entering-begun e r f t hands form lh lf = record {
       space = e;

@@ -31,11 +31,11 @@ use Rattle.parts.specs.Parts.{AllGround, fitted}
 use Rattle.parts.proofs.JoinedForms.{joined-forms}
 use Rattle.join.specs.declared.Parties.{Parties}
 use Rattle.pairing.specs.Pairing.{formsFrom, SourceIn, Remains}
-use Rattle.pairing.specs.Counting.{allForms, Ready}
+use Rattle.pairing.specs.Counting.{allForms, JoinReady}
 use Rattle.join.specs.Entering.{Target}
 use Rattle.agreement.proofs.ChainSteps.{chain-begins, chain-ends, chain-longer}
 use Rattle.pairing.proofs.RemainsLaws.{forms-are, unbroken-is}
-use Rattle.join.specs.Joining.{isNumber, asked, PartiesIn, sidesOf, AnswersGround, Grounded, Ruled}
+use Rattle.join.specs.Joining.{isNumber, joinAsked, PartiesIn, sidesOf, AnswersGround, Grounded, Ruled}
 
 -- ---- a decision that says something
 
@@ -179,7 +179,7 @@ module _ (cs : List ℕ) (h : Head) (y : Parties) (ps ks : List ℕ) (p : Partie
   target-is : viewIn cs h .subgoal (y .target) ≡ y .t
   target-is = sym (p .target .3)
 
-  parties-decide : (find : Finding) → decideBy find (codingOf (h .edition)) (viewIn cs h) (asked y ps ks) ≡ sourced find (codingOf (h .edition)) (viewIn cs h) (y .first) (y .second) ps (y .target) ks
+  parties-decide : (find : Finding) → decideBy find (codingOf (h .edition)) (viewIn cs h) (joinAsked y ps ks) ≡ sourced find (codingOf (h .edition)) (viewIn cs h) (y .first) (y .second) ps (y .target) ks
   parties-decide find =
       records-sound find (codingOf (h .edition)) (viewIn cs h) (y .first) (y .second) ps (y .target) ks
       (number-is (h .subgoals) (y .first) (p .first .1) (p .first .2))
@@ -335,7 +335,7 @@ module _ (cs : List ℕ) (h : Head) (y : Parties) (ps ks : List ℕ) (g : Ground
         ground = subst (λ (r : Subgoal). AllGround (arityOf (h .edition)) (r .variables) (formsFrom cs h s (q .first))) (sym (d .3)) (ground-all (h .edition) (viewIn cs h) s (h .answers) (q .first) (formsFrom cs h s (q .first)) c (a .free));
       }
 
-  pub ready : Ready cs (sidesOf h y) ps ks
+  pub ready : JoinReady cs (sidesOf h y) ps ks
   ready =
       let p = g .parties in
       let n = named-parts (y .f .variables) (y .g .variables) ps (y .t .variables) ks (g .names) in
@@ -374,7 +374,7 @@ module _ (cs : List ℕ) (h : Head) (y : Parties) (ps ks : List ℕ) (g : Ground
   abbrev forms : List Word
   forms = allForms cs (sidesOf h y) ps ks
 
-  pub decides : (find : Finding) → decideBy find (codingOf (h .edition)) (viewIn cs h) (asked y ps ks) ≡ joiningBy find (viewIn cs h) (y .target) (fitted (arityOf (h .edition)) (allForms cs (sidesOf h y) ps ks))
+  pub decides : (find : Finding) → decideBy find (codingOf (h .edition)) (viewIn cs h) (joinAsked y ps ks) ≡ joiningBy find (viewIn cs h) (y .target) (fitted (arityOf (h .edition)) (allForms cs (sidesOf h y) ps ks))
   decides find =
       let p = g .parties in
       let us : List Word = formsFrom cs h (y .first) (y .f .first) in

@@ -30,7 +30,7 @@ use Rattle.sides.specs.Counts.{sumMissing, sumLacking}
 use Rattle.sides.proofs.CountLaws.{nodes-needed-most, answers-needed-most, answers-needed-none, lacking-none}
 use Rattle.join.specs.declared.Parties.{Parties}
 use Rattle.pairing.specs.Counting.{allForms}
-use Rattle.join.specs.Joining.{asked, sidesOf, Grounded}
+use Rattle.join.specs.Joining.{joinAsked, sidesOf, Grounded}
 use Rattle.join.proofs.JoinCases.{join-refused, join-entered, decides}
 
 -- ---- forms of which none is new
@@ -128,10 +128,10 @@ module _ (find : Finding) where
     abbrev ws : List Word
     ws = allForms cs (sidesOf h y) ps ks
 
-    refuses-by : (r : ℕ) → joiningBy find (viewIn cs h) (y .target) (fitted (arityOf (h .edition)) (allForms cs (sidesOf h y) ps ks)) ≡ refuses r → AnswersUnder find cs h (asked y ps ks) (refused r) cs
+    refuses-by : (r : ℕ) → joiningBy find (viewIn cs h) (y .target) (fitted (arityOf (h .edition)) (allForms cs (sidesOf h y) ps ks)) ≡ refuses r → AnswersUnder find cs h (joinAsked y ps ks) (refused r) cs
     refuses-by r e = join-refused find cs h (y .first) (y .second) ps (y .target) ks r (decides cs h y ps ks g find ∙ e)
 
-    pub too-long : allFit (arityOf (h .edition)) (allForms cs (sidesOf h y) ps ks) ≡ false → AnswersUnder find cs h (asked y ps ks) (refused 4) cs
+    pub too-long : allFit (arityOf (h .edition)) (allForms cs (sidesOf h y) ps ks) ≡ false → AnswersUnder find cs h (joinAsked y ps ks) (refused 4) cs
     unfolding joiningBy
     too-long e = refuses-by 4 (ap (joiningBy find (viewIn cs h) (y .target)) (fitted-long (arityOf (h .edition)) ws e))
 
@@ -139,17 +139,17 @@ module _ (find : Finding) where
       on-forms : (d : Decision) → joiningBy find (viewIn cs h) (y .target) (formed (allForms cs (sidesOf h y) ps ks)) ≡ d → joiningBy find (viewIn cs h) (y .target) (fitted (arityOf (h .edition)) (allForms cs (sidesOf h y) ps ks)) ≡ d
       on-forms d e = ap (joiningBy find (viewIn cs h) (y .target)) (fitted-all (arityOf (h .edition)) ws fit) ∙ e
 
-      pub forms-unsound : allSoundBy find (viewIn cs h) (y .target) (allForms cs (sidesOf h y) ps ks) ≡ false → AnswersUnder find cs h (asked y ps ks) (refused 9) cs
+      pub forms-unsound : allSoundBy find (viewIn cs h) (y .target) (allForms cs (sidesOf h y) ps ks) ≡ false → AnswersUnder find cs h (joinAsked y ps ks) (refused 9) cs
       forms-unsound e = refuses-by 9 (on-forms (refuses 9) (joining-unsound (viewIn cs h) (y .target) ws e))
 
       module _ (a : allSoundBy find (viewIn cs h) (y .target) (allForms cs (sidesOf h y) ps ks) ≡ true) where
         enters-by : joiningBy find (viewIn cs h) (y .target) (formed (allForms cs (sidesOf h y) ps ks)) ≡ entersAnswers (y .target) (allForms cs (sidesOf h y) ps ks) → (n : ℕ) (cs′ : List ℕ)
-            → cs′ ≡ formsGivenBy find (sizesOf (h .edition)) cs (y .target) (allForms cs (sidesOf h y) ps ks) → n ≡ usedAnswers cs′ - h .answers → AnswersUnder find cs h (asked y ps ks) (joined n) cs′
+            → cs′ ≡ formsGivenBy find (sizesOf (h .edition)) cs (y .target) (allForms cs (sidesOf h y) ps ks) → n ≡ usedAnswers cs′ - h .answers → AnswersUnder find cs h (joinAsked y ps ks) (joined n) cs′
         enters-by e n cs′ c m =
             join-entered find cs h (y .first) (y .second) ps (y .target) ks ws n cs′ (decides cs h y ps ks g find ∙ on-forms (entersAnswers (y .target) ws) e) c m
 
         -- nothing is new: nothing is written
-        pub none-new : sumLacking find (viewIn cs h) (y .target) (allForms cs (sidesOf h y) ps ks) ≡ 0 → h .nodes ≤ h .«node_capacity» → h .answers ≤ h .«answer_capacity» → h .answers ≡ usedAnswers cs → AnswersUnder find cs h (asked y ps ks) (joined 0) cs
+        pub none-new : sumLacking find (viewIn cs h) (y .target) (allForms cs (sidesOf h y) ps ks) ≡ 0 → h .nodes ≤ h .«node_capacity» → h .answers ≤ h .«answer_capacity» → h .answers ≡ usedAnswers cs → AnswersUnder find cs h (joinAsked y ps ks) (joined 0) cs
         none-new l nn na u =
             let v : View = viewIn cs h in
             let s : ℕ = y .target in
@@ -158,19 +158,19 @@ module _ (find : Finding) where
             enters-by (joining-enters (viewIn cs h) (y .target) ws a (last-none (viewIn cs h) (y .target) ws a z) (omega (arith, k)) (omega (arith, z)))
             0 cs (sym (none-given (h .edition) cs h (space-read cs h (g .parties .space) .1) (y .target) ws a l)) (omega arith)
 
-        pub last-damaged : (sumLacking find (viewIn cs h) (y .target) (allForms cs (sidesOf h y) ps ks) ≡ 0 → ⊥) → soundLast (viewIn cs h) (y .target) ≡ false → AnswersUnder find cs h (asked y ps ks) (refused 9) cs
+        pub last-damaged : (sumLacking find (viewIn cs h) (y .target) (allForms cs (sidesOf h y) ps ks) ≡ 0 → ⊥) → soundLast (viewIn cs h) (y .target) ≡ false → AnswersUnder find cs h (joinAsked y ps ks) (refused 9) cs
         last-damaged z l = refuses-by 9 (on-forms (refuses 9) (joining-last (viewIn cs h) (y .target) ws a (λ q. z (answers-needed-none find (viewIn cs h) (y .target) ws q)) l))
 
         module _ (l : soundLast (viewIn cs h) (y .target) ≡ true) where
-          pub no-nodes : h .«node_capacity» < h .nodes + nodesNeededBy find (viewIn cs h) (y .target) [] (allForms cs (sidesOf h y) ps ks) → AnswersUnder find cs h (asked y ps ks) (refused 10) cs
+          pub no-nodes : h .«node_capacity» < h .nodes + nodesNeededBy find (viewIn cs h) (y .target) [] (allForms cs (sidesOf h y) ps ks) → AnswersUnder find cs h (joinAsked y ps ks) (refused 10) cs
           no-nodes e = refuses-by 10 (on-forms (refuses 10) (joining-nodes (viewIn cs h) (y .target) ws a (last-some (viewIn cs h) (y .target) ws a l) e))
 
           module _ (n : h .nodes + nodesNeededBy find (viewIn cs h) (y .target) [] (allForms cs (sidesOf h y) ps ks) ≤ h .«node_capacity») where
-            pub no-records : h .«answer_capacity» < h .answers + answersNeededBy find (viewIn cs h) (y .target) [] (allForms cs (sidesOf h y) ps ks) → AnswersUnder find cs h (asked y ps ks) (refused 11) cs
+            pub no-records : h .«answer_capacity» < h .answers + answersNeededBy find (viewIn cs h) (y .target) [] (allForms cs (sidesOf h y) ps ks) → AnswersUnder find cs h (joinAsked y ps ks) (refused 11) cs
             no-records e = refuses-by 11 (on-forms (refuses 11) (joining-records (viewIn cs h) (y .target) ws a (last-some (viewIn cs h) (y .target) ws a l) n e))
 
             pub all-entered : h .answers + answersNeededBy find (viewIn cs h) (y .target) [] (allForms cs (sidesOf h y) ps ks) ≤ h .«answer_capacity» → (n : ℕ) (cs′ : List ℕ)
-                → cs′ ≡ formsGivenBy find (sizesOf (h .edition)) cs (y .target) (allForms cs (sidesOf h y) ps ks) → n ≡ usedAnswers cs′ - h .answers → AnswersUnder find cs h (asked y ps ks) (joined n) cs′
+                → cs′ ≡ formsGivenBy find (sizesOf (h .edition)) cs (y .target) (allForms cs (sidesOf h y) ps ks) → n ≡ usedAnswers cs′ - h .answers → AnswersUnder find cs h (joinAsked y ps ks) (joined n) cs′
             all-entered e k cs′ c m = enters-by (joining-enters (viewIn cs h) (y .target) ws a (last-some (viewIn cs h) (y .target) ws a l) n e) k cs′ c m
 
           -- the sums suffice

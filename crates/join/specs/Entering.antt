@@ -32,8 +32,8 @@ Givable cs h s =
     × (subgoalUnder cs h s .last ≤ h .answers)
 
 -- it is, whatever comes of it
-abbrev pub Gives : Finding → List ℕ → Head → ℕ → Word → List ℕ → Type 0
-Gives find cs h s w cs′ = cs′ ≡ formGivenBy find (sizesOf (h .edition)) cs s w (header.Sound h)
+abbrev pub GivesForm : Finding → List ℕ → Head → ℕ → Word → List ℕ → Type 0
+GivesForm find cs h s w cs′ = cs′ ≡ formGivenBy find (sizesOf (h .edition)) cs s w (header.Sound h)
 
 -- every form is given
 abbrev pub Enters : Finding → List ℕ → Sides → ℕ → List ℕ → List ℕ → List ℕ → Type 0

@@ -34,7 +34,7 @@ use Rattle.pairing.specs.declared.Sides.{Sides}
 use Rattle.pairing.specs.declared.Counted.the-variants as counted
 use Rattle.pairing.specs.declared.Sums.{Sums}
 use Rattle.pairing.specs.Pairing.{formsFrom}
-use Rattle.pairing.specs.Counting.{allForms, Ready, Fitting, CountedOf}
+use Rattle.pairing.specs.Counting.{allForms, JoinReady, Fitting, CountedOf}
 use Rattle.join.specs.Entering.{Target}
 
 -- s is the number of one of n subgoals
@@ -43,8 +43,8 @@ isNumber n s = pick (ltb 0 s) (leb s n) false
 
 -- ---- the three subgoals
 
-abbrev pub asked : Parties → List ℕ → List ℕ → Request
-asked y ps ks = request.join (y .first) (y .second) ps (y .target) ks
+abbrev pub joinAsked : Parties → List ℕ → List ℕ → Request
+joinAsked y ps ks = request.join (y .first) (y .second) ps (y .target) ks
 
 -- read and judged, with the target's answer root
 pub record PartiesIn (cs : List ℕ) (h : Head) (y : Parties) : Type 0 where
@@ -85,7 +85,7 @@ pub record Grounded (cs : List ℕ) (h : Head) (y : Parties) (ps ks : List ℕ) 
 abbrev pub Ruled : List ℕ → Head → Parties → List ℕ → List ℕ → ℕ → Type 0
 Ruled cs h y ps ks r =
     (r ≡ 0 → Grounded cs h y ps ks)
-    × ((r ≡ 0 → ⊥) → (find : Finding) → AnswersUnder find cs h (asked y ps ks) (refused r) cs)
+    × ((r ≡ 0 → ⊥) → (find : Finding) → AnswersUnder find cs h (joinAsked y ps ks) (refused r) cs)
 
 -- the answers of a source were judged sound, and without variables
 unfoldable pub wholeAnswers : Judged → Bool
@@ -122,7 +122,7 @@ JoinsNumbered find cs h a ps ks r cs′ =
     AnswersUnder find cs h (request.join (a .first) (a .second) ps (a .target) ks) (saidJoin r) cs′
 
 abbrev pub JoinsUnder : Finding → List ℕ → Head → Parties → List ℕ → List ℕ → JoinAnswer → List ℕ → Type 0
-JoinsUnder find cs h y ps ks r cs′ = AnswersUnder find cs h (asked y ps ks) (saidJoin r) cs′
+JoinsUnder find cs h y ps ks r cs′ = AnswersUnder find cs h (joinAsked y ps ks) (saidJoin r) cs′
 
 -- the sums of all forms, which fit
 abbrev pub Summed : Finding → List ℕ → Head → Parties → List ℕ → List ℕ → Sums → Type 0
@@ -140,8 +140,8 @@ unfoldable pub roomFor : Head → ℕ → ℕ → ℕ
 roomFor h nodes answers =
     pick (ltb (h .«node_capacity» - h .nodes) nodes) 10 (pick (ltb (h .«answer_capacity» - h .answers) answers) 11 0)
 
-abbrev pub Fills : Finding → List ℕ → Sides → ℕ → List ℕ → List ℕ → ℕ → Type 0
-Fills find cs x root ps ks r =
+abbrev pub TellsRoom : Finding → List ℕ → Sides → ℕ → List ℕ → List ℕ → ℕ → Type 0
+TellsRoom find cs x root ps ks r =
     (s : ℕ) → root ≡ subgoalUnder cs (x .h) s .root
     → (let ws = allForms cs x ps ks in
     r ≡ roomFor (x .h) (nodesNeededBy find (viewIn cs (x .h)) s [] ws)
@@ -157,7 +157,7 @@ pub record SomeNew (find : Finding) (cs : List ℕ) (h : Head) (y : Parties) (ps
 -- the forms may be entered into subgoal s
 pub record Enterable (cs : List ℕ) (x : Sides) (s : ℕ) (ps ks : List ℕ) : Type 0 where
   pub space : spaceHeader cs ≡ header.Sound (x .h)
-  pub ready : Ready cs x ps ks
+  pub ready : JoinReady cs x ps ks
   pub fit : Fitting cs x ps ks
   pub target : Target cs x s
 

@@ -14,13 +14,13 @@ use space::records::subgoal_in;
 ghost use mathlib.Core.Path.{_≡_};
 ghost use Rattle.basis.specs.Moments.{old, new};
 ghost use Rattle.trie.specs.Index.{searchIndexed};
-ghost use Rattle.join.specs.Entering.{Givable, Gives, underHead, Enters};
+ghost use Rattle.join.specs.Entering.{Givable, GivesForm, underHead, Enters};
 ghost use Rattle.join.specs.Joining.{Enterable};
 
 // A form given to subgoal s, whatever comes of it.
 fn give(space: &mut [u32], h: Head, s: usize, tokens: &[u32], index: &[u32])
     requires { ⌜ Givable (now space) h s ⌝ }
-    ensures { λ _. ⌜ Gives (searchIndexed (old index)) (old space) h s (old tokens) (new space) ⌝ }
+    ensures { λ _. ⌜ GivesForm (searchIndexed (old index)) (old space) h s (old tokens) (new space) ⌝ }
 {
     let g = subgoal_in(space, h, s);
     answer_at(space, h, s, g, tokens, index);

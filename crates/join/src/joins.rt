@@ -46,7 +46,7 @@ ghost use Rattle.store.specs.Replies.{saidJoin};
 ghost use Rattle.pairing.specs.Counting.{ReadyToCount};
 ghost use Rattle.join.specs.Joining.{isNumber, Numbered, PartiesIn, sidesOf, wholeAnswers, groundAnswers};
 ghost use Rattle.join.specs.Joining.{RulesOn, Rules, Grounded, JoinsUnder, JoinsNumbered, SomeNew, sumsFit};
-ghost use Rattle.join.specs.Joining.{Fills, Enterable, EntersAll};
+ghost use Rattle.join.specs.Joining.{TellsRoom, Enterable, EntersAll};
 
 // The sources as the passes take them.
 fn sides_of(h: Head, y: Parties) -> Sides
@@ -191,7 +191,7 @@ fn sums_fit(h: Head, y: Sums) -> bool
 fn full(space: &[u32], x: Sides, root: usize, pairs: &[u32], copies: &[u32], index: &[u32]) -> u32
     requires { ⌜ ReadyToCount (now space) x (now pairs) (now copies) ⌝ }
     requires { ⌜ root < x .h .nodes ⌝ }
-    ensures { λ r. ⌜ Fills (searchIndexed (old index)) (old space) x root (old pairs) (old copies) r ⌝ }
+    ensures { λ r. ⌜ TellsRoom (searchIndexed (old index)) (old space) x root (old pairs) (old copies) r ⌝ }
 {
     let y = needs(space, x, root, pairs, copies, index);
     let nodes = (x.h.node_capacity - x.h.nodes) as u64;

@@ -9,7 +9,7 @@ use Rattle.forms.specs.Compact.{compact, elements, compactForm, filled, lastOf,
 use Rattle.forms.specs.Compact.{whole, entered, items, front, formTerms, pairForm, same, areForms, legalForm}
 use Rattle.forms.specs.Converting.{reading, loading, fitting, fittingForm, fittingTerms, compacting, expanding}
 use Rattle.marshalling.specs.Bytes.{cellsOf, bytesOf}
-use Rattle.marshalling.specs.Export.{outcome, word, writtenBytes, handed, exported, compactBytes, expandBytes}
+use Rattle.marshalling.specs.Export.{outcome, returned, writtenBytes, outcomeOf, exported, compactBytes, expandBytes}
 
 -- [1|2] in pair form, and in compact form (M6)
 abbrev pair12 : List ℕ
@@ -35,7 +35,7 @@ pub exports :
     -- a byte count of 5 is 3
     × (compactBytes (arityOf 1) (0 ∷ 0 ∷ 0 ∷ 80 ∷ 1 ∷ []) lent15 ≡ outcome (2 ^ 31 + 3) lent15)
     × (expandBytes (arityOf 1) (0 ∷ 0 ∷ 0 ∷ 80 ∷ 1 ∷ []) lent15 ≡ outcome (2 ^ 31 + 3) lent15)
-unfolding cellsOf bytesOf word writtenBytes handed exported compactBytes expandBytes compactForm reading loading
+unfolding cellsOf bytesOf returned writtenBytes outcomeOf exported compactBytes expandBytes compactForm reading loading
     fittingForm fittingTerms compacting expanding legalForm areTerms areForms fitting pairForm formTerms front
     symbolic tokenOf items entered filled lastOf tailOf into inside collected whole reads begun applied paired shapeOf
     every compact elements pairs numbered renamed met seen rank same

@@ -17,10 +17,10 @@ pub data Outcome : Type 0 where
   outcome : ℕ → List ℕ → Outcome
 
 -- an answer as a number: the cells written, or 2^31 + the refusal; the need of 12 is not given
-unfoldable pub word : Answer → ℕ
-word (Cells n) = n
-word (Refused r) = 2 ^ 31 + r
-word (Short n) = 2 ^ 31 + 12
+unfoldable pub returned : Answer → ℕ
+returned (Cells n) = n
+returned (Refused r) = 2 ^ 31 + r
+returned (Short n) = 2 ^ 31 + 12
 
 -- the bytes of out: those of the cells written before what was there; refused, what was there
 unfoldable pub writtenBytes : Answer → List ℕ → List ℕ → List ℕ
@@ -29,8 +29,8 @@ writtenBytes (Refused r) cells out = out
 writtenBytes (Short n) cells out = out
 
 -- the outcome of an answer, where `cells` are those to be written
-unfoldable pub handed : Answer → List ℕ → List ℕ → Outcome
-handed a cells out = outcome (word a) (writtenBytes a cells out)
+unfoldable pub outcomeOf : Answer → List ℕ → List ℕ → Outcome
+outcomeOf a cells out = outcome (returned a) (writtenBytes a cells out)
 
 -- a converter's answer over bytes: a byte count of input not divisible by 4 is 3, before all else;
 -- only whole cells of out are room
@@ -39,11 +39,11 @@ exported converter input out = pick (eqb (length input % 4) 0) (converter (cells
 
 -- `compact_bytes` of one term
 unfoldable pub compactBytes : (ℕ → ℕ) → List ℕ → List ℕ → Outcome
-compactBytes arity input out = handed (exported (compacting arity 1) input out) (compactForm arity (cellsOf input)) out
+compactBytes arity input out = outcomeOf (exported (compacting arity 1) input out) (compactForm arity (cellsOf input)) out
 
 -- `expand_bytes` of the form of one term
 unfoldable pub expandBytes : (ℕ → ℕ) → List ℕ → List ℕ → Outcome
-expandBytes arity input out = handed (exported (expanding arity 1) input out) (pairForm arity (cellsOf input)) out
+expandBytes arity input out = outcomeOf (exported (expanding arity 1) input out) (pairForm arity (cellsOf input)) out
 
 -- in the edition of this number; another is refused (1), before all else
 unfoldable pub outcomeIn : ℕ → Outcome → List ℕ → Outcome
@@ -67,7 +67,7 @@ ExpandRoom n input form cells =
 
 -- the first n cells were handed to out, if it has room for them
 abbrev pub Delivers : (cells : List ℕ) (n : ℕ) (out : List ℕ) (r : ℕ) (out′ : List ℕ) → Type 0
-Delivers cells n out r out′ = outcome r out′ ≡ handed (fitting n (length out / 4)) (take n cells) out
+Delivers cells n out r out′ = outcome r out′ ≡ outcomeOf (fitting n (length out / 4)) (take n cells) out
 
 -- one term was compacted; in the edition of any number: if there is one
 abbrev pub CompactsBytes : (e : ℕ) (input out : List ℕ) (r : ℕ) (out′ : List ℕ) → Type 0

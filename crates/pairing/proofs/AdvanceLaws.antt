@@ -1,7 +1,7 @@
 -- The next pair of a join that matches: with the answer in hand, or with one of those behind it.
 use mathlib.Core.Path.{_≡_, refl, sym, ap, _∙_, subst}
 use mathlib.Core.List.{List, [], _∷_, _++_, map}
-use Prim.Native.Nat.{ℕ, _+_, _-_, _≤_, _<_}
+use Prim.Native.Nat.{ℕ, _+_, _-_, _<_}
 use native.Mathlib.Omega.{arith}
 use lib.ListN.{length}
 use Rattle.forms.specs.Cells.{arityOf}
@@ -17,7 +17,7 @@ use Rattle.pairing.specs.declared.Found.{Found}
 use Rattle.pairing.specs.declared.Found.the-variants as found
 use Rattle.pairing.specs.declared.Match.{Match}
 use Rattle.pairing.specs.declared.Match.the-variants as match
-use Rattle.pairing.specs.Pairing.{formsFrom, formIn, FirstTakeable, TakesFirst, Known, Compared, Stands, partsFrom, toCome, Finds, matchAt, Advances}
+use Rattle.pairing.specs.Pairing.{formsFrom, formIn, FirstTakeable, TakesFirst, Throughout, Compared, Stands, partsFrom, toCome, Finds, matchAt, Advances}
 use Rattle.pairing.proofs.RemainsLaws.{forms-none, Stop, remains-some}
 use Rattle.pairing.proofs.HandLaws.{form-in, hand-said}
 
@@ -37,7 +37,7 @@ pub record Advancing (cs : List ℕ) (x : Sides) (ps ks : List ℕ) (from : Curs
   pub stands : Stands cs x (cursor outer inner) hands form
   pub passed : toCome cs x ps ks from hands0 ≡ toCome cs x ps ks (cursor outer inner) hands
 
-module _ (cs : List ℕ) (x : Sides) (ps ks : List ℕ) (k : Known cs x ps ks) (from : Cursor) (hands0 : List ℕ) where
+module _ (cs : List ℕ) (x : Sides) (ps ks : List ℕ) (k : Throughout cs x ps ks) (from : Cursor) (hands0 : List ℕ) where
   pub advancing-begun : (form : List ℕ) → Stands cs x from hands0 form → Advancing cs x ps ks from hands0 (from .outer) (from .inner) hands0 form
   advancing-begun form s = record { stands = record { outer = s .outer; inner = s .inner }; passed = refl }
 
@@ -80,15 +80,9 @@ module _ (cs : List ℕ) (x : Sides) (ps ks : List ℕ) (k : Known cs x ps ks) (
           pub first-takeable : FirstTakeable cs x (y .leaf) hands′
           first-takeable = ((bounds-nodes cs (x .h) (k .bounds), stop .leaf-in), (stop .form, stop .path, stop .ground), k .first .few, omega (arith, f .1))
 
-          pub outer-rises : (y .next ≡ 0 → ⊥) → outer < y .next
-          outer-rises = stop .rises
-
           -- fewer are still to come
           pub advancing-less : length (formsFrom cs (x .h) (x .first .number) (y .next)) < length (formsFrom cs (x .h) (x .first .number) outer)
           advancing-less = omega (arith, ap length (stop .are))
-
-          pub outer-within : y .next ≤ x .h .answers
-          outer-within = stop .behind .within
 
           -- the next answer of the first in hand
           pub advancing-on : (hands″ : List ℕ) → TakesFirst cs x (y .leaf) hands′ hands″ → Advancing cs x ps ks from hands0 (y .next) (x .second .first) hands″ form′

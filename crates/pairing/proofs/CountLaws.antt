@@ -33,7 +33,7 @@ use Rattle.pairing.specs.declared.Match.the-variants as match
 use Rattle.pairing.specs.declared.Sums.{Sums}
 use Rattle.pairing.specs.declared.Counted.the-variants as counted
 use Rattle.pairing.specs.Pairing.{formsFrom, Remains, twoHands, mostTokens, Stands, partsFrom, toCome, FirstTooLong, Advances}
-use Rattle.pairing.specs.Counting.{beginning, allForms, Ready, oneMore, added, Counts}
+use Rattle.pairing.specs.Counting.{beginning, allForms, JoinReady, oneMore, added, CountsForms}
 use Rattle.agreement.proofs.ChainSteps.{chain-ends}
 use Rattle.pairing.proofs.RemainsLaws.{forms-none}
 use Rattle.pairing.proofs.FindLaws.{along-end}
@@ -41,7 +41,7 @@ use Rattle.pairing.proofs.FindLaws.{along-end}
 -- ---- the beginning
 
 module _ (cs : List ℕ) (x : Sides) (ps ks : List ℕ) where
-  pub begins : Ready cs x ps ks → (hands form : List ℕ) → length hands ≡ twoHands → length form ≡ mostTokens → Stands cs x (beginning x) hands form
+  pub begins : JoinReady cs x ps ks → (hands form : List ℕ) → length hands ≡ twoHands → length form ≡ mostTokens → Stands cs x (beginning x) hands form
   begins r hands form lh lf = record {
     outer = r .firsts;
     inner = record {
@@ -124,7 +124,7 @@ module _ (find : Finding) where
     pub lacking-most : y .lacking + length (toCome cs x ps ks at hands) ≤ length (allForms cs x ps ks)
 
   module _ (cs : List ℕ) (x : Sides) (root : ℕ) (ps ks : List ℕ) where
-    pub counting-begun : Ready cs x ps ks → (hands form : List ℕ) → length hands ≡ twoHands → length form ≡ mostTokens → Counting cs x root ps ks (beginning x) hands form noSums
+    pub counting-begun : JoinReady cs x ps ks → (hands form : List ℕ) → length hands ≡ twoHands → length form ≡ mostTokens → Counting cs x root ps ks (beginning x) hands form noSums
     counting-begun r hands form lh lf =
         let e = all-come cs x ps ks hands in
         record {
@@ -138,7 +138,7 @@ module _ (find : Finding) where
         }
 
     module _ (at : Cursor) (hands form : List ℕ) (y : Sums) (c : Counting cs x root ps ks at hands form y) (hands′ form′ : List ℕ) where
-      pub counted-end : Advances cs x ps ks at hands hands′ form′ match.End → Counts find cs x root ps ks (counted.Sums y)
+      pub counted-end : Advances cs x ps ks at hands hands′ form′ match.End → CountsForms find cs x root ps ks (counted.Sums y)
       unfolding allFit allSoundBy sumMissing sumLacking
       counted-end e s p = (
         c .fit ∙ ap (allFit (arityOf (x .h .edition))) e,
@@ -151,7 +151,7 @@ module _ (find : Finding) where
           and-true true = refl
           and-true false = refl
 
-      pub counted-long : Advances cs x ps ks at hands hands′ form′ match.TooLong → Counts find cs x root ps ks counted.TooLong
+      pub counted-long : Advances cs x ps ks at hands hands′ form′ match.TooLong → CountsForms find cs x root ps ks counted.TooLong
       counted-long e s p = c .fit ∙ ap (allFit (arityOf (x .h .edition))) (e .2) ∙ unfit-cons (arityOf (x .h .edition)) (e .0) (e .1) (e .3)
 
       module _ (next : Cursor) (n : ℕ) (a : Advances cs x ps ks at hands hands′ form′ (match.At next n)) (m : Met) (q : Searched find cs (x .h) root (take n form′) m) where
@@ -214,7 +214,7 @@ few-answers cs h y a b r =
 square : (m n : ℕ) → m ≤ 2 ^ 20 → n ≤ 2 ^ 20 → m * n ≤ 2 ^ 40
 square m n h k = omega (arith, mul-le-mul-left m k)
 
-pub all-few : (cs : List ℕ) (x : Sides) (ps ks : List ℕ) → Ready cs x ps ks → length (allForms cs x ps ks) ≤ 2 ^ 40
+pub all-few : (cs : List ℕ) (x : Sides) (ps ks : List ℕ) → JoinReady cs x ps ks → length (allForms cs x ps ks) ≤ 2 ^ 40
 all-few cs x ps ks r =
     let us = partsFrom cs (x .h) (x .first) (x .first .first) in
     let vs = partsFrom cs (x .h) (x .second) (x .second .first) in

@@ -19,7 +19,7 @@ use Rattle.parts.specs.declared.Together.{Together}
 use Rattle.parts.specs.declared.Together.the-variants.{Form, TooLong}
 use Rattle.pairing.specs.declared.Sides.{Sides}
 use Rattle.pairing.specs.declared.Found.the-variants as found
-use Rattle.pairing.specs.Pairing.{formsFrom, Remains, hand, twoHands, mostTokens, formIn, TakesSecond, SecondTakeable, HandsComparable, HandsCompare, HandsCopyable, HandsCopied, Known, Compared, partsFrom, alongHand, Finds}
+use Rattle.pairing.specs.Pairing.{formsFrom, Remains, hand, twoHands, mostTokens, formIn, TakesSecond, SecondTakeable, HandsComparable, HandsCompare, HandsCopyable, HandsCopied, Throughout, Compared, partsFrom, alongHand, Finds}
 use Rattle.pairing.proofs.RemainsLaws.{forms-none, Stop, remains-some}
 use Rattle.pairing.proofs.HandLaws.{hand-stays}
 use Rattle.space.proofs.HeaderLaws.{bounds-nodes}
@@ -69,7 +69,7 @@ pub record Finding (cs : List ℕ) (x : Sides) (ps ks : List ℕ) (from : ℕ) (
   pub hands-room : length hands ≡ twoHands
   pub form-room : length form ≡ mostTokens
 
-module _ (cs : List ℕ) (x : Sides) (ps ks : List ℕ) (k : Known cs x ps ks) (from : ℕ) (hands0 form0 : List ℕ) (o : Compared cs x from hands0 form0) where
+module _ (cs : List ℕ) (x : Sides) (ps ks : List ℕ) (k : Throughout cs x ps ks) (from : ℕ) (hands0 form0 : List ℕ) (o : Compared cs x from hands0 form0) where
   pub finding-begun : Finding cs x ps ks from hands0 from hands0 form0
   finding-begun = record { rest = o .rest; began = λ l. l; kept = refl; passed = refl; hands-room = o .hands-room; form-room = o .form-room }
 

@@ -19,7 +19,7 @@ use Rattle.trie.specs.Paths.{Path, none, tokens, below, gather, longest}
 use Rattle.trie.specs.Runs.{trieOf, pathTo, pathCells}
 use Rattle.trie.specs.declared.End.{End}
 use Rattle.trie.proofs.PathLaws.{gather-unsound, gather-root, gather-other, gather-deep, gather-up}
-use Rattle.pairing.specs.Pairing.{Gatherable, Gathers, Takeable}
+use Rattle.pairing.specs.Pairing.{Gatherable, Gathers, PathTakeable}
 use Rattle.pairing.proofs.HandLaws.{tokensOf, path-there, ground-short}
 
 none-not : {us : List ℕ} → none ≡ tokens us → ⊥
@@ -147,7 +147,7 @@ module _ (cs : List ℕ) (e : End) (cells : List ℕ) (k size : ℕ) (z : length
   gathered-there g l = path-there (pathTo cs e) cells (size - k) k (omega arith) (g l)
 
   -- the cells of a whole path are always enough
-  pub gathered-some : (m : ℕ) (held : List ℕ) (edition : ℕ) → Takeable cs e m held edition → size ≡ pathCells
+  pub gathered-some : (m : ℕ) (held : List ℕ) (edition : ℕ) → PathTakeable cs e m held edition → size ≡ pathCells
       → ((w : Word) → pathTo cs e ≡ tokens w → k ≡ 0 → length cells ≤ length w) → 0 < k
   gathered-some m held edition t y g =
       let s : length (t .1 .0) ≤ 383 = ground-short (arityOf edition) m (t .1 .0) (t .1 .2) in

@@ -16,12 +16,12 @@ use Rattle.plain.proofs.CompactCoding.{compact-laws}
 use Rattle.trie.specs.Paths.{Path, none, tokens}
 use Rattle.trie.specs.Runs.{pathTo}
 use Rattle.trie.specs.declared.End.{End}
-use Rattle.parts.specs.Parts.{startOf, GroundForm, handed, InHand}
+use Rattle.parts.specs.Parts.{startOf, GroundForm, tokensStart, InHand}
 use Rattle.parts.specs.Hands as hands
 use Rattle.parts.specs.declared.Together.{Together}
 use Rattle.forms.specs.Cells.{arityOf}
 use Rattle.pairing.specs.declared.Sides.{Sides}
-use Rattle.pairing.specs.Pairing.{hand, formIn, twoHands, Takeable, Takes, endOf, TakesSecond, HandsComparable, HandsCompare, HandsCopyable, HandsCopied}
+use Rattle.pairing.specs.Pairing.{hand, formIn, twoHands, PathTakeable, Takes, endOf, TakesSecond, HandsComparable, HandsCompare, HandsCopyable, HandsCopied}
 
 pub ground-short : (arity : ℕ → ℕ) (m : ℕ) (w : Word) → GroundForm arity m w → length w ≤ 383
 ground-short arity m w g = compact-laws arity .legal-short m w (g .legal)
@@ -35,8 +35,8 @@ start-end arity m w g =
 
 pub form-in : (arity : ℕ → ℕ) (m : ℕ) (w held : List ℕ) → InHand arity m w held → formIn m held ≡ w
 form-in arity m w held i =
-    let e : getD held m 0 - handed ≡ length w = omega (arith, i .starts m (omega arith), start-end arity m w (i .form)) in
-    ap (λ (n : ℕ). take n (drop handed held)) e ∙ i .tokens
+    let e : getD held m 0 - tokensStart ≡ length w = omega (arith, i .starts m (omega arith), start-end arity m w (i .form)) in
+    ap (λ (n : ℕ). take n (drop tokensStart held)) e ∙ i .tokens
 
 -- ---- only the cells of the hand matter
 
@@ -53,9 +53,9 @@ hand-kept arity m w held held′ i e l =
       form = i .form;
       few = i .few;
       room = omega arith;
-      tokens = take-within handed (length w) hand held′ (omega arith)
-          ∙ ap (λ (x : List ℕ). take (length w) (drop handed x)) e
-          ∙ sym (take-within handed (length w) hand held (omega arith))
+      tokens = take-within tokensStart (length w) hand held′ (omega arith)
+          ∙ ap (λ (x : List ℕ). take (length w) (drop tokensStart x)) e
+          ∙ sym (take-within tokensStart (length w) hand held (omega arith))
           ∙ i .tokens;
       starts = λ k b. sym (getD-take hand held′ k 0 (omega (arith, i .few))) ∙ ap (λ (x : List ℕ). getD x k 0) e ∙ getD-take hand held k 0 (omega (arith, i .few)) ∙ i .starts k b;
     }
@@ -87,7 +87,7 @@ path-there p ks n k l e =
     e ∙ ap tokens (sym (take-all n (drop k ks) (omega arith)))
 
 module _ (cs : List ℕ) (e : End) (m : ℕ) (held : List ℕ) (edition : ℕ) where
-  pub path-takeable : (form : List ℕ) → Takeable cs e m held edition → pathTo cs e ≡ tokens form → hands.Takeable edition m form held
+  pub path-takeable : (form : List ℕ) → PathTakeable cs e m held edition → pathTo cs e ≡ tokens form → hands.Takeable edition m form held
   path-takeable form k p =
       let q : k .1 .0 ≡ form = ap tokensOf (sym (k .1 .1) ∙ p) in
       let g : GroundForm (arityOf edition) m form = subst (GroundForm (arityOf edition) m) q (k .1 .2) in
@@ -97,7 +97,7 @@ module _ (cs : List ℕ) (e : End) (m : ℕ) (held : List ℕ) (edition : ℕ) w
   path-takes form held′ p t =
       (λ w q. subst (λ (v : Word). InHand (arityOf edition) m v held′) (ap tokensOf (sym p ∙ q)) (t .hand), t .size)
 
-  pub path-lost : Takeable cs e m held edition → pathTo cs e ≡ none → ⊥
+  pub path-lost : PathTakeable cs e m held edition → pathTo cs e ≡ none → ⊥
   path-lost k p = mathlib.Core.Bool.false≢true (ap isPath (sym p ∙ k .1 .1))
 
 -- ---- the second hand, as a part of the cells

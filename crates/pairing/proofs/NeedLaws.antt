@@ -29,7 +29,7 @@ use Rattle.pairing.specs.declared.Match.the-variants as match
 use Rattle.pairing.specs.declared.Needs.{Needs}
 use Rattle.pairing.specs.declared.Earlier.{Earlier}
 use Rattle.pairing.specs.Pairing.{twoHands, mostTokens, Stands, toCome, Advances}
-use Rattle.pairing.specs.Counting.{beginning, allForms, Ready, Fitting, backwards, EarlierOf, allShared, Meets, oneNew, needsMore, NeedsOf}
+use Rattle.pairing.specs.Counting.{beginning, allForms, JoinReady, Fitting, backwards, EarlierOf, allShared, MeetsOneMore, oneNew, needsMore, NeedsOf}
 use Rattle.pairing.proofs.CountLaws.{begins, all-come, fit-cons, met-walk}
 
 -- ---- lists
@@ -101,7 +101,7 @@ shared-same v w = by-cases (eqb (common v w) (length v))
     (λ e. rw e (sym (same-less v w (strictly (common v w) (length v) (common-most v w .0) (eqb-false _ _ e)))))
 
 -- what a form shares with one more before it
-pub meets : (e : Earlier) (v w : Word) (b : Earlier) → b .shared ≡ max (common v w) (e .shared) → (q : Bool) → q ≡ allShared (common v w) (length v) (length w) → b .held ≡ (q || e .held) → Meets e v w b
+pub meets : (e : Earlier) (v w : Word) (b : Earlier) → b .shared ≡ max (common v w) (e .shared) → (q : Bool) → q ≡ allShared (common v w) (length v) (length w) → b .held ≡ (q || e .held) → MeetsOneMore e v w b
 meets e v w b s q p h = λ before a d. (
   s ∙ ap (max (common v w)) a ∙ sym (most-cons v before w),
   h ∙ ap (λ (k : Bool). k || e .held) (p ∙ shared-same v w) ∙ ap (λ (k : Bool). same v w || k) d ∙ sym (has-cons v before w),
@@ -123,7 +123,7 @@ abbrev pub noneEarlier : Earlier
 noneEarlier = record { shared = 0; held = false }
 
 module _ (cs : List ℕ) (x : Sides) (ps ks : List ℕ) (w : Word) where
-  pub comparing-begun : Ready cs x ps ks → Fitting cs x ps ks → (hands form : List ℕ) → length hands ≡ twoHands → length form ≡ mostTokens
+  pub comparing-begun : JoinReady cs x ps ks → Fitting cs x ps ks → (hands form : List ℕ) → length hands ≡ twoHands → length form ≡ mostTokens
       → Comparing cs x ps ks w (beginning x) hands form 0 noneEarlier
   unfolding backwards most has
   comparing-begun r f hands form lh lf = record {
@@ -146,7 +146,7 @@ module _ (cs : List ℕ) (x : Sides) (ps ks : List ℕ) (w : Word) where
     pub comparing-short : (count : ℕ) → count ≤ length (allForms cs x ps ks) → i < count → toCome cs x ps ks at hands ≡ [] → ⊥
     comparing-short count l k z = omega (arith, ap length (c .are ∙ ap (λ (ws : List Word). c .done ++ ws) z ∙ append-nil (c .done)), c .passed)
 
-    pub comparing-on : (next : Cursor) (n : ℕ) → Advances cs x ps ks at hands hands′ form′ (match.At next n) → (b : Earlier) → Meets e (take n form′) w b
+    pub comparing-on : (next : Cursor) (n : ℕ) → Advances cs x ps ks at hands hands′ form′ (match.At next n) → (b : Earlier) → MeetsOneMore e (take n form′) w b
         → Comparing cs x ps ks w next hands′ form′ (i + 1) b
     comparing-on next n a b m =
         let v : Word = take n form′ in
@@ -203,7 +203,7 @@ module _ (find : Finding) where
     pub answers-most : y .answers + length (toCome cs x ps ks at hands) ≤ length (allForms cs x ps ks)
 
   module _ (cs : List ℕ) (x : Sides) (root : ℕ) (ps ks : List ℕ) where
-    pub needing-begun : Ready cs x ps ks → Fitting cs x ps ks → (hands form : List ℕ) → length hands ≡ twoHands → length form ≡ mostTokens
+    pub needing-begun : JoinReady cs x ps ks → Fitting cs x ps ks → (hands form : List ℕ) → length hands ≡ twoHands → length form ≡ mostTokens
         → Needing cs x root ps ks (beginning x) hands form 0 noNeeds
     unfolding backwards
     needing-begun r f hands form lh lf =

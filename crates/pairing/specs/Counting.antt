@@ -24,7 +24,7 @@ use Rattle.pairing.specs.declared.Counted.{Counted}
 use Rattle.pairing.specs.declared.Counted.the-variants as counted
 use Rattle.pairing.specs.declared.Needs.{Needs}
 use Rattle.pairing.specs.declared.Earlier.{Earlier}
-use Rattle.pairing.specs.Pairing.{Remains, Known, partsFrom}
+use Rattle.pairing.specs.Pairing.{Remains, Throughout, partsFrom}
 
 -- ---- all forms
 
@@ -39,8 +39,8 @@ allForms cs x ps ks =
     (partsFrom cs (x .h) (x .second) (x .second .first))
 
 -- what is known of a join before it begins
-pub record Ready (cs : List ℕ) (x : Sides) (ps ks : List ℕ) : Type 0 where
-  pub known : Known cs x ps ks
+pub record JoinReady (cs : List ℕ) (x : Sides) (ps ks : List ℕ) : Type 0 where
+  pub known : Throughout cs x ps ks
   pub firsts : Remains cs (x .h) (x .first) (x .first .first)
 
 -- each form fits
@@ -49,7 +49,7 @@ Fitting cs x ps ks = allFit (arityOf (x .h .edition)) (allForms cs x ps ks) ≡ 
 
 -- both: the nodes and answers that the forms need can be counted
 abbrev pub ReadyToCount : List ℕ → Sides → List ℕ → List ℕ → Type 0
-ReadyToCount cs x ps ks = Ready cs x ps ks × Fitting cs x ps ks
+ReadyToCount cs x ps ks = JoinReady cs x ps ks × Fitting cs x ps ks
 
 -- ---- by the searches alone
 
@@ -73,8 +73,8 @@ CountedOf find v s arity ws (counted.Sums y) =
 CountedOf find v s arity ws counted.TooLong = allFit arity ws ≡ false
 
 -- for whichever target has this answer root
-abbrev pub Counts : Finding → List ℕ → Sides → ℕ → List ℕ → List ℕ → Counted → Type 0
-Counts find cs x root ps ks r =
+abbrev pub CountsForms : Finding → List ℕ → Sides → ℕ → List ℕ → List ℕ → Counted → Type 0
+CountsForms find cs x root ps ks r =
     (s : ℕ) → root ≡ subgoalUnder cs (x .h) s .root
     → CountedOf find (viewIn cs (x .h)) s (arityOf (x .h .edition)) (allForms cs x ps ks) r
 
@@ -90,8 +90,8 @@ abbrev pub EarlierOf : List Word → ℕ → Word → Earlier → Type 0
 EarlierOf ws k w r = (r .shared ≡ most (backwards (take k ws) []) w) × (r .held ≡ has (backwards (take k ws) []) w)
 
 -- and with one form more
-abbrev pub Meets : Earlier → Word → Word → Earlier → Type 0
-Meets a v w b =
+abbrev pub MeetsOneMore : Earlier → Word → Word → Earlier → Type 0
+MeetsOneMore a v w b =
     (before : List Word) → a .shared ≡ most before w → a .held ≡ has before w
     → (b .shared ≡ most (v ∷ before) w) × (b .held ≡ has (v ∷ before) w)
 

@@ -17,7 +17,7 @@ use Rattle.trie.specs.Runs.{Ends, pathTo}
 use Rattle.trie.specs.declared.End.{End}
 use Rattle.store.specs.Decisions.{Chain, broken, unbroken, chainFrom}
 use Rattle.store.specs.Contracts.{viewIn}
-use Rattle.parts.specs.Parts.{parts, GroundForm, AllGround, handed, InHand}
+use Rattle.parts.specs.Parts.{parts, GroundForm, AllGround, tokensStart, InHand}
 use Rattle.parts.specs.Hands.{Comparable, Compares, Copyable, Copies}
 use Rattle.parts.specs.declared.Together.{Together}
 use Rattle.pairing.specs.declared.Source.{Source}
@@ -68,7 +68,7 @@ mostTokens = 383
 
 -- the form of m terms that is in a hand
 abbrev pub formIn : ℕ → List ℕ → Word
-formIn m held = take (getD held m 0 - handed) (drop handed held)
+formIn m held = take (getD held m 0 - tokensStart) (drop tokensStart held)
 
 -- there is a path to an end
 abbrev pub Gatherable : List ℕ → End → Type 0
@@ -82,8 +82,8 @@ Gathers cs e cells cells′ k =
     × (length cells′ ≡ length cells)
 
 -- the path to an end is the form of m terms without variables, and there is room for it
-abbrev pub Takeable : List ℕ → End → ℕ → List ℕ → ℕ → Type 0
-Takeable cs e m held edition =
+abbrev pub PathTakeable : List ℕ → End → ℕ → List ℕ → ℕ → Type 0
+PathTakeable cs e m held edition =
     Ends cs e × ((w : Word) × (pathTo cs e ≡ tokens w) × GroundForm (arityOf edition) m w) × (m ≤ 32)
     × (hand ≤ length held)
 
@@ -98,7 +98,7 @@ endOf h x leaf = record { nodes = h .nodes; links = h .answers; root = x .root; 
 
 abbrev pub FirstTakeable : List ℕ → Sides → ℕ → List ℕ → Type 0
 FirstTakeable cs x leaf hands =
-    Takeable cs (endOf (x .h) (x .first) leaf) (x .first .variables) hands (x .h .edition)
+    PathTakeable cs (endOf (x .h) (x .first) leaf) (x .first .variables) hands (x .h .edition)
 
 abbrev pub TakesFirst : List ℕ → Sides → ℕ → List ℕ → List ℕ → Type 0
 TakesFirst cs x leaf hands hands′ =
@@ -107,7 +107,7 @@ TakesFirst cs x leaf hands hands′ =
 abbrev pub SecondTakeable : List ℕ → Sides → ℕ → List ℕ → Type 0
 SecondTakeable cs x leaf hands =
     (twoHands ≤ length hands)
-    × Takeable cs (endOf (x .h) (x .second) leaf) (x .second .variables) (drop hand hands) (x .h .edition)
+    × PathTakeable cs (endOf (x .h) (x .second) leaf) (x .second .variables) (drop hand hands) (x .h .edition)
 
 -- the first hand stays
 abbrev pub TakesSecond : List ℕ → Sides → ℕ → List ℕ → List ℕ → Type 0
@@ -132,7 +132,7 @@ HandsCopied edition ks hands form form′ r = Copies edition ks hands (drop hand
 -- ---- where a join stands
 
 -- what is known of a join throughout: header, sources, names
-pub record Known (cs : List ℕ) (x : Sides) (ps ks : List ℕ) : Type 0 where
+pub record Throughout (cs : List ℕ) (x : Sides) (ps ks : List ℕ) : Type 0 where
   pub bounds : Bounds cs (x .h)
   pub first : SourceIn cs (x .h) (x .first)
   pub second : SourceIn cs (x .h) (x .second)

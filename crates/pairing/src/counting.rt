@@ -18,8 +18,8 @@ ghost use mathlib.Core.Bool.{_&&_, _||_};
 ghost use lib.ListN.{length};
 ghost use Rattle.basis.specs.Moments.{old};
 ghost use Rattle.trie.specs.Index.{searchIndexed};
-ghost use Rattle.pairing.specs.Counting.{beginning, allForms, Ready, oneMore, added, Counts, ReadyToCount};
-ghost use Rattle.pairing.specs.Counting.{EarlierOf, allShared, Meets, oneNew, needsMore, NeedsOf};
+ghost use Rattle.pairing.specs.Counting.{beginning, allForms, JoinReady, oneMore, added, CountsForms, ReadyToCount};
+ghost use Rattle.pairing.specs.Counting.{EarlierOf, allShared, MeetsOneMore, oneNew, needsMore, NeedsOf};
 
 // Where a join begins: nothing is in hand.
 pub fn begin(x: Sides) -> Cursor
@@ -73,8 +73,8 @@ pub fn count(
     copies: &[u32],
     index: &[u32],
 ) -> Counted
-    requires { ⌜ Ready (now space) x (now pairs) (now copies) × (root < x .h .nodes) ⌝ }
-    ensures { λ r. ⌜ Counts (searchIndexed (old index)) (old space) x root (old pairs) (old copies) r ⌝ }
+    requires { ⌜ JoinReady (now space) x (now pairs) (now copies) × (root < x .h .nodes) ⌝ }
+    ensures { λ r. ⌜ CountsForms (searchIndexed (old index)) (old space) x root (old pairs) (old copies) r ⌝ }
 {
     let mut hands = [0u32; HANDS];
     let mut form = [0u32; MOST_TOKENS];
@@ -128,7 +128,7 @@ fn all_shared(k: usize, n: usize, m: usize) -> bool
 
 // What the form shares with those before it, with one of them more.
 fn meet(e: Earlier, other: &[u32], form: &[u32]) -> Earlier
-    ensures { λ r. ⌜ Meets e (old other) (old form) r ⌝ }
+    ensures { λ r. ⌜ MeetsOneMore e (old other) (old form) r ⌝ }
 {
     let k = common(other, form);
     let shared = larger(k, e.shared);

@@ -14,10 +14,10 @@ use trie::End;
 use trie::paths::CELLS;
 ghost use mathlib.Core.Path.{_≡_};
 ghost use Rattle.basis.specs.Moments.{old, new};
-ghost use Rattle.pairing.specs.Pairing.{Gatherable, Gathers, Takeable, Takes};
+ghost use Rattle.pairing.specs.Pairing.{Gatherable, Gathers, PathTakeable, Takes};
 ghost use Rattle.pairing.specs.Pairing.{FirstTakeable, TakesFirst, SecondTakeable, TakesSecond};
 ghost use Rattle.pairing.specs.Pairing.{HandsComparable, HandsCompare, HandsCopyable, HandsCopied};
-ghost use Rattle.pairing.specs.Pairing.{Known, Compared, Stands, Finds, matchAt, Advances};
+ghost use Rattle.pairing.specs.Pairing.{Throughout, Compared, Stands, Finds, matchAt, Advances};
 
 // The cells of two hands: the first's answer is in the one, the second's in the other.
 pub const HANDS: usize = 2 * HAND;
@@ -49,7 +49,7 @@ fn gather_path(space: &[u32], end: End, cells: &mut [u32]) -> usize
 
 // The answer of m terms whose path ends here, taken in hand, however long the path is.
 fn take_long(space: &[u32], end: End, m: usize, held: &mut [u32], edition: u32)
-    requires { ⌜ Takeable (now space) end m (now held) edition ⌝ }
+    requires { ⌜ PathTakeable (now space) end m (now held) edition ⌝ }
     ensures { λ _. ⌜ Takes (old space) end m (old held) (new held) edition ⌝ }
 {
     let mut path = [0u32; CELLS];
@@ -59,7 +59,7 @@ fn take_long(space: &[u32], end: End, m: usize, held: &mut [u32], edition: u32)
 
 // The same, in few cells where they are enough.
 fn take_path(space: &[u32], end: End, m: usize, held: &mut [u32], edition: u32)
-    requires { ⌜ Takeable (now space) end m (now held) edition ⌝ }
+    requires { ⌜ PathTakeable (now space) end m (now held) edition ⌝ }
     ensures { λ _. ⌜ Takes (old space) end m (old held) (new held) edition ⌝ }
 {
     let mut path = [0u32; FEW];
@@ -131,7 +131,7 @@ fn find_match(
     copies: &[u32],
     form: &mut [u32],
 ) -> Found
-    requires { ⌜ Known (now space) x (now pairs) (now copies) ⌝ }
+    requires { ⌜ Throughout (now space) x (now pairs) (now copies) ⌝ }
     requires { ⌜ Compared (now space) x from (now hands) (now form) ⌝ }
     ensures { λ r. ⌜ Finds (old space) x (old pairs) (old copies) from (old hands) (new hands) (new form) r ⌝ }
 {
@@ -178,7 +178,7 @@ pub fn advance(
     copies: &[u32],
     form: &mut [u32],
 ) -> Match
-    requires { ⌜ Known (now space) x (now pairs) (now copies) ⌝ }
+    requires { ⌜ Throughout (now space) x (now pairs) (now copies) ⌝ }
     requires { ⌜ Stands (now space) x from (now hands) (now form) ⌝ }
     ensures { λ r. ⌜ Advances (old space) x (old pairs) (old copies) from (old hands) (new hands) (new form) r ⌝ }
 {

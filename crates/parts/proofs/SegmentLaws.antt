@@ -11,7 +11,7 @@ use Rattle.forms.specs.Terms.{Term, every}
 use Rattle.forms.specs.Compact.{compact, formTerms}
 use Rattle.plain.specs.Words.{Word}
 use Rattle.plain.specs.Joins.{termAt}
-use Rattle.parts.specs.Parts.{parts, handed, InHand}
+use Rattle.parts.specs.Parts.{parts, tokensStart, InHand}
 use Rattle.parts.specs.Segments.{from, until, Spans, segment}
 use Rattle.parts.proofs.GroundForms.{form-count, form-tokens}
 
@@ -59,10 +59,10 @@ module _ (arity : ℕ → ℕ) (m : ℕ) (w : Word) (held : List ℕ) (hand : In
   whole : length (every compact ts) ≡ length w
   whole = sym (ap length (form-tokens arity m w (hand .form)))
 
-  begins : from held i ≡ handed + length (every compact (take i ts))
+  begins : from held i ≡ tokensStart + length (every compact (take i ts))
   begins = hand .starts i (omega arith)
 
-  ends : until held i ≡ handed + length (every compact (take (suc i) ts))
+  ends : until held i ≡ tokensStart + length (every compact (take (suc i) ts))
   ends = hand .starts (i + 1) (omega arith) ∙ rw add-one
 
   pub hand-spans : Spans held i
@@ -78,6 +78,6 @@ module _ (arity : ℕ → ℕ) (m : ℕ) (w : Word) (held : List ℕ) (hand : In
       let a : ℕ = length (every compact (take i ts)) in
       let b : ℕ = length (every compact (take (suc i) ts)) in
       let k : b ≤ length w = omega (arith, every-within ts (suc i), whole) in
-      rw (begins, ends, slice-behind handed a b held)
-      (ap (λ (l : List ℕ). drop a l) (sym (take-take b (length w) (drop handed held) k) ∙ ap (take b) (hand .tokens ∙ form-tokens arity m w (hand .form)))
+      rw (begins, ends, slice-behind tokensStart a b held)
+      (ap (λ (l : List ℕ). drop a l) (sym (take-take b (length w) (drop tokensStart held) k) ∙ ap (take b) (hand .tokens ∙ form-tokens arity m w (hand .form)))
       ∙ every-slice ts i (omega (arith, form-count arity m w (hand .form))))

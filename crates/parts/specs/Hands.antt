@@ -8,7 +8,7 @@ use Rattle.forms.specs.Cells.{arityOf}
 use Rattle.forms.specs.Compact.{pairForm}
 use Rattle.plain.specs.Words.{Word}
 use Rattle.plain.specs.Joins.{matching, copied, pairsNamed, copiesNamed}
-use Rattle.parts.specs.Parts.{parts, GroundForm, handed, InHand}
+use Rattle.parts.specs.Parts.{parts, GroundForm, tokensStart, InHand}
 use Rattle.parts.specs.declared.Together.{Together}
 use Rattle.parts.specs.declared.Together.the-variants.{Form, TooLong}
 
@@ -17,8 +17,8 @@ use Rattle.parts.specs.declared.Together.the-variants.{Form, TooLong}
 -- a form of m terms without variables, and room for it
 pub record Takeable (e m : ℕ) (form held : List ℕ) : Type 0 where
   pub ground : GroundForm (arityOf e) m form
-  pub few : m < handed
-  pub room : handed + length form ≤ length held
+  pub few : m < tokensStart
+  pub room : tokensStart + length form ≤ length held
 
 -- it is in hand
 pub record Taken (e m : ℕ) (form held held′ : List ℕ) : Type 0 where

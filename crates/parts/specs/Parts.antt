@@ -27,19 +27,19 @@ pub record GroundForm (arity : ℕ → ℕ) (m : ℕ) (w : Word) : Type 0 where
   pub legal : legalForm arity m w ≡ true
   pub ground : length (met [] w) ≡ 0
 
--- ---- an answer in hand: cells that hold where each of its terms begins, and from `handed` on its tokens
+-- ---- an answer in hand: cells that hold where each of its terms begins, and from `tokensStart` on its tokens
 
 -- the terms are at most 32, and the last of them has an end
-abbrev pub handed : ℕ
-handed = 33
+abbrev pub tokensStart : ℕ
+tokensStart = 33
 
 -- the form w of m terms is in hand
 pub record InHand (arity : ℕ → ℕ) (m : ℕ) (w : Word) (held : List ℕ) : Type 0 where
   pub form : GroundForm arity m w
-  pub few : m < handed
-  pub room : handed + length w ≤ length held
-  pub tokens : take (length w) (drop handed held) ≡ w
-  pub starts : (i : ℕ) → i ≤ m → getD held i 0 ≡ handed + startOf arity w i
+  pub few : m < tokensStart
+  pub room : tokensStart + length w ≤ length held
+  pub tokens : take (length w) (drop tokensStart held) ≡ w
+  pub starts : (i : ℕ) → i ≤ m → getD held i 0 ≡ tokensStart + startOf arity w i
 
 -- ---- forms put together
 

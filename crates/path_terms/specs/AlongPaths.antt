@@ -24,8 +24,8 @@ abbrev pub loadedFrom : (ℕ → ℕ) → Path → ℕ → Decision
 loadedFrom arity p m = onPath p (legalForm arity m) (λ w. gives (pairForm arity w))
 
 -- a path was loaded into out
-abbrev pub Loads : ℕ → Path → ℕ → List ℕ → Answer → List ℕ → Type 0
-Loads edition p m out r out′ = (v : View) → Leaves v (loadedFrom (arityOf edition) p m) out (saidCells r) out′
+abbrev pub LoadsPath : ℕ → Path → ℕ → List ℕ → Answer → List ℕ → Type 0
+LoadsPath edition p m out r out′ = (v : View) → Leaves v (loadedFrom (arityOf edition) p m) out (saidCells r) out′
 
 -- what a form is worth, held against m legal terms: one more than its variables; 0 where it is none, or where it is
 -- to be called and begins with neither an atom nor a functor

@@ -26,7 +26,7 @@ ghost use Rattle.convert.specs.Holds.{RoomForTerms};
 ghost use Rattle.plain.specs.Coding.{predicate};
 ghost use Rattle.trie.specs.Paths.{tokens};
 ghost use Rattle.trie.specs.Runs.{Ends, pathTo};
-ghost use Rattle.path_terms.specs.AlongPaths.{formWorth, worth, Loads, InstancesUnder, InstancesTo};
+ghost use Rattle.path_terms.specs.AlongPaths.{formWorth, worth, LoadsPath, InstancesUnder, InstancesTo};
 
 // Does the form begin with an atom or a functor?
 fn begins(form: &[u32]) -> bool
@@ -96,7 +96,7 @@ pub fn path_worth(space: &[u32], end: End, m: usize, called: bool, edition: u32)
 
 // A gathered path in pair form; what is no legal form is damage.
 fn expand_path(path: &[u32], m: usize, out: &mut [u32], edition: u32) -> Answer
-    ensures { λ r. ⌜ Loads edition (tokens (old path)) m (old out) r (new out) ⌝ }
+    ensures { λ r. ⌜ LoadsPath edition (tokens (old path)) m (old out) r (new out) ⌝ }
 {
     let expanded = expand_terms(path, m, out, edition);
     match expanded {
@@ -109,7 +109,7 @@ fn expand_path(path: &[u32], m: usize, out: &mut [u32], edition: u32) -> Answer
 // The terms of an answer, by its path from the leaf up.
 pub fn load_path(space: &[u32], end: End, m: usize, out: &mut [u32], edition: u32) -> Answer
     requires { ⌜ Ends (now space) end ⌝ }
-    ensures { λ r. ⌜ Loads edition (pathTo (old space) end) m (old out) r (new out) ⌝ }
+    ensures { λ r. ⌜ LoadsPath edition (pathTo (old space) end) m (old out) r (new out) ⌝ }
 {
     let mut cells = [0u32; LEVELS];
     let short = short_path(space, end, &mut cells);

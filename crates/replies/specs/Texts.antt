@@ -7,7 +7,7 @@ use Rattle.plain.specs.Requests.{Reply, new, oldSubgoal, oldAnswer, done, at, n
 use Rattle.plain.specs.Requests.{refused, short}
 use Rattle.text.specs.Letters.{letters}
 use Rattle.text.specs.Fields.{space, cellDigits}
-use Rattle.text.specs.Digits.{cellTexts, numbered, Puts}
+use Rattle.text.specs.Digits.{cellTexts, wordAndNumber, Puts}
 
 abbrev pub textNew : List ℕ
 textNew = letters "new"
@@ -53,7 +53,7 @@ stateText Open = textOpen
 stateText Finished = textFinished
 
 abbrev pub countsText : ℕ → ℕ → ℕ → List ℕ
-countsText nodes subgoals answers = numbered (numbered (numbered textCounts nodes) subgoals) answers
+countsText nodes subgoals answers = wordAndNumber (wordAndNumber (wordAndNumber textCounts nodes) subgoals) answers
 
 -- the refusal of an out that is too short
 abbrev pub refusedShort : ℕ
@@ -62,18 +62,18 @@ refusedShort = 12
 -- the cells printed are those written to out; an out that is too short has its need not printed; no line asks for a
 -- join
 unfoldable pub replyText : Reply → List ℕ → List ℕ
-replyText (new n) out = numbered textNew n
-replyText (oldSubgoal n s) out = numbered textOld n ++ (space ∷ stateText s)
-replyText (oldAnswer n) out = numbered textOld n
+replyText (new n) out = wordAndNumber textNew n
+replyText (oldSubgoal n s) out = wordAndNumber textOld n ++ (space ∷ stateText s)
+replyText (oldAnswer n) out = wordAndNumber textOld n
 replyText done out = textDone
-replyText (at n) out = numbered textAt n
+replyText (at n) out = wordAndNumber textAt n
 replyText noneYet out = textNoneYet
 replyText noMore out = textNoMore
 replyText (cells n) out = textCells ++ cellTexts (take n out)
 replyText (used y) out = countsText (y .nodes) (y .subgoals) (y .answers)
-replyText (joined n) out = numbered textJoined n
-replyText (refused r) out = numbered textRefused r
-replyText (short n) out = numbered textRefused refusedShort
+replyText (joined n) out = wordAndNumber textJoined n
+replyText (refused r) out = wordAndNumber textRefused r
+replyText (short n) out = wordAndNumber textRefused refusedShort
 
 -- the room for any reply and its newline: a space and 8 digits for each cell of out, and so many bytes besides
 abbrev pub replyBytes : ℕ

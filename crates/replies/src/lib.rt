@@ -22,7 +22,7 @@ ghost use Rattle.basis.specs.Moments.{old, new};
 ghost use Rattle.plain.specs.Requests.{cells, lacksNext};
 ghost use Rattle.store.specs.Replies.{saidState, saidCall, saidAnswer, saidFinish, saidNext, saidCells, saidCounts};
 ghost use Rattle.text.specs.Fields.{space};
-ghost use Rattle.text.specs.Digits.{numbered, Puts};
+ghost use Rattle.text.specs.Digits.{wordAndNumber, Puts};
 ghost use Rattle.replies.specs.Texts.{textBad, textRefused, stateText, countsText};
 ghost use Rattle.replies.specs.Texts.{replyText, replyBytes, textRoom, PrintsReply};
 
@@ -43,7 +43,7 @@ pub fn print_bad(text: &mut [u8]) -> usize
 // A refusal prints its number alone, so one function serves every call.
 fn print_refused(number: u32, text: &mut [u8]) -> usize
     requires { ⌜ replyBytes ≤ length (now text) ⌝ }
-    ensures { λ r. ⌜ Puts 0 (numbered textRefused number) (old text) r (new text) ⌝ }
+    ensures { λ r. ⌜ Puts 0 (wordAndNumber textRefused number) (old text) r (new text) ⌝ }
 {
     put_numbered(b"refused", number, text, 0)
 }

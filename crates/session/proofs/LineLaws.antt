@@ -10,7 +10,7 @@ use lib.Dec.{leb}
 use borrow.Author.Tests.{le-leb, lt-leb, leb-true, leb-false}
 use Rattle.basis.proofs.Cases.{by-cases}
 use Rattle.forms.specs.Compact.{same}
-use Rattle.text.specs.Fields.{Fields, fields, Number, noNumber, number, Cells, noCells, cellsOf, firstNumber, behind, onlyNumber, hexCells}
+use Rattle.text.specs.Fields.{Fields, fields, Number, noNumber, someNumber, Cells, noCells, someCells, firstNumber, behind, onlyNumber, hexCells}
 use Rattle.text.specs.Digits.{Puts}
 use Rattle.text.specs.Places.{restAt, EndsFirst}
 use Rattle.basis.proofs.SetsLaws.{sets-append}
@@ -19,7 +19,7 @@ use Rattle.store.specs.Calls.{spaceStep}
 use Rattle.asking.specs.Lines.{Meaning, bad, asks, withCells, withNumber, oneNumber, twoNumbers, numberAndCells, noField, wordCall, wordAnswer, wordFinish, wordNext, wordLoad, wordInstance, wordCounts, wordMeans, means, meansCall, meansAnswer, meansFinish, meansNext, meansLoad, meansInstance, meansCounts}
 use Rattle.text.specs.Cutting.{newline}
 use Rattle.replies.specs.Texts.{textRoom}
-use Rattle.asking.specs.Saying.{Said, outLeft, says}
+use Rattle.asking.specs.Saying.{Said, outLeft, saidOf}
 use Rattle.asking.specs.Asking.{Prints}
 use Rattle.asking.proofs.AskingLaws.{bad-out, asks-out}
 use Rattle.session.specs.Session.{Response, response, responding}
@@ -35,7 +35,7 @@ flat p = (p .0 .0, (p .0 .1, p .1))
 
 module _ (space out : List ℕ) where
   abbrev Keeps : Meaning → Type 0
-  Keeps m = out ≡ says spaceStep m space out .out
+  Keeps m = out ≡ saidOf spaceStep m space out .out
 
   bad-keeps : Keeps bad
   bad-keeps = bad-out space out bad refl
@@ -45,11 +45,11 @@ module _ (space out : List ℕ) where
 
   cells-keep : (q : List ℕ → Request) → ((ks o : List ℕ) → outLeft (q ks) out o ≡ out) → (cs : Cells) → Keeps (withCells cs q)
   cells-keep q k noCells = bad-keeps
-  cells-keep q k (cellsOf ks) = asks-keeps (q ks) (k ks)
+  cells-keep q k (someCells ks) = asks-keeps (q ks) (k ks)
 
   number-keeps : (m : ℕ → Meaning) → ((n : ℕ) → Keeps (m n)) → (k : Number) → Keeps (withNumber k m)
   number-keeps m k noNumber = bad-keeps
-  number-keeps m k (number n) = k n
+  number-keeps m k (someNumber n) = k n
 
   call-keeps : (fs : List (List ℕ)) → Keeps (withCells (hexCells fs) call)
   call-keeps fs = cells-keep call (λ ks o. refl) (hexCells fs)
@@ -165,7 +165,7 @@ silent-keeps space out fs keyword.Other u = bad-keeps space out
 -- what the call of its keyword prints and leaves is what the line asks for
 module _ (line space out : List ℕ) (at : ℕ) (e : EndsFirst line at) (k : Keyword) (q : k ≡ keywordOf (take at line)) where
   abbrev asked : Said (List ℕ)
-  asked = says spaceStep (meansBy k (restAt line at) out) space out
+  asked = saidOf spaceStep (meansBy k (restAt line at) out) space out
 
   pub keyword-leaves : (text after space′ out′ : List ℕ) (end : ℕ) → Prints asked text end after space′ → out′ ≡ asked .out
       → WordPuts line space out text end after × ((space′ ≡ wordSaid line space out .state) × (out′ ≡ wordSaid line space out .out))
@@ -189,7 +189,7 @@ means-long line out h = rw (lt-leb _ _ h)
 
 module _ (line text space out after : List ℕ) (end : ℕ) where
   abbrev answered : Said (List ℕ)
-  answered = says spaceStep (means line out) space out
+  answered = saidOf spaceStep (means line out) space out
 
   pub response-none : length text < textRoom (length out) → response 0 text space out ≡ responding line text space out
   unfolding responding

@@ -23,17 +23,17 @@ use Rattle.store.specs.Decisions.{Decision, says as decides, gives, entersSubgo
 use Rattle.store.specs.Calls.{outAfter, underBy, underAny, underAnyBy, spaceStep, spaceStepBy}
 use Rattle.store.specs.Views.{viewOf}
 use Rattle.plain.specs.Coding.{codingOf}
-use Rattle.text.specs.Fields.{Fields, fields, Number, noNumber, number, Cells, noCells, cellsOf, firstNumber, behind, onlyNumber, hexCells}
-use Rattle.text.specs.Cutting.{newline, Lines, linesFrom, lastLine, linesOf, joined, keptMore, taking, Keeps}
+use Rattle.text.specs.Fields.{Fields, fields, Number, noNumber, someNumber, Cells, noCells, someCells, firstNumber, behind, onlyNumber, hexCells}
+use Rattle.text.specs.Cutting.{newline, Lines, linesFrom, lastLine, linesOf, concatenated, keptMore, taking, Keeps}
 use Rattle.text.specs.declared.Taking.{Taking}
 use Rattle.text.specs.declared.Taking.the-variants.{Line, More}
 use Rattle.text.proofs.CuttingLaws.{keeps-more, lines-end, lines-on, taking-end, taking-on, rest-behind}
 use Rattle.asking.specs.Lines.{Meaning, bad, asks, withCells, withNumber, longestLine, meansCounts, wordMeans, means, wordCall, wordAnswer, wordFinish, wordNext, wordLoad, wordInstance, wordCounts}
 use Rattle.replies.specs.Texts.{textRoom}
 use Rattle.session.specs.Numbers.{sessionNodes, sessionSubgoals, sessionAnswers, startSpace}
-use Rattle.asking.specs.Saying.{Said, outLeft, says}
+use Rattle.asking.specs.Saying.{Said, outLeft, saidOf}
 use Rattle.session.specs.Session.{session, Response, responding}
-use Rattle.session.specs.Program.{responses, Responded, Held, Turn, turn, withLine, answersLine, keepsByte, feed, lastPrinted, runs, goesOn, TurnByTurn, Ready, starts, AnyInput, Lengths, Started, Sessions}
+use Rattle.session.specs.Program.{responses, Responded, Holding, Turn, turn, withLine, answersLine, keepsByte, feed, lastPrinted, runs, goesOn, TurnByTurn, Ready, starts, AnyInput, Lengths, Started, Sessions}
 use Rattle.session.proofs.LineLaws.{means-long}
 use Rattle.session.proofs.Theorem.{printed}
 
@@ -78,10 +78,10 @@ left-alike (instance a o′) out o p e = e
 left-alike counts out o p e = refl
 left-alike (join f g ps s ks) out o p e = refl
 
-says-out : (m : Meaning) (space out : List ℕ) → Lends out m → length (says spaceStep m space out .out) ≡ length out
-unfolding says
-says-out bad space out l = refl
-says-out (asks q) space out l = left-alike q out (spaceStep space q .out) (lent q) (step-out space q) ∙ l
+said-out : (m : Meaning) (space out : List ℕ) → Lends out m → length (saidOf spaceStep m space out .out) ≡ length out
+unfolding saidOf
+said-out bad space out l = refl
+said-out (asks q) space out l = left-alike q out (spaceStep space q .out) (lent q) (step-out space q) ∙ l
 
 module _ (out : List ℕ) where
   picks-lend : (b : Bool) (m n : Meaning) → Lends out m → Lends out n → Lends out (pick b m n)
@@ -90,11 +90,11 @@ module _ (out : List ℕ) where
 
   cells-lend : (q : List ℕ → Request) → ((ks : List ℕ) → Lends out (asks (q ks))) → (cs : Cells) → Lends out (withCells cs q)
   cells-lend q l noCells = tt
-  cells-lend q l (cellsOf ks) = l ks
+  cells-lend q l (someCells ks) = l ks
 
   number-lends : (m : ℕ → Meaning) → ((n : ℕ) → Lends out (m n)) → (k : Number) → Lends out (withNumber k m)
   number-lends m l noNumber = tt
-  number-lends m l (number n) = l n
+  number-lends m l (someNumber n) = l n
 
   counts-lend : (fs : List (List ℕ)) → Lends out (meansCounts fs)
   counts-lend [] = refl
@@ -118,14 +118,14 @@ module _ (out : List ℕ) where
   unfolding means
   line-lends line = picks-lend (leb (length line) longestLine) _ _ (word-lends (fields line)) tt
 
-pub out-kept : (line space out : List ℕ) → length (says spaceStep (means line out) space out .out) ≡ length out
-out-kept line space out = says-out (means line out) space out (line-lends out line)
+pub out-kept : (line space out : List ℕ) → length (saidOf spaceStep (means line out) space out .out) ≡ length out
+out-kept line space out = said-out (means line out) space out (line-lends out line)
 
 -- ---- one response
 
 module _ (line text space out : List ℕ) (room : textRoom (length out) ≤ length text) where
   abbrev said : Said (List ℕ)
-  said = says spaceStep (means line out) space out
+  said = saidOf spaceStep (means line out) space out
 
   abbrev got : Response
   got = responding line text space out
@@ -159,7 +159,7 @@ unfolding responses session
 responded [] text space out room = refl
 responded (line ∷ lines) text space out room =
     let r = responding line text space out in
-    let s = says spaceStep (means line out) space out in
+    let s = saidOf spaceStep (means line out) space out in
     let e = responded lines (r .text) (r .space) (r .out) (response-room line text space out room) in
     rw (response-printed line text space out room, e, response-space line text space out room, response-out line text space out room)
     (append-assoc (s .text) (newline ∷ []) (session spaceStep lines (s .state) (s .out)))
@@ -177,10 +177,10 @@ means-cut line out most h =
 -- ---- chunks
 
 -- a turn and what follows it
-abbrev then : Turn → (Held → Turn) → Turn
+abbrev then : Turn → (Holding → Turn) → Turn
 then r later = turn (r .printed ++ later (r .holds) .printed) (later (r .holds) .holds)
 
-feed-append : (xs ys : List ℕ) (p : Held) → feed (xs ++ ys) p ≡ then (feed xs p) (feed ys)
+feed-append : (xs ys : List ℕ) (p : Holding) → feed (xs ++ ys) p ≡ then (feed xs p) (feed ys)
 unfolding feed
 feed-append [] ys p = refl
 feed-append (b ∷ xs) ys p =
@@ -189,7 +189,7 @@ feed-append (b ∷ xs) ys p =
     ap (λ (t : Turn). turn (now .printed ++ t .printed) (t .holds)) (feed-append xs ys (now .holds))
     ∙ ap (λ (l : List ℕ). turn l (feed ys (r .holds) .holds)) (sym (append-assoc (now .printed) (r .printed) (feed ys (r .holds) .printed)))
 
-module _ (bs : List ℕ) (p : Held) (b : ℕ) where
+module _ (bs : List ℕ) (p : Holding) (b : ℕ) where
   feed-end : eqb b newline ≡ true → feed (b ∷ bs) p ≡ then (answersLine p) (feed bs)
   unfolding feed
   feed-end t = rw t
@@ -199,40 +199,40 @@ module _ (bs : List ℕ) (p : Held) (b : ℕ) where
   feed-on t = rw t
 
 session-line : (line : List ℕ) (lines : List (List ℕ)) (space out : List ℕ)
-    → (let r = says spaceStep (means line out) space out in r .text ++ (newline ∷ session spaceStep lines (r .state) (r .out)))
+    → (let r = saidOf spaceStep (means line out) space out in r .text ++ (newline ∷ session spaceStep lines (r .state) (r .out)))
     ≡ session spaceStep (line ∷ lines) space out
 unfolding session
 session-line line lines space out = refl
 
 -- all that is printed for a list of bytes
-abbrev fedWhole : List ℕ → Held → List ℕ
+abbrev fedWhole : List ℕ → Holding → List ℕ
 fedWhole bs p = feed bs p .printed ++ lastPrinted (feed bs p .holds)
 
-runs-joined : (chunks : List (List ℕ)) (p : Held) → runs chunks p ≡ fedWhole (joined chunks) p
+runs-joined : (chunks : List (List ℕ)) (p : Holding) → runs chunks p ≡ fedWhole (concatenated chunks) p
 unfolding runs feed
 runs-joined [] p = refl
 runs-joined (c ∷ cs) p =
     let r = feed c p in
-    let later = feed (joined cs) (r .holds) in
+    let later = feed (concatenated cs) (r .holds) in
     ap (λ (l : List ℕ). r .printed ++ l) (runs-joined cs (r .holds))
     ∙ sym (append-assoc (r .printed) (later .printed) (lastPrinted (later .holds)))
-    ∙ ap (λ (t : Turn). t .printed ++ lastPrinted (t .holds)) (sym (feed-append c (joined cs) p))
+    ∙ ap (λ (t : Turn). t .printed ++ lastPrinted (t .holds)) (sym (feed-append c (concatenated cs) p))
 
 -- ---- a line answered
 
 keeps-none : (line : List ℕ) → Keeps line 0 []
 keeps-none line = (omega arith, sym (take-nil (length line)))
 
-module _ (p : Held) (begun : List ℕ) (k : Keeps (p .line) (p .kept) begun) (ready : Ready (p .line) (p .text) (p .out)) where
+module _ (p : Holding) (begun : List ℕ) (k : Keeps (p .line) (p .kept) begun) (ready : Ready (p .line) (p .text) (p .out)) where
   abbrev kept-line : List ℕ
   kept-line = take (p .kept) (p .line)
 
   abbrev line-said : Said (List ℕ)
-  line-said = says spaceStep (means begun (p .out)) (p .space) (p .out)
+  line-said = saidOf spaceStep (means begun (p .out)) (p .space) (p .out)
 
-  said-alike : says spaceStep (means kept-line (p .out)) (p .space) (p .out) ≡ line-said
+  said-alike : saidOf spaceStep (means kept-line (p .out)) (p .space) (p .out) ≡ line-said
   said-alike =
-      ap (λ (m : Meaning). says spaceStep m (p .space) (p .out))
+      ap (λ (m : Meaning). saidOf spaceStep m (p .space) (p .out))
       (ap (λ (l : List ℕ). means l (p .out)) (k .1) ∙ means-cut begun (p .out) (length (p .line)) (ready .longer))
 
   line-printed : answersLine p .printed ≡ line-said .text ++ (newline ∷ [])
@@ -255,7 +255,7 @@ some-taken : (n b : ℕ) (bs : List ℕ) → 0 < n → 0 < length (take n (b ∷
 some-taken zero b bs h = absurd (omega arith)
 some-taken (suc n) b bs h = omega arith
 
-last-line : (p : Held) (begun : List ℕ) → Keeps (p .line) (p .kept) begun → Ready (p .line) (p .text) (p .out)
+last-line : (p : Holding) (begun : List ℕ) → Keeps (p .line) (p .kept) begun → Ready (p .line) (p .text) (p .out)
     → lastPrinted p ≡ session spaceStep (lastLine begun) (p .space) (p .out)
 unfolding session
 last-line p [] k ready =
@@ -280,7 +280,7 @@ joins a b c t rest s s′ o o′ ea eb es eo =
 abbrev allLines : Lines → List (List ℕ)
 allLines r = r .ended ++ lastLine (r .begun)
 
-fed : (bs : List ℕ) (p : Held) (begun : List ℕ) → Keeps (p .line) (p .kept) begun → Ready (p .line) (p .text) (p .out)
+fed : (bs : List ℕ) (p : Holding) (begun : List ℕ) → Keeps (p .line) (p .kept) begun → Ready (p .line) (p .text) (p .out)
     → fedWhole bs p ≡ session spaceStep (allLines (linesFrom begun bs)) (p .space) (p .out)
 fed [] p begun k ready = unfold feed linesFrom in last-line p begun k ready
 fed (b ∷ bs) p begun k ready =
@@ -302,7 +302,7 @@ fed (b ∷ bs) p begun k ready =
 pub any-input : AnyInput
 any-input chunks line text space out ready =
     runs-joined chunks (starts line text space out)
-    ∙ fed (joined chunks) (starts line text space out) [] (keeps-none line) ready
+    ∙ fed (concatenated chunks) (starts line text space out) [] (keeps-none line) ready
 
 -- ---- the program's numbers
 
@@ -317,17 +317,17 @@ ready line text space out l =
 pub sessions : Sessions
 sessions chunks line text space out l =
     any-input chunks line text (startSpace space) out (ready line text space out l)
-    ∙ printed sessionNodes sessionSubgoals sessionAnswers space (linesOf (joined chunks)) out (started space (l .of-space))
+    ∙ printed sessionNodes sessionSubgoals sessionAnswers space (linesOf (concatenated chunks)) out (started space (l .of-space))
 
 -- ---- the program's turns
 
 -- a buffer and a count put in the place of others
-goes-alike : (chunk : List ℕ) (p : Held) (line : List ℕ) (kept : ℕ) (after : List ℕ) (r : Taking)
+goes-alike : (chunk : List ℕ) (p : Holding) (line : List ℕ) (kept : ℕ) (after : List ℕ) (r : Taking)
     → goesOn chunk (withLine p line kept) after r ≡ goesOn chunk p after r
 goes-alike chunk p line kept after (Line place n) = refl
 goes-alike chunk p line kept after (More n) = refl
 
-turns : (bs chunk : List ℕ) (at : ℕ) (p : Held) → bs ≡ drop at chunk
+turns : (bs chunk : List ℕ) (at : ℕ) (p : Holding) → bs ≡ drop at chunk
     → feed bs p ≡ goesOn chunk p (taking bs at (p .line) (p .kept) .line) (taking bs at (p .line) (p .kept) .answer)
 turns [] chunk at p e = unfold feed taking in refl
 turns (b ∷ bs) chunk at p e =

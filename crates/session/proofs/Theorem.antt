@@ -15,7 +15,7 @@ use Rattle.agreement.proofs.Theorem.{following}
 use Rattle.asking.specs.Lines.{Meaning, bad, asks, means}
 use Rattle.text.specs.Cutting.{newline}
 use Rattle.replies.specs.Texts.{textBad, replyText}
-use Rattle.asking.specs.Saying.{outLeft, says}
+use Rattle.asking.specs.Saying.{outLeft, saidOf}
 use Rattle.session.specs.Session.{session, Printed}
 
 -- a list of calls and one call more
@@ -35,9 +35,9 @@ module _ (n f a : ℕ) (s : List ℕ) (d : freshAnswer (sizesOf 1) n f a s ≡ D
   -- a line, where the lines behind it print alike after any calls
   line-alike : (m : Meaning) (lines : List (List ℕ)) (qs : List Request) (out : List ℕ)
       → ((ps : List Request) (out′ : List ℕ) → session spaceStep lines (cells-left ps) out′ ≡ session (step (codingOf 1)) lines (left (step (codingOf 1)) (fresh n f a) ps) out′)
-      → (let r = says spaceStep m (cells-left qs) out in r .text ++ (newline ∷ session spaceStep lines (r .state) (r .out)))
-      ≡ (let r = says (step (codingOf 1)) m (left (step (codingOf 1)) (fresh n f a) qs) out in r .text ++ (newline ∷ session (step (codingOf 1)) lines (r .state) (r .out)))
-  unfolding says
+      → (let r = saidOf spaceStep m (cells-left qs) out in r .text ++ (newline ∷ session spaceStep lines (r .state) (r .out)))
+      ≡ (let r = saidOf (step (codingOf 1)) m (left (step (codingOf 1)) (fresh n f a) qs) out in r .text ++ (newline ∷ session (step (codingOf 1)) lines (r .state) (r .out)))
+  unfolding saidOf
   line-alike bad lines qs out k = ap (λ (t : List ℕ). textBad ++ (newline ∷ t)) (k qs out)
   line-alike (asks q) lines qs out k =
       let e = following 1 one-known n f a s qs q d in

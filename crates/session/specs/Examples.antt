@@ -34,7 +34,7 @@ use Rattle.asking.specs.Lines.{wordMeans, means, bad, asks}
 use Rattle.replies.specs.Texts.{replyText, textRoom}
 use Rattle.session.specs.Numbers.{sessionEdition, sessionNodes, sessionSubgoals, sessionAnswers}
 use Rattle.session.specs.Numbers.{spaceCells, outCells, textBytes}
-use Rattle.asking.specs.Saying.{says}
+use Rattle.asking.specs.Saying.{saidOf}
 use Rattle.session.specs.Session.{session, cellSession}
 use Rattle.session.specs.Keywords.{keywordOf}
 use Rattle.session.specs.declared.Keyword.the-variants as keyword
@@ -115,7 +115,7 @@ sessionText =
 pub worked :
     cellSession (linesOf sessionInput) (freshSpaceIn sessionEdition 11 1 2 (replicate 75 9)) (replicate 7 0)
     ≡ sessionText
-unfolding linesFrom session says means wordMeans fields valueFrom numeral hexCells replyText digitsBefore cellTexts
+unfolding linesFrom session saidOf means wordMeans fields valueFrom numeral hexCells replyText digitsBefore cellTexts
     lent inRange capacity counted knownEdition headerOf spaceHeader subgoalWidth answerWidth freshCells freshFits
     freshSpace freshSpaceIn follows nodeSound bothOrNeither subgoalSound answerSound searchSiblings searchChildren
     walkFromBy walkBy gather leadCell appendNode appendPath calledOld calledNew calledAt calledBy answeredNew

@@ -8,7 +8,7 @@ use Rattle.text.specs.Digits.{Puts}
 use Rattle.text.specs.Fields.{fields}
 use Rattle.asking.specs.Lines.{wordMeans, means}
 use Rattle.asking.specs.Lines.{wordCall, wordAnswer, wordFinish, wordNext, wordLoad, wordInstance, wordCounts}
-use Rattle.asking.specs.Saying.{Said, says}
+use Rattle.asking.specs.Saying.{Said, saidOf}
 use Rattle.session.specs.declared.Keyword.{Keyword}
 use Rattle.session.specs.declared.Keyword.the-variants as keyword
 
@@ -25,10 +25,10 @@ keywordOf w =
 
 -- what is said of a line by its first word, and of a line of any length; and that it is put at the start of the text
 abbrev pub wordSaid : List ℕ → List ℕ → List ℕ → Said (List ℕ)
-wordSaid line space out = says spaceStep (wordMeans (fields line) out) space out
+wordSaid line space out = saidOf spaceStep (wordMeans (fields line) out) space out
 
 abbrev pub lineSaid : List ℕ → List ℕ → List ℕ → Said (List ℕ)
-lineSaid line space out = says spaceStep (means line out) space out
+lineSaid line space out = saidOf spaceStep (means line out) space out
 
 abbrev pub WordPuts : List ℕ → List ℕ → List ℕ → List ℕ → ℕ → List ℕ → Type 0
 WordPuts line space out text end text′ = Puts 0 (wordSaid line space out .text) text end text′

@@ -8,7 +8,7 @@ use lib.ListN.{length, take, drop, set}
 use Rattle.basis.specs.Choice.{pick}
 use Rattle.plain.specs.Table.{fresh}
 use Rattle.space.specs.declared.FreshAnswer.the-variants.{Done}
-use Rattle.text.specs.Cutting.{newline, linesOf, joined, keptMore, taking}
+use Rattle.text.specs.Cutting.{newline, linesOf, concatenated, keptMore, taking}
 use Rattle.text.specs.declared.Taking.{Taking}
 use Rattle.text.specs.declared.Taking.the-variants.{Line, More}
 use Rattle.asking.specs.Lines.{longestLine}
@@ -36,7 +36,7 @@ Responded =
 -- ---- byte after byte
 
 -- what the program holds: the buffer of a line, how many bytes it keeps of the line begun, the text, the space and out
-pub record Held : Type 0 where
+pub record Holding : Type 0 where
   pub line : List ℕ
   pub kept : ℕ
   pub text : List ℕ
@@ -46,27 +46,27 @@ pub record Held : Type 0 where
 -- what it has printed, and what it then holds
 pub record Turn : Type 0 where
   pub printed : List ℕ
-  pub holds : Held
+  pub holds : Holding
 
-abbrev pub turn : List ℕ → Held → Turn
+abbrev pub turn : List ℕ → Holding → Turn
 turn printed holds = record { printed = printed; holds = holds }
 
 -- the line begun, in the buffer
-abbrev pub withLine : Held → List ℕ → ℕ → Held
+abbrev pub withLine : Holding → List ℕ → ℕ → Holding
 withLine p line kept = record { line = line; kept = kept; text = p .text; space = p .space; out = p .out }
 
 -- the line kept is answered and printed, and another begins
-abbrev pub answersLine : Held → Turn
+abbrev pub answersLine : Holding → Turn
 answersLine p =
     let r = responding (take (p .kept) (p .line)) (p .text) (p .space) (p .out) in
     turn (take (r .printed) (r .text))
     (record { line = p .line; kept = 0; text = r .text; space = r .space; out = r .out })
 
 -- a byte is kept if there is room for it
-abbrev pub keepsByte : ℕ → Held → Turn
+abbrev pub keepsByte : ℕ → Holding → Turn
 keepsByte b p = turn [] (withLine p (set (p .line) (p .kept) b) (keptMore (p .line) (p .kept)))
 
-unfoldable pub feed : List ℕ → Held → Turn
+unfoldable pub feed : List ℕ → Holding → Turn
 feed [] p = turn [] p
 feed (b ∷ bs) p =
     let now = pick (eqb b newline) (answersLine p) (keepsByte b p) in
@@ -74,11 +74,11 @@ feed (b ∷ bs) p =
     turn (now .printed ++ later .printed) (later .holds)
 
 -- at the end of the input the line begun is answered, unless it is empty
-abbrev pub lastPrinted : Held → List ℕ
+abbrev pub lastPrinted : Holding → List ℕ
 lastPrinted p = pick (eqb (p .kept) 0) [] (answersLine p .printed)
 
 -- all that is printed for an input that comes in chunks
-unfoldable pub runs : List (List ℕ) → Held → List ℕ
+unfoldable pub runs : List (List ℕ) → Holding → List ℕ
 runs [] p = lastPrinted p
 runs (c ∷ cs) p =
     let now = feed c p in
@@ -86,7 +86,7 @@ runs (c ∷ cs) p =
 
 -- The program's turns through a chunk are `feed` of it: `take_line` goes on to the next newline, the line taken is
 -- answered, and the chunk goes on behind it; or the chunk ends.
-abbrev pub goesOn : List ℕ → Held → List ℕ → Taking → Turn
+abbrev pub goesOn : List ℕ → Holding → List ℕ → Taking → Turn
 goesOn chunk p line (Line next n) =
     let now = answersLine (withLine p line n) in
     let later = feed (drop next chunk) (now .holds) in
@@ -95,7 +95,7 @@ goesOn chunk p line (More n) = turn [] (withLine p line n)
 
 abbrev pub TurnByTurn : Type 0
 TurnByTurn =
-    (chunk : List ℕ) (at : ℕ) (p : Held)
+    (chunk : List ℕ) (at : ℕ) (p : Holding)
     → (let r = taking (drop at chunk) at (p .line) (p .kept) in
     feed (drop at chunk) p ≡ goesOn chunk p (r .line) (r .answer))
 
@@ -107,14 +107,14 @@ pub record Ready (line text out : List ℕ) : Type 0 where
   pub room : textRoom (length out) ≤ length text
 
 -- no line has begun
-abbrev pub starts : List ℕ → List ℕ → List ℕ → List ℕ → Held
+abbrev pub starts : List ℕ → List ℕ → List ℕ → List ℕ → Holding
 starts line text space out = record { line = line; kept = 0; text = text; space = space; out = out }
 
 -- over any space, and however the input comes in chunks, it prints the session of the input's lines
 abbrev pub AnyInput : Type 0
 AnyInput =
     (chunks : List (List ℕ)) (line text space out : List ℕ) → Ready line text out
-    → runs chunks (starts line text space out) ≡ cellSession (linesOf (joined chunks)) space out
+    → runs chunks (starts line text space out) ≡ cellSession (linesOf (concatenated chunks)) space out
 
 -- the lengths of what the program holds
 pub record Lengths (line text space out : List ℕ) : Type 0 where
@@ -132,4 +132,4 @@ abbrev pub Sessions : Type 0
 Sessions =
     (chunks : List (List ℕ)) (line text space out : List ℕ) → Lengths line text space out
     → runs chunks (starts line text (startSpace space) out)
-    ≡ plainSession (linesOf (joined chunks)) (fresh sessionNodes sessionSubgoals sessionAnswers) out
+    ≡ plainSession (linesOf (concatenated chunks)) (fresh sessionNodes sessionSubgoals sessionAnswers) out

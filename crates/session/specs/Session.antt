@@ -13,7 +13,7 @@ use Rattle.space.specs.declared.FreshAnswer.the-variants.{Done}
 use Rattle.store.specs.Calls.{spaceStep}
 use Rattle.text.specs.Cutting.{newline}
 use Rattle.asking.specs.Lines.{means}
-use Rattle.asking.specs.Saying.{says}
+use Rattle.asking.specs.Saying.{saidOf}
 use Rattle.replies.specs.Texts.{textRoom}
 use Rattle.session.specs.Numbers.{sessionEdition}
 
@@ -21,7 +21,7 @@ use Rattle.session.specs.Numbers.{sessionEdition}
 unfoldable pub session : {S : Type 0} → (S → Request → Result S) → List (List ℕ) → S → List ℕ → List ℕ
 session calls [] s out = []
 session calls (line ∷ lines) s out =
-    let r = says calls (means line out) s out in
+    let r = saidOf calls (means line out) s out in
     r .text ++ (newline ∷ session calls lines (r .state) (r .out))
 
 -- ---- the function that answers a line
@@ -39,7 +39,7 @@ response n text space out = record { printed = n; text = text; space = space; ou
 -- a text that might be too short for the reply stays as it is, and so does all else
 unfoldable pub responding : List ℕ → List ℕ → List ℕ → List ℕ → Response
 responding line text space out =
-    let r = says spaceStep (means line out) space out in
+    let r = saidOf spaceStep (means line out) space out in
     let bytes = r .text ++ (newline ∷ []) in
     pick (leb (textRoom (length out)) (length text))
     (response (length bytes) (bytes ++ drop (length bytes) text) (r .state) (r .out))

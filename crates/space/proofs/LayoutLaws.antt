@@ -41,14 +41,6 @@ pub node-apart : (k j : ℕ) (y : Node) → (j < k) ⊎ (k + 5 ≤ j) → Apart 
 node-apart k j y (inl h) = omega arith
 node-apart k j y (inr h) = omega arith
 
-pub subgoal-apart : (k j : ℕ) (y : Subgoal) → (j < k) ⊎ (k + 6 ≤ j) → Apart j (subgoalTo k y)
-subgoal-apart k j y (inl h) = omega arith
-subgoal-apart k j y (inr h) = omega arith
-
-pub answer-apart : (k j : ℕ) (y : Answer) → (j < k) ⊎ (k + 3 ≤ j) → Apart j (answerTo k y)
-answer-apart k j y (inl h) = omega arith
-answer-apart k j y (inr h) = omega arith
-
 -- read after written
 pub node-written : (k : ℕ) (y : Node) (s : List ℕ) → k + 5 ≤ length s → nodeFrom (writes (nodeTo k y) s) k ≡ y
 node-written k y s h =
@@ -103,15 +95,6 @@ abbrev pub Clear : ℕ → ℕ → List Write → Type 0
 Clear k size ws = (j : ℕ) → k ≤ j → j < k + size → Apart j ws
 
 module _ (ws : List Write) (s : List ℕ) (k : ℕ) where
-  pub node-stays : Clear k 5 ws → nodeFrom (writes ws s) k ≡ nodeFrom s k
-  node-stays c =
-      node-equal (nodeFrom (writes ws s) k) (nodeFrom s k)
-      (writes-frame ws s k (c k (omega arith) (omega arith)))
-      (writes-frame ws s (k + 1) (c (k + 1) (omega arith) (omega arith)))
-      (writes-frame ws s (k + 2) (c (k + 2) (omega arith) (omega arith)))
-      (writes-frame ws s (k + 3) (c (k + 3) (omega arith) (omega arith)))
-      (writes-frame ws s (k + 4) (c (k + 4) (omega arith) (omega arith)))
-
   pub subgoal-stays : Clear k 6 ws → subgoalFrom (writes ws s) k ≡ subgoalFrom s k
   subgoal-stays c =
       subgoal-equal (subgoalFrom (writes ws s) k) (subgoalFrom s k)

@@ -58,8 +58,8 @@ abbrev pub HeldLast : List ℕ → Head → ℕ → Subgoal → Type 0
 HeldLast cs h s g = Bounds cs h × (1 ≤ s) × (s ≤ h .subgoals) × (g .last ≤ h .answers)
 
 -- the number r refuses a new answer of subgoal s that takes `more` nodes; 0 lets it in
-abbrev pub RefusedBy : List ℕ → Head → ℕ → ℕ → ℕ → Type 0
-RefusedBy cs h s more r = (d : Decision) → answeredNew (viewIn cs h) s more d ≡ pick (eqb r 0) d (refuses r)
+abbrev pub RefusesNew : List ℕ → Head → ℕ → ℕ → ℕ → Type 0
+RefusesNew cs h s more r = (d : Decision) → answeredNew (viewIn cs h) s more d ≡ pick (eqb r 0) d (refuses r)
 
 -- what becomes of a called term with this form and m variables
 abbrev pub calledFrom : Finding → List ℕ → ℕ → View → Decision

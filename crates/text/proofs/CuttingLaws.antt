@@ -10,7 +10,7 @@ use lib.ListN.{length, take, drop, getD, set, length-append, length-drop, length
 use lib.Seq.{drop-cons, drop-drop, take-all, take-append-le, length-take-le, take-suc-set, set-out}
 use borrow.Author.Tests.{ltb-true, lt-ltb, le-ltb, leb-true, leb-false, eq-eqb, ne-eqb}
 use Rattle.basis.proofs.Cases.{by-cases}
-use Rattle.text.specs.Cutting.{newline, Lines, lines, linesFrom, joined, linesOfChunks, AnyChunks, Took, took, keptMore, taking, Keeps, InRange, Cuts, TakesLines}
+use Rattle.text.specs.Cutting.{newline, Lines, lines, linesFrom, concatenated, linesOfChunks, AnyChunks, Took, took, keptMore, taking, Keeps, InRange, Cuts, TakesLines}
 use Rattle.text.specs.declared.Taking.{Taking}
 use Rattle.text.specs.declared.Taking.the-variants.{Line, More}
 
@@ -33,7 +33,7 @@ unfolding linesFrom linesOfChunks
 any-chunks begun [] = refl
 any-chunks begun (c ∷ cs) =
     ap (λ (r : Lines). lines (linesFrom begun c .ended ++ r .ended) (r .begun)) (any-chunks (linesFrom begun c .begun) cs)
-    ∙ sym (lines-append c (joined cs) begun)
+    ∙ sym (lines-append c (concatenated cs) begun)
 
 -- ---- the lines of bytes, a byte at a time
 

@@ -13,8 +13,8 @@ use borrow.Author.Tests.{ltb-true, ltb-false, not-true, not-false, lt-ltb, le-lt
 use Rattle.basis.specs.Choice.{pick}
 use Rattle.basis.proofs.Cases.{by-cases}
 use Rattle.forms.specs.Compact.{same}
-use Rattle.text.specs.Fields.{space, digitOf, fields, Number, noNumber, number, Cells, noCells, cellsOf, valueFrom, numeral, numeralFirst, behind, firstNumber, onlyNumber, before, hexCells}
-use Rattle.text.specs.Places.{fieldAt, restAt, inField, Ends}
+use Rattle.text.specs.Fields.{space, digitOf, fields, Number, noNumber, someNumber, Cells, noCells, someCells, valueFrom, numeral, numeralFirst, behind, firstNumber, onlyNumber, cellBefore, hexCells}
+use Rattle.text.specs.Places.{fieldAt, restAt, inField, FieldEnds}
 
 -- ---- fields
 
@@ -82,7 +82,7 @@ value-bad : (base n b : ℕ) (bs : List ℕ) → base ≤ digitOf b → valueFro
 unfolding valueFrom
 value-bad base n b bs h = rw (le-ltb _ _ h)
 
-value-end : (base n : ℕ) → valueFrom base n [] ≡ number n
+value-end : (base n : ℕ) → valueFrom base n [] ≡ someNumber n
 unfolding valueFrom
 value-end base n = refl
 
@@ -103,7 +103,7 @@ module _ (base least most : ℕ) (f : List ℕ) where
   unfolding numeral
   numeral-short h = rw (lt-leb _ _ h)
 
-  numeral-right : (n : ℕ) → least ≤ length f → length f ≤ most → valueFrom base 0 f ≡ number n → numeral base least most f ≡ number n
+  numeral-right : (n : ℕ) → least ≤ length f → length f ≤ most → valueFrom base 0 f ≡ someNumber n → numeral base least most f ≡ someNumber n
   unfolding numeral
   numeral-right n h k e = rw (le-leb _ _ h, le-leb _ _ k, e)
 
@@ -179,14 +179,14 @@ module _ (line : List ℕ) (start base most : ℕ) where
       pub reading-short : i - start < least → numeral base least most (fieldAt line start) ≡ noNumber
       reading-short h = numeral-short base least most (fieldAt line start) (omega (arith, reading-field [] (field-over line i t (r .inside)) .0))
 
-      pub reading-done : least ≤ i - start → numeral base least most (fieldAt line start) ≡ number value
+      pub reading-done : least ≤ i - start → numeral base least most (fieldAt line start) ≡ someNumber value
       reading-done h =
           let f = reading-field [] (field-over line i t (r .inside)) in
           numeral-right base least most (fieldAt line start) value (omega (arith, f .0)) (omega (arith, f .0, r .few)) (f .1 ∙ value-end base value)
 
 -- ---- the field behind a place
 
-module _ (line : List ℕ) (i : ℕ) (e : Ends line i) where
+module _ (line : List ℕ) (i : ℕ) (e : FieldEnds line i) where
   module _ (h : i < length line) where
     pub first-behind : behind (restAt line i) ≡ restAt line (i + 1)
     first-behind = ap behind (rest-next line i (e .1) h)
@@ -216,10 +216,10 @@ module _ (line : List ℕ) (i : ℕ) where
 no-fields : {f : List ℕ} {fs : List (List ℕ)} → f ∷ fs ≡ [] → ⊥
 no-fields e = let z : _≡_ {A = ℕ} 0 1 = cc in omega arith
 
-no-number : {n : ℕ} → noNumber ≡ number n → ⊥
+no-number : {n : ℕ} → noNumber ≡ someNumber n → ⊥
 no-number e = let z : _≡_ {A = ℕ} 0 1 = cc in omega arith
 
-pub only-right : (fs : List (List ℕ)) (n : ℕ) → behind fs ≡ [] → firstNumber fs ≡ number n → onlyNumber fs ≡ number n
+pub only-right : (fs : List (List ℕ)) (n : ℕ) → behind fs ≡ [] → firstNumber fs ≡ someNumber n → onlyNumber fs ≡ someNumber n
 only-right [] n e h = absurd (no-number h)
 only-right (f ∷ []) n e h = h
 only-right (f ∷ g ∷ fs) n e h = absurd (no-fields e)
@@ -237,42 +237,42 @@ only-none fs e = ap (λ (n : Number). pick (eqb (length fs) 1) n noNumber) e ∙
 -- cells before those that are read, if they are
 abbrev pub prepend : List ℕ → Cells → Cells
 prepend ks noCells = noCells
-prepend ks (cellsOf cs) = cellsOf (ks ++ cs)
+prepend ks (someCells cs) = someCells (ks ++ cs)
 
 pub prepend-none : (cs : Cells) → cs ≡ prepend [] cs
 prepend-none noCells = refl
-prepend-none (cellsOf cs) = refl
+prepend-none (someCells cs) = refl
 
-prepend-one : (ks : List ℕ) (n : ℕ) (cs : Cells) → prepend ks (before (number n) cs) ≡ prepend (ks ++ (n ∷ [])) cs
+prepend-one : (ks : List ℕ) (n : ℕ) (cs : Cells) → prepend ks (cellBefore (someNumber n) cs) ≡ prepend (ks ++ (n ∷ [])) cs
 prepend-one ks n noCells = refl
-prepend-one ks n (cellsOf cs) = ap cellsOf (sym (append-snoc ks n cs))
+prepend-one ks n (someCells cs) = ap someCells (sym (append-snoc ks n cs))
 
-cells-first : (fs : List (List ℕ)) (n : ℕ) → numeralFirst 16 8 8 fs ≡ number n → hexCells fs ≡ before (number n) (hexCells (behind fs))
+cells-first : (fs : List (List ℕ)) (n : ℕ) → numeralFirst 16 8 8 fs ≡ someNumber n → hexCells fs ≡ cellBefore (someNumber n) (hexCells (behind fs))
 unfolding hexCells
 cells-first [] n e = absurd (no-number e)
-cells-first (f ∷ fs) n e = ap (λ (m : Number). before m (hexCells fs)) e
+cells-first (f ∷ fs) n e = ap (λ (m : Number). cellBefore m (hexCells fs)) e
 
-cells-none : hexCells [] ≡ cellsOf []
+cells-none : hexCells [] ≡ someCells []
 unfolding hexCells
 cells-none = refl
 
 cells-bad : (f : List ℕ) (fs : List (List ℕ)) → numeral 16 8 8 f ≡ noNumber → hexCells (f ∷ fs) ≡ noCells
 unfolding hexCells
-cells-bad f fs e = ap (λ (m : Number). before m (hexCells fs)) e
+cells-bad f fs e = ap (λ (m : Number). cellBefore m (hexCells fs)) e
 
 module _ (line front : List ℕ) (i k : ℕ) (said : Cells) (s : said ≡ prepend (take k front) (hexCells (restAt line i))) where
   -- a cell more
-  pub cells-step : (n e : ℕ) → numeralFirst 16 8 8 (restAt line i) ≡ number n → restAt line e ≡ behind (restAt line i) → k < length front
+  pub cells-step : (n e : ℕ) → numeralFirst 16 8 8 (restAt line i) ≡ someNumber n → restAt line e ≡ behind (restAt line i) → k < length front
       → said ≡ prepend (take (k + 1) (set front k n)) (hexCells (restAt line e))
   cells-step n e t r h =
       s ∙ ap (prepend (take k front)) (cells-first (restAt line i) n t) ∙ prepend-one (take k front) n (hexCells (behind (restAt line i)))
       ∙ ap (λ (fs : List (List ℕ)). prepend (take k front ++ (n ∷ [])) (hexCells fs)) (sym r)
       ∙ ap (λ (ks : List ℕ). prepend ks (hexCells (restAt line e))) (sym (take-suc-set front k n h) ∙ ap (λ (j : ℕ). take j (set front k n)) (let q : suc k ≡ k + 1 = omega arith in q))
 
-  pub cells-over : length line ≤ i → Ends line i → said ≡ cellsOf (take k front)
-  cells-over h e = s ∙ ap (λ (fs : List (List ℕ)). prepend (take k front) (hexCells fs)) (place-end line i (omega (arith, e .0)) .1) ∙ ap (prepend (take k front)) cells-none ∙ ap cellsOf (append-nil (take k front))
+  pub cells-over : length line ≤ i → FieldEnds line i → said ≡ someCells (take k front)
+  cells-over h e = s ∙ ap (λ (fs : List (List ℕ)). prepend (take k front) (hexCells fs)) (place-end line i (omega (arith, e .0)) .1) ∙ ap (prepend (take k front)) cells-none ∙ ap someCells (append-nil (take k front))
 
-  pub cells-refused : i < length line → Ends line i → numeralFirst 16 8 8 (restAt line i) ≡ noNumber → said ≡ noCells
+  pub cells-refused : i < length line → FieldEnds line i → numeralFirst 16 8 8 (restAt line i) ≡ noNumber → said ≡ noCells
   cells-refused h e t =
       let r = rest-next line i (e .1) h in
       s ∙ ap (λ (fs : List (List ℕ)). prepend (take k front) (hexCells fs)) r

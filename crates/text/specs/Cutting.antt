@@ -38,9 +38,9 @@ linesOf bs = linesFrom [] bs .ended ++ lastLine (linesFrom [] bs .begun)
 
 -- ---- chunks
 
-abbrev pub joined : List (List ℕ) → List ℕ
-joined [] = []
-joined (c ∷ cs) = c ++ joined cs
+abbrev pub concatenated : List (List ℕ) → List ℕ
+concatenated [] = []
+concatenated (c ∷ cs) = c ++ concatenated cs
 
 -- the lines of chunks, each cut with the line that the one before left begun
 unfoldable pub linesOfChunks : List ℕ → List (List ℕ) → Lines
@@ -52,7 +52,7 @@ linesOfChunks begun (c ∷ cs) =
 
 -- it does not matter where the chunks begin and end
 abbrev pub AnyChunks : Type 0
-AnyChunks = (begun : List ℕ) (chunks : List (List ℕ)) → linesOfChunks begun chunks ≡ linesFrom begun (joined chunks)
+AnyChunks = (begun : List ℕ) (chunks : List (List ℕ)) → linesOfChunks begun chunks ≡ linesFrom begun (concatenated chunks)
 
 -- ---- a line taken from a chunk into a buffer, which keeps as much of it as it has room for
 

@@ -37,8 +37,8 @@ cellTexts [] = []
 cellTexts (c ∷ cs) = space ∷ (cellText c ++ cellTexts cs)
 
 -- a word and a number behind a space
-abbrev pub numbered : List ℕ → ℕ → List ℕ
-numbered word n = word ++ (space ∷ decimalText n)
+abbrev pub wordAndNumber : List ℕ → ℕ → List ℕ
+wordAndNumber word n = word ++ (space ∷ decimalText n)
 
 -- bytes put at a place of a text, and the place behind them, which is still within the text
 abbrev pub Puts : ℕ → List ℕ → List ℕ → ℕ → List ℕ → Type 0

@@ -43,15 +43,15 @@ fields (b ∷ bs) =
 -- a number or a list of cells, or none
 pub data Number : Type 0 where
   noNumber : Number
-  number : ℕ → Number
+  someNumber : ℕ → Number
 
 pub data Cells : Type 0 where
   noCells : Cells
-  cellsOf : List ℕ → Cells
+  someCells : List ℕ → Cells
 
 -- digits of a base, behind a value
 unfoldable pub valueFrom : ℕ → ℕ → List ℕ → Number
-valueFrom base n [] = number n
+valueFrom base n [] = someNumber n
 valueFrom base n (b ∷ bs) = pick (ltb (digitOf b) base) (valueFrom base (base * n + digitOf b) bs) noNumber
 
 -- from least to most digits of a base
@@ -75,12 +75,12 @@ firstNumber fs = numeralFirst decimal 1 numberDigits fs
 abbrev pub onlyNumber : List (List ℕ) → Number
 onlyNumber fs = pick (eqb (length fs) 1) (firstNumber fs) noNumber
 
-abbrev pub before : Number → Cells → Cells
-before noNumber cs = noCells
-before (number n) noCells = noCells
-before (number n) (cellsOf cs) = cellsOf (n ∷ cs)
+abbrev pub cellBefore : Number → Cells → Cells
+cellBefore noNumber cs = noCells
+cellBefore (someNumber n) noCells = noCells
+cellBefore (someNumber n) (someCells cs) = someCells (n ∷ cs)
 
 -- cells: 8 hexadecimal digits each
 unfoldable pub hexCells : List (List ℕ) → Cells
-hexCells [] = cellsOf []
-hexCells (f ∷ fs) = before (numeral hexadecimal cellDigits cellDigits f) (hexCells fs)
+hexCells [] = someCells []
+hexCells (f ∷ fs) = cellBefore (numeral hexadecimal cellDigits cellDigits f) (hexCells fs)

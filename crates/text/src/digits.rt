@@ -11,7 +11,7 @@ ghost use Prim.Native.Nat.{_+_, _*_, _-_, _≤_, _<_};
 ghost use lib.Dec.{eqb};
 ghost use lib.ListN.{length, take, drop};
 ghost use Rattle.basis.specs.Moments.{old, new};
-ghost use Rattle.text.specs.Digits.{digitText, digits, cellTexts, numbered, Puts};
+ghost use Rattle.text.specs.Digits.{digitText, digits, cellTexts, wordAndNumber, Puts};
 
 // Puts bytes at a place of the text and answers the place behind them. There always remains room for a
 // byte more.
@@ -85,7 +85,7 @@ pub fn put_field(n: u32, base: u32, width: usize, text: &mut [u8], at: usize) ->
 // Puts a word and the decimal digits of a number behind a space.
 pub fn put_numbered(word: &[u8], n: u32, text: &mut [u8], at: usize) -> usize
     requires { ⌜ at + length (now word) + 11 < length (now text) ⌝ }
-    ensures { λ r. ⌜ Puts at (numbered (old word) n) (old text) r (new text) ⌝ }
+    ensures { λ r. ⌜ Puts at (wordAndNumber (old word) n) (old text) r (new text) ⌝ }
 {
     let end = put(word, text, at);
     put_field(n, DECIMAL, 1, text, end)

@@ -15,7 +15,7 @@ ghost use lib.ListN.{length};
 ghost use Rattle.basis.specs.Moments.{old, new};
 ghost use Rattle.text.specs.Fields.{digitOf, numeralFirst, firstNumber, onlyNumber, hexCells};
 ghost use Rattle.forms.specs.Compact.{same};
-ghost use Rattle.text.specs.Places.{restAt, inField, Ends, EndsFirst, ReadsNumeral, ReadsCells};
+ghost use Rattle.text.specs.Places.{restAt, inField, FieldEnds, EndsFirst, ReadsNumeral, ReadsCells};
 
 // Is the byte between two others, or one of them?
 fn is_between(b: u8, low: u8, high: u8) -> bool
@@ -63,7 +63,7 @@ pub fn first_end(line: &[u8]) -> usize
 
 // The numeral in the field behind a place that ends one. A value of at most 8 digits fits a cell.
 fn read_numeral(line: &[u8], at: usize, base: u32, least: usize, most: usize) -> Numeral
-    requires { ⌜ Ends (now line) at × (base ≤ 16) × (most ≤ 8) ⌝ }
+    requires { ⌜ FieldEnds (now line) at × (base ≤ 16) × (most ≤ 8) ⌝ }
     ensures { λ r. ⌜ ReadsNumeral (old line) at least (numeralFirst base least most (restAt (old line) at)) r ⌝ }
 {
     if line.len() <= at {
@@ -91,7 +91,7 @@ fn read_numeral(line: &[u8], at: usize, base: u32, least: usize, most: usize) ->
 
 // The number in the first field behind a place.
 pub fn first_number(line: &[u8], at: usize) -> Numeral
-    requires { ⌜ Ends (now line) at ⌝ }
+    requires { ⌜ FieldEnds (now line) at ⌝ }
     ensures { λ r. ⌜ ReadsNumeral (old line) at 1 (firstNumber (restAt (old line) at)) r ⌝ }
 {
     read_numeral(line, at, DECIMAL, 1, NUMBER_DIGITS)
@@ -99,7 +99,7 @@ pub fn first_number(line: &[u8], at: usize) -> Numeral
 
 // The number in the only field behind a place.
 pub fn only_number(line: &[u8], at: usize) -> Numeral
-    requires { ⌜ Ends (now line) at ⌝ }
+    requires { ⌜ FieldEnds (now line) at ⌝ }
     ensures { λ r. ⌜ ReadsNumeral (old line) at 1 (onlyNumber (restAt (old line) at)) r ⌝ }
 {
     let Numeral::Value(n, e) = first_number(line, at) else {
@@ -113,7 +113,7 @@ pub fn only_number(line: &[u8], at: usize) -> Numeral
 
 // The cells in the fields behind a place, each 9 bytes with its space.
 pub fn read_cells(line: &[u8], at: usize, cells: &mut [u32]) -> CellsRead
-    requires { ⌜ Ends (now line) at × (length (now line) ≤ 9 * length (now cells)) ⌝ }
+    requires { ⌜ FieldEnds (now line) at × (length (now line) ≤ 9 * length (now cells)) ⌝ }
     ensures { λ r. ⌜ ReadsCells (hexCells (restAt (old line) at)) r (new cells) ⌝ }
 {
     let mut n = 0;

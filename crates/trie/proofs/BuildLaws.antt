@@ -239,9 +239,3 @@ module _ (t : Trie) where
       let long : length (insertAll t (emptyIndex size) xs) ≡ size = r .long ∙ length-free size in
       let way : Reach (insertAll t (emptyIndex size) xs) x size (own t size x) = rw (length-free size) at (r .reached x (entering-has (t .nodes) x h k)) in
       rw (long, a .0) (reach-probe t (insertAll t (emptyIndex size) xs) (t .at x .parent) (t .at x .token) x (record { above = up; below = h; parent-is = refl; token-is = refl }) one way)
-
-  pub built-length : (size : ℕ) → t .at 0 .parent ≡ 0 → roomy t size ≡ true → length (builtIndex t size) ≡ size
-  unfolding builtIndex
-  built-length size o e =
-      let a = roomy-parts size e in
-      filled t (entering t (t .nodes)) (emptyIndex size) (entering-some o (t .nodes)) (rw (zeros-free size) (omega (arith, a .1))) .long ∙ length-free size

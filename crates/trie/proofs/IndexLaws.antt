@@ -11,7 +11,7 @@ use borrow.Author.Tests.{eqb-true, eqb-false, ltb-true}
 use Rattle.basis.proofs.Cases.{by-cases}
 use Rattle.trie.specs.Siblings.{Trie, sound, atSibling, searchSiblings, searchChildren}
 use Rattle.trie.specs.Walks.{onward, rootSound, walkFrom, walk, Finding, walkFromBy, walkBy}
-use Rattle.trie.specs.Index.{powerBelow, powerOfTwo, slotOf, slotAfter, confirmed, probe, lookup, searchInTurn, searchIndexed}
+use Rattle.trie.specs.Index.{powerBelow, powerOfTwo, slotOf, slotAfter, confirmed, probe, searchInTurn, searchIndexed}
 use Rattle.trie.specs.declared.Search.{Search}
 use Rattle.trie.specs.declared.Search.the-variants.{Found, Last, Damaged}
 use Rattle.trie.proofs.SearchCases.{search-next, children-none, children-some}
@@ -44,12 +44,6 @@ module _ (t : Trie) (index : List ℕ) (parent token : ℕ) where
       (λ e. by-cases (confirmed t parent token (getD index slot 0))
       (λ k. rw (e, k) k)
       (λ k. rw (e, k) (probe-found steps (slotAfter (length index) slot) (rw (e, k) at h))))
-
-  pub lookup-found : (lookup t index parent token ≡ 0 → ⊥) → Confirmed t parent token (lookup t index parent token)
-  unfolding lookup
-  lookup-found h = by-cases (powerOfTwo (length index))
-      (λ e. rw e (confirmed-is t parent token _ (probe-found (length index) (slotOf (length index) parent token) (rw e at h))))
-      (λ e. absurd (h (rw e)))
 
 -- ---- one turn
 

@@ -16,7 +16,7 @@ use Rattle.space.specs.declared.NodeRead.the-variants as node
 use Rattle.space.proofs.JudgingLaws.{node-bounds, read-node-sound, read-node-damaged}
 use Rattle.trie.specs.Siblings.{Trie, sound}
 use Rattle.trie.specs.Paths.{Path, none, tokens, gather, longest}
-use Rattle.trie.specs.Runs.{levels, pathCells, onto, Climb, lost, whole, cut, longer, climbed, lostCode, onCode, Ran, RunCopied, PathHolds, RunsHold, trieOf, pathBy, Begun, Found, GoesOn}
+use Rattle.trie.specs.Runs.{levels, pathCells, onto, Climb, lost, toRoot, cut, longer, climbed, lostCode, onCode, Ran, RunCopied, PathHolds, RunsHold, trieOf, pathBy, Begun, Found, GoesOn}
 use Rattle.trie.specs.declared.End.{End}
 use Rattle.trie.specs.declared.Short.the-variants as short
 use Rattle.trie.specs.declared.Gathered.the-variants.{Tokens, Damaged}
@@ -27,7 +27,7 @@ use Rattle.trie.proofs.PathLaws.{climbed-unsound, climbed-root, climbed
 done-lost : (left : ℕ) (c : Climb) (a : List ℕ) → c ≡ lost → Ran left c a a lostCode
 done-lost left c a e = rw e (refl, tt, refl)
 
-done-whole : (left : ℕ) (c : Climb) (a : List ℕ) → c ≡ whole [] → Ran left c a a left
+done-whole : (left : ℕ) (c : Climb) (a : List ℕ) → c ≡ toRoot [] → Ran left c a a left
 done-whole left c a e =
     let z : left ≡ left - 0 = omega arith in
     rw e (z, ap (λ (i : ℕ). drop i a) (sym z), refl)
@@ -45,7 +45,7 @@ behind a b xs left token o h e =
 
 done-longer : (left token : ℕ) (c : Climb) (a b : List ℕ) (r : ℕ) → 1 ≤ left → left ≤ length a → Ran (left - 1) c (set a (left - 1) token) b r → Ran left (longer c token) a b r
 done-longer left token lost a b r o h d = (d .0, tt, d .2 ∙ length-set a (left - 1) token)
-done-longer left token (whole xs) a b r o h d =
+done-longer left token (toRoot xs) a b r o h d =
     let k : length (xs ++ (token ∷ [])) ≡ length xs + 1 = length-append xs (token ∷ []) in
     let e : r ≡ left - 1 - length xs = d .0 in
     (omega arith, behind a b xs left token o h (d .1), d .2 ∙ length-set a (left - 1) token)
@@ -128,7 +128,7 @@ module _ (t : Trie) (root n runs : ℕ) (a before sub after : List ℕ) (r : ℕ
   pub whole-run : (c : Climb) → Tells t root n levels c → Ran levels c before sub r → r < lostCode → RunsHold runs (gather (levels * runs - 1) t root n) (from + r) a after
   whole-run lost x d h = let e : r ≡ lostCode = d .0 in absurd (omega arith)
   whole-run (cut p xs) x d h = let e : r ≡ onCode + p = d .0 in absurd (omega arith)
-  whole-run (whole xs) x d h =
+  whole-run (toRoot xs) x d h =
       let e : r ≡ levels - length xs = d .0 in
       let m : length xs ≤ levels = x .0 in
       by-cases (leb (length xs) (levels * runs - 1))
@@ -137,18 +137,18 @@ module _ (t : Trie) (root n runs : ℕ) (a before sub after : List ℕ) (r : ℕ
 
   pub lost-run : (c : Climb) → Tells t root n levels c → Ran levels c before sub r → r ≡ lostCode → RunsHold runs (gather (levels * runs - 1) t root n) 0 a after
   lost-run lost x d h = rw (x (levels * runs - 1)) (refl, put .1)
-  lost-run (whole xs) x d h = let e : r ≡ levels - length xs = d .0 in absurd (omega arith)
+  lost-run (toRoot xs) x d h = let e : r ≡ levels - length xs = d .0 in absurd (omega arith)
   lost-run (cut p xs) x d h = let e : r ≡ onCode + p = d .0 in absurd (omega arith)
 
   pub last-run : (c : Climb) → Tells t root n levels c → Ran levels c before sub r → lostCode < r → runs ≡ 1 → RunsHold runs (gather (levels * runs - 1) t root n) 0 a after
   last-run lost x d h i = let e : r ≡ lostCode = d .0 in absurd (omega arith)
-  last-run (whole xs) x d h i = let e : r ≡ levels - length xs = d .0 in absurd (omega arith)
+  last-run (toRoot xs) x d h i = let e : r ≡ levels - length xs = d .0 in absurd (omega arith)
   last-run (cut p xs) x d h i = rw (x .3 (levels * runs - 1) (omega arith)) (refl, put .1)
 
   -- the node number falls from run to run
   pub next-lower : (c : Climb) → Tells t root n levels c → Ran levels c before sub r → lostCode < r → r - onCode < n
   next-lower lost x d h = let e : r ≡ lostCode = d .0 in absurd (omega arith)
-  next-lower (whole xs) x d h = let e : r ≡ levels - length xs = d .0 in absurd (omega arith)
+  next-lower (toRoot xs) x d h = let e : r ≡ levels - length xs = d .0 in absurd (omega arith)
   next-lower (cut p xs) x d h = let e : r ≡ onCode + p = d .0 in let l = x .1 in omega arith
 
   -- the runs above, with the tokens of this one behind theirs
@@ -162,7 +162,7 @@ module _ (t : Trie) (root n runs : ℕ) (a before sub after : List ℕ) (r : ℕ
   pub next-run : (c : Climb) → Tells t root n levels c → Ran levels c before sub r → lostCode < r → (runs ≡ 1 → ⊥) → (b : List ℕ) (q : ℕ)
       → RunsHold (runs - 1) (gather (from - 1) t root (r - onCode)) q after b → RunsHold runs (gather (levels * runs - 1) t root n) q a b
   next-run lost x d h i b q u = let e : r ≡ lostCode = d .0 in absurd (omega arith)
-  next-run (whole xs) x d h i b q u = let e : r ≡ levels - length xs = d .0 in absurd (omega arith)
+  next-run (toRoot xs) x d h i b q u = let e : r ≡ levels - length xs = d .0 in absurd (omega arith)
   next-run (cut p xs) x d h i b q u =
       let m : length xs ≡ levels = x .0 in
       let e : r - onCode ≡ p = let e : r ≡ onCode + p = d .0 in omega arith in
@@ -185,19 +185,19 @@ module _ (cs : List ℕ) (e : End) (a b : List ℕ) (r : ℕ) where
   begun-whole : (c : Climb) → Told c → length a ≡ levels → length b ≡ levels → Ran levels c a b r → r < lostCode → Begun cs e (short.Whole r) b
   begun-whole lost x l m d h = let o : r ≡ lostCode = d .0 in absurd (omega arith)
   begun-whole (cut p xs) x l m d h = let o : r ≡ onCode + p = d .0 in absurd (omega arith)
-  begun-whole (whole xs) x l m d h =
+  begun-whole (toRoot xs) x l m d h =
       let o : r ≡ levels - length xs = d .0 in
       let k : length xs ≤ levels = x .0 in
       (omega arith, x .1 longest (omega arith) ∙ ap tokens (sym (ap (λ (i : ℕ). drop i b) o ∙ tokens-of xs a b l (d .1))))
 
   begun-damaged : (c : Climb) → Told c → Ran levels c a b r → r ≡ lostCode → Begun cs e short.Damaged b
   begun-damaged lost x d h = x longest
-  begun-damaged (whole xs) x d h = let o : r ≡ levels - length xs = d .0 in absurd (omega arith)
+  begun-damaged (toRoot xs) x d h = let o : r ≡ levels - length xs = d .0 in absurd (omega arith)
   begun-damaged (cut p xs) x d h = let o : r ≡ onCode + p = d .0 in absurd (omega arith)
 
   begun-longer : (c : Climb) → Told c → length a ≡ levels → Ran levels c a b r → lostCode < r → e .leaf < e .nodes → Begun cs e (short.Longer (r - onCode)) b
   begun-longer lost x l d h i = let o : r ≡ lostCode = d .0 in absurd (omega arith)
-  begun-longer (whole xs) x l d h i = let o : r ≡ levels - length xs = d .0 in absurd (omega arith)
+  begun-longer (toRoot xs) x l d h i = let o : r ≡ levels - length xs = d .0 in absurd (omega arith)
   begun-longer (cut p xs) x l d h i =
       let o : r - onCode ≡ p = let o : r ≡ onCode + p = d .0 in omega arith in
       let m : length xs ≡ levels = x .0 in

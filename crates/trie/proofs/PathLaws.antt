@@ -11,7 +11,7 @@ use Rattle.basis.proofs.Cases.{by-cases}
 use Rattle.trie.specs.Siblings.{Trie, sound}
 use Rattle.space.proofs.JudgingLaws.{node-bounds}
 use Rattle.trie.specs.Paths.{Path, none, tokens, below, gather}
-use Rattle.trie.specs.Runs.{onto, Climb, lost, whole, cut, longer, climbed}
+use Rattle.trie.specs.Runs.{onto, Climb, lost, toRoot, cut, longer, climbed}
 
 module _ (t : Trie) (root n : ℕ) where
   pub gather-unsound : (most : ℕ) → sound t n ≡ false → gather most t root n ≡ none
@@ -65,9 +65,6 @@ gather-within (suc k) t root n =
     step-within (suc k) t root n (λ e p.
     rw (gather-up t root n e p k) (below-within k (gather k t root (t .at n .parent)) (t .at n .token) (gather-within k t root (t .at n .parent))))
 
-pub gather-size : (most : ℕ) (t : Trie) (root n : ℕ) (xs : List ℕ) → gather most t root n ≡ tokens xs → length xs ≤ most
-gather-size most t root n xs e = rw e at (gather-within most t root n)
-
 -- ---- a path with further tokens behind it
 
 onto-nothing : (p : Path) → p ≡ onto p []
@@ -86,7 +83,7 @@ module _ (t : Trie) (root n levels : ℕ) where
   climbed-unsound e = simp e
 
   module _ (e : sound t n ≡ true) where
-    pub climbed-root : t .at n .parent ≡ n → n ≡ root → climbed (suc levels) t root n ≡ whole []
+    pub climbed-root : t .at n .parent ≡ n → n ≡ root → climbed (suc levels) t root n ≡ toRoot []
     unfolding climbed
     climbed-root p r = simp (e, eq-eqb _ _ p, eq-eqb _ _ r)
 
@@ -102,7 +99,7 @@ module _ (t : Trie) (root n levels : ℕ) where
 
 abbrev pub Tells : Trie → ℕ → ℕ → ℕ → Climb → Type 0
 Tells t root n levels lost = (most : ℕ) → gather most t root n ≡ none
-Tells t root n levels (whole xs) = (length xs ≤ levels) × ((most : ℕ) → length xs ≤ most → gather most t root n ≡ tokens xs)
+Tells t root n levels (toRoot xs) = (length xs ≤ levels) × ((most : ℕ) → length xs ≤ most → gather most t root n ≡ tokens xs)
     × ((most : ℕ) → most < length xs → gather most t root n ≡ none)
 Tells t root n levels (cut p xs) = (length xs ≡ levels) × (p + levels ≤ n) × ((most : ℕ) → levels ≤ most → gather most t root n ≡ onto (gather (most - levels) t root p) xs)
     × ((most : ℕ) → most < levels → gather most t root n ≡ none)
@@ -134,7 +131,7 @@ module _ (t : Trie) (root n : ℕ) (e : sound t n ≡ true) (p : t .at n .parent
 
   longer-tells : (levels : ℕ) (c : Climb) → Tells t root above levels c → Tells t root n (suc levels) (longer c token)
   longer-tells levels lost x = λ most. higher-none most (λ m l. x m)
-  longer-tells levels (whole xs) x =
+  longer-tells levels (toRoot xs) x =
       let k : length (xs ++ (token ∷ [])) ≡ length xs + 1 = length-append xs (token ∷ []) in
       let b : length xs ≤ levels = x .0 in (
         omega arith,

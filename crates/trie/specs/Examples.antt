@@ -47,7 +47,7 @@ gathered : (gather longest small 0 4 ≡ tokens (40 ∷ 72 ∷ [])) × (gather l
 unfolding gather nodeSound follows
 gathered = (refl, refl, refl, refl)
 
-in-runs : (climbed 2 small 0 4 ≡ cut 0 (40 ∷ 72 ∷ [])) × (climbed 3 small 0 4 ≡ runs.whole (40 ∷ 72 ∷ []))
+in-runs : (climbed 2 small 0 4 ≡ cut 0 (40 ∷ 72 ∷ [])) × (climbed 3 small 0 4 ≡ runs.toRoot (40 ∷ 72 ∷ []))
     × (climbed 3 small 3 4 ≡ lost)
 unfolding climbed nodeSound follows
 in-runs = (refl, refl, refl)

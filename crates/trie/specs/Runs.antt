@@ -31,12 +31,12 @@ onto (tokens xs) ys = tokens (xs ++ ys)
 -- some levels of a path: damage, the tokens up to the root, or those met and the node to go on from
 pub data Climb : Type 0 where
   lost : Climb
-  whole : List ℕ → Climb
+  toRoot : List ℕ → Climb
   cut : ℕ → List ℕ → Climb
 
 abbrev pub longer : Climb → ℕ → Climb
 longer lost token = lost
-longer (whole xs) token = whole (xs ++ (token ∷ []))
+longer (toRoot xs) token = toRoot (xs ++ (token ∷ []))
 longer (cut n xs) token = cut n (xs ++ (token ∷ []))
 
 -- at most so many levels up from n
@@ -45,7 +45,7 @@ climbed zero t root n = cut n []
 climbed (suc more) t root n =
     let up = climbed more t root (t .at n .parent) in
     pick (sound t n)
-    (pick (eqb (t .at n .parent) n) (pick (eqb n root) (whole []) lost) (longer up (t .at n .token)))
+    (pick (eqb (t .at n .parent) n) (pick (eqb n root) (toRoot []) lost) (longer up (t .at n .token)))
     lost
 
 -- as a number: the cells of a run that are left; or, above any of these, damage, or a node to go on from
@@ -57,13 +57,13 @@ onCode = levels + 2
 
 abbrev pub coded : ℕ → Climb → ℕ
 coded left lost = lostCode
-coded left (whole xs) = left - length xs
+coded left (toRoot xs) = left - length xs
 coded left (cut n xs) = onCode + n
 
 -- the first so many cells hold the tokens from behind, and the others stay
 abbrev pub RunHolds : ℕ → Climb → List ℕ → List ℕ → Type 0
 RunHolds left lost a b = Unit
-RunHolds left (whole xs) a b = drop (left - length xs) b ≡ xs ++ drop left a
+RunHolds left (toRoot xs) a b = drop (left - length xs) b ≡ xs ++ drop left a
 RunHolds left (cut n xs) a b = drop (left - length xs) b ≡ xs ++ drop left a
 
 -- what a climb answers and leaves in the cells of a run

@@ -5,7 +5,7 @@ use mathlib.Core.Path.{_≡_, refl, sym, _∙_, subst}
 use native.Mathlib.Omega.{arith}
 use borrow.Author.Needs.{needs}
 use lib.ListN.{length, length-set, set, getD}
-use Rattle.form_reader.proofs.FormSteps.{after-most}
+use Rattle.form_reader.proofs.FormSteps.{met-after-most}
 use Rattle.forms.specs.declared.Shape.the-variants.{Symbol}
 use Rattle.forms.specs.declared.Step.the-variants.{Done, Malformed}
 use Rattle.forms.specs.Cells.{variable, constant, shapeOf, arityOf, PAIR, nil}
@@ -426,7 +426,7 @@ terms-loop-again-2 t c = let q : variable (getD (c .before .before .before .befo
     record {
       from-at = omega arith;
       at-in = omega arith;
-      count-in = omega (arith, c .before .met-after .ensures, after-most (c .before .before .before .before .before .before .before .before .before .before .loop .count) (getD (c .before .before .before .before .before .before .before .before .before .before .before .before .before .args .s .now) (c .before .before .before .before .before .before .before .before .before .before .loop .at) 0));
+      count-in = omega (arith, c .before .met-after .ensures, met-after-most (c .before .before .before .before .before .before .before .before .before .before .loop .count) (getD (c .before .before .before .before .before .before .before .before .before .before .before .before .before .args .s .now) (c .before .before .before .before .before .before .before .before .before .before .loop .at) 0));
       room = omega arith;
       out-kept = simp length-set (c .before .before .before .before .before .before .before .before .before .before .loop .inv .out-kept);
       goes-on = λ o r w.

@@ -3,7 +3,7 @@ use mathlib.Core.Path.{sym, _∙_}
 use borrow.Author.Needs.{needs}
 use borrow.Author.Tests.{eq-eqb, ne-eqb}
 use Rattle.basis.proofs.Tests.{told}
-use Rattle.form_reader.specs.Loading.{after}
+use Rattle.form_reader.specs.Loading.{metAfter}
 use Rattle.form_reader.proofs.met_after.Statement.{statement}
 use Rattle.form_reader.proofs.met_after.Tie as tie
 
@@ -17,15 +17,15 @@ add-result : tie.Need-add-result
 add-result c = search needs
 
 returns : tie.Need-returns
-unfolding after
+unfolding metAfter
 returns c = simp (told (c .before .before .before .is-variable .ensures) (c .before .before .if1 .taken), eq-eqb _ _ (sym (c .before .payload-of .ensures) ∙ c .if2 .taken))
 
 returns-2 : tie.Need-returns-2
-unfolding after
+unfolding metAfter
 returns-2 c = simp (told (c .before .before .before .is-variable .ensures) (c .before .before .if1 .taken), ne-eqb _ _ (λ e. c .if2 .left (c .before .payload-of .ensures ∙ e)))
 
 returns-3 : tie.Need-returns-3
-unfolding after
+unfolding metAfter
 returns-3 c = simp (told (c .before .is-variable .ensures) (c .if1 .left))
 
 pub met-after-spec : {M : Type 1} → statement M

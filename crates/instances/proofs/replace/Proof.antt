@@ -8,8 +8,8 @@ use lib.Seq.{slice}
 use lib.ListN.{length, getD}
 use borrow.Author.Needs.{needs}
 use Rattle.forms.specs.Cells.{variable}
-use Rattle.instances.specs.Instances.{replaced}
-use Rattle.instances.proofs.InstanceLaws.{placed-at, replaced-variable, replaced-other, replaced-length, replaced-written}
+use Rattle.instances.specs.Instances.{standsFor}
+use Rattle.instances.proofs.InstanceLaws.{placed-at, stands-variable, stands-other, stands-length, stands-written}
 use Rattle.instances.proofs.replace.Statement.{statement}
 use Rattle.instances.proofs.replace.Tie as tie
 use Rattle.instances.proofs.replace.Reads as reads
@@ -28,12 +28,12 @@ term x = placed-at (length (x .before .before .before .before .before .before .a
 
 -- its cells
 term-cells : (x : lts.After-payload-of (is-variable-reads.Asked, is-variable-reads.Learnt, payload-of-reads.Asked, payload-of-reads.Learnt, copy-part-reads.Asked, copy-part-reads.Learnt) reads.Pre reads.Post)
-    → (replaced (x .before .before .before .before .before .before .args .terms .now) (x .before .before .before .before .before .before .args .starts .now) (x .before .before .before .before .before .before .args .c) ≡ slice (getD (x .before .before .before .before .before .before .args .starts .now) (x .payload-of .result) 0) (getD (x .before .before .before .before .before .before .args .starts .now) (x .payload-of .result + 1) 0) (x .before .before .before .before .before .before .args .terms .now)) × (length (replaced (x .before .before .before .before .before .before .args .terms .now) (x .before .before .before .before .before .before .args .starts .now) (x .before .before .before .before .before .before .args .c)) ≡ getD (x .before .before .before .before .before .before .args .starts .now) (x .payload-of .result + 1) 0 - getD (x .before .before .before .before .before .before .args .starts .now) (x .payload-of .result) 0)
-term-cells x = (replaced-variable (x .before .before .before .before .before .before .args .terms .now) (x .before .before .before .before .before .before .args .starts .now) (x .before .before .before .before .before .before .args .c) (x .payload-of .result) (chosen x) (x .payload-of .ensures), replaced-length (x .before .before .before .before .before .before .args .terms .now) (x .before .before .before .before .before .before .args .starts .now) (x .before .before .before .before .before .before .args .c) (x .payload-of .result) (chosen x) (x .payload-of .ensures) (term x .2))
+    → (standsFor (x .before .before .before .before .before .before .args .terms .now) (x .before .before .before .before .before .before .args .starts .now) (x .before .before .before .before .before .before .args .c) ≡ slice (getD (x .before .before .before .before .before .before .args .starts .now) (x .payload-of .result) 0) (getD (x .before .before .before .before .before .before .args .starts .now) (x .payload-of .result + 1) 0) (x .before .before .before .before .before .before .args .terms .now)) × (length (standsFor (x .before .before .before .before .before .before .args .terms .now) (x .before .before .before .before .before .before .args .starts .now) (x .before .before .before .before .before .before .args .c)) ≡ getD (x .before .before .before .before .before .before .args .starts .now) (x .payload-of .result + 1) 0 - getD (x .before .before .before .before .before .before .args .starts .now) (x .payload-of .result) 0)
+term-cells x = (stands-variable (x .before .before .before .before .before .before .args .terms .now) (x .before .before .before .before .before .before .args .starts .now) (x .before .before .before .before .before .before .args .c) (x .payload-of .result) (chosen x) (x .payload-of .ensures), stands-length (x .before .before .before .before .before .before .args .terms .now) (x .before .before .before .before .before .before .args .starts .now) (x .before .before .before .before .before .before .args .c) (x .payload-of .result) (chosen x) (x .payload-of .ensures) (term x .2))
 
 -- any other cell
-other : (x : lts.Else1 (is-variable-reads.Asked, is-variable-reads.Learnt, payload-of-reads.Asked, payload-of-reads.Learnt, copy-part-reads.Asked, copy-part-reads.Learnt) reads.Pre reads.Post) → replaced (x .before .before .before .before .before .args .terms .now) (x .before .before .before .before .before .args .starts .now) (x .before .before .before .before .before .args .c) ≡ x .before .before .before .before .before .args .c ∷ []
-other x = replaced-other (x .before .before .before .before .before .args .terms .now) (x .before .before .before .before .before .args .starts .now) (x .before .before .before .before .before .args .c) (sym (x .before .is-variable .ensures) ∙ x .if1 .left)
+other : (x : lts.Else1 (is-variable-reads.Asked, is-variable-reads.Learnt, payload-of-reads.Asked, payload-of-reads.Learnt, copy-part-reads.Asked, copy-part-reads.Learnt) reads.Pre reads.Post) → standsFor (x .before .before .before .before .before .args .terms .now) (x .before .before .before .before .before .args .starts .now) (x .before .before .before .before .before .args .c) ≡ x .before .before .before .before .before .args .c ∷ []
+other x = stands-other (x .before .before .before .before .before .args .terms .now) (x .before .before .before .before .before .args .starts .now) (x .before .before .before .before .before .args .c) (sym (x .before .is-variable .ensures) ∙ x .if1 .left)
 
 is-variable-requires : tie.Need-is-variable-requires
 is-variable-requires c κs = search needs
@@ -74,7 +74,7 @@ returns : tie.Need-returns
 returns c =
     let w = term-cells (c .before .before .before .before .before .before) in
     let e = c .before .before .copy-part .ensures in
-    replaced-written (c .before .before .before .before .before .before .before .before .before .before .before .before .args .terms .now) (c .before .before .before .before .before .before .before .before .before .before .before .before .args .starts .now) (c .before .before .before .before .before .before .before .before .before .before .before .before .args .c) _ (c .before .before .before .before .before .before .before .before .before .before .before .before .args .out .now) (c .before .before .copy-part .last .1 .1 .1 .0) (c .before .before .before .before .before .before .before .before .before .before .before .before .args .to) (c .before .before .copy-part .result) _ (w .0) (w .1) (e .0) (e .1)
+    stands-written (c .before .before .before .before .before .before .before .before .before .before .before .before .args .terms .now) (c .before .before .before .before .before .before .before .before .before .before .before .before .args .starts .now) (c .before .before .before .before .before .before .before .before .before .before .before .before .args .c) _ (c .before .before .before .before .before .before .before .before .before .before .before .before .args .out .now) (c .before .before .copy-part .last .1 .1 .1 .0) (c .before .before .before .before .before .before .before .before .before .before .before .before .args .to) (c .before .before .copy-part .result) _ (w .0) (w .1) (e .0) (e .1)
 
 mul-out : tie.Need-mul-out
 mul-out c = search needs
@@ -89,7 +89,7 @@ same-length-2 : tie.Need-same-length-2
 same-length-2 c = search needs
 
 returns-2 : tie.Need-returns-2
-returns-2 c = replaced-written (c .before .before .before .before .before .args .terms .now) (c .before .before .before .before .before .args .starts .now) (c .before .before .before .before .before .args .c) (c .before .before .before .before .before .args .c ∷ []) (c .before .before .before .before .before .args .out .now) _ (c .before .before .before .before .before .args .to) _ 1 (other c) (ap length (other c)) refl refl
+returns-2 c = stands-written (c .before .before .before .before .before .args .terms .now) (c .before .before .before .before .before .args .starts .now) (c .before .before .before .before .before .args .c) (c .before .before .before .before .before .args .c ∷ []) (c .before .before .before .before .before .args .out .now) _ (c .before .before .before .before .before .args .to) _ 1 (other c) (ap length (other c)) refl refl
 
 pub replace-spec : {M : Type 1} → statement M
 replace-spec =

@@ -3,7 +3,7 @@ use mathlib.Core.List.{_∷_}
 use native.Mathlib.Omega.{arith}
 use borrow.Author.Needs.{needs}
 use Rattle.store.specs.Replies.{saidState}
-use Rattle.text.specs.Digits.{numbered}
+use Rattle.text.specs.Digits.{wordAndNumber}
 use Rattle.text.proofs.DigitsLaws.{decimal-length, puts-append}
 use Rattle.replies.specs.Texts.{textOld, stateText, replyText}
 use Rattle.replies.proofs.print_call.Statement.{statement}
@@ -45,7 +45,7 @@ unfolding replyText
 returns-2 c = λ out.
     let a = c .before .before .before .before .before .before .before .before .before .before .answer2 .given in
     rw (a .1)
-    (puts-append (numbered textOld (a .0 .0)) (32 ∷ stateText (saidState (a .0 .1 .0))) (c .before .before .before .before .before .before .before .before .before .before .before .before .before .args .text .now) _ _ _ _ _ (c .before .before .before .before .before .before .put-numbered2 .ensures) (c .before .before .put-state .ensures))
+    (puts-append (wordAndNumber textOld (a .0 .0)) (32 ∷ stateText (saidState (a .0 .1 .0))) (c .before .before .before .before .before .before .before .before .before .before .before .before .before .args .text .now) _ _ _ _ _ (c .before .before .before .before .before .before .put-numbered2 .ensures) (c .before .before .put-state .ensures))
 
 enum-known-answer-3 : tie.Need-enum-known-answer-3
 enum-known-answer-3 c = search needs

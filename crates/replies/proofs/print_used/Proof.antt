@@ -2,7 +2,7 @@
 use mathlib.Core.List.{_∷_}
 use native.Mathlib.Omega.{arith}
 use borrow.Author.Needs.{needs}
-use Rattle.text.specs.Digits.{numbered, decimalText}
+use Rattle.text.specs.Digits.{wordAndNumber, decimalText}
 use Rattle.text.proofs.DigitsLaws.{decimal-length, puts-append}
 use Rattle.replies.specs.Texts.{textCounts}
 use Rattle.replies.proofs.print_used.Statement.{statement}
@@ -27,8 +27,8 @@ returns : tie.Need-returns
 returns c =
     let a = c .before .before .before .before .before .before .before .before .before .before .before .before .before .before .args in
     let u = a .used in
-    let counts = numbered textCounts (u .nodes) in
-    puts-append (numbered counts (u .subgoals)) (32 ∷ decimalText (u .answers)) (a .text .now) _ _ _ _ _
+    let counts = wordAndNumber textCounts (u .nodes) in
+    puts-append (wordAndNumber counts (u .subgoals)) (32 ∷ decimalText (u .answers)) (a .text .now) _ _ _ _ _
     (puts-append counts (32 ∷ decimalText (u .subgoals)) (a .text .now) _ _ _ _ _ (c .before .before .before .before .before .before .before .before .before .before .put-numbered .ensures) (c .before .before .before .before .before .before .put-field .ensures))
     (c .before .before .put-field2 .ensures)
 

@@ -5,7 +5,7 @@ use borrow.Author.Needs.{needs}
 use Rattle.text.specs.Fields.{fields}
 use Rattle.store.specs.Calls.{spaceStep}
 use Rattle.asking.specs.Lines.{Meaning, wordMeans, means}
-use Rattle.asking.specs.Saying.{says}
+use Rattle.asking.specs.Saying.{saidOf}
 use Rattle.asking.proofs.AskingLaws.{bad-leaves, bad-out, leaves-alike}
 use Rattle.session.proofs.LineLaws.{means-short, means-long, flat}
 use Rattle.session.proofs.reply_or_bad.Statement.{statement}
@@ -24,7 +24,7 @@ same-length-3 : tie.Need-same-length-3
 same-length-3 c = search needs
 
 returns : tie.Need-returns
-returns c = let l = c .before .before .before .before .before .before .before .before .before .before .before .before .before .before .before .args .line .now in let s = c .before .before .before .before .before .before .before .before .before .before .before .before .before .before .before .args .space .now in let out = c .before .before .before .before .before .before .before .before .before .before .before .before .before .before .before .args .out .now in let q = means-short l out (omega (arith, c .before .before .before .before .before .before .before .before .before .before .if1 .taken)) in flat (leaves-alike s out _ _ _ _ (means l out) (wordMeans (fields l) out) q (c .before .before .before .before .before .before .reply .ensures .0, c .before .before .before .before .before .before .reply .ensures .1 .0), c .before .before .before .before .before .before .reply .ensures .1 .1 ∙ sym (ap (λ (x : Meaning). says spaceStep x s out .out) q))
+returns c = let l = c .before .before .before .before .before .before .before .before .before .before .before .before .before .before .before .args .line .now in let s = c .before .before .before .before .before .before .before .before .before .before .before .before .before .before .before .args .space .now in let out = c .before .before .before .before .before .before .before .before .before .before .before .before .before .before .before .args .out .now in let q = means-short l out (omega (arith, c .before .before .before .before .before .before .before .before .before .before .if1 .taken)) in flat (leaves-alike s out _ _ _ _ (means l out) (wordMeans (fields l) out) q (c .before .before .before .before .before .before .reply .ensures .0, c .before .before .before .before .before .before .reply .ensures .1 .0), c .before .before .before .before .before .before .reply .ensures .1 .1 ∙ sym (ap (λ (x : Meaning). saidOf spaceStep x s out .out) q))
 
 print-bad-requires : tie.Need-print-bad-requires
 print-bad-requires c κs = search needs

@@ -5,7 +5,7 @@ use borrow.Author.Needs.{needs}
 use Rattle.basis.proofs.Tests.{told}
 use Rattle.store.specs.Calls.{spaceStep}
 use Rattle.asking.specs.Lines.{means}
-use Rattle.asking.specs.Saying.{says}
+use Rattle.asking.specs.Saying.{saidOf}
 use Rattle.session.proofs.LineLaws.{response-none, response-line, response-parts, line-within}
 use Rattle.session.proofs.respond.Statement.{statement}
 use Rattle.session.proofs.respond.Tie as tie
@@ -32,7 +32,7 @@ same-length-3 : tie.Need-same-length-3
 same-length-3 c = search needs
 
 returns : tie.Need-returns
-returns c = let p = response-parts _ _ _ _ _ (response-line (c .before .before .before .before .before .before .before .before .before .before .before .before .before .before .before .before .before .before .args .line .now) (c .before .before .before .before .before .before .before .before .before .before .before .before .before .before .before .before .before .before .args .text .now) (c .before .before .before .before .before .before .before .before .before .before .before .before .before .before .before .before .before .before .args .space .now) (c .before .before .before .before .before .before .before .before .before .before .before .before .before .before .before .before .before .before .args .out .now) _ _ _ _ (leb-true _ _ (told (c .before .before .before .before .before .before .before .before .before .before .before .has-room .ensures) (c .before .before .before .before .before .before .before .before .before .before .if1 .taken))) (c .before .before .before .before .before .before .reply-or-bad .ensures .0, c .before .before .before .before .before .before .reply-or-bad .ensures .1 .0) (c .before .before .before .before .before .before .reply-or-bad .ensures .1 .1)) in (p .0, (p .1, (p .2, (p .3, line-within (says spaceStep (means (c .before .before .before .before .before .before .before .before .before .before .before .before .before .before .before .before .before .before .args .line .now) (c .before .before .before .before .before .before .before .before .before .before .before .before .before .before .before .before .before .before .args .out .now)) (c .before .before .before .before .before .before .before .before .before .before .before .before .before .before .before .before .before .before .args .space .now) (c .before .before .before .before .before .before .before .before .before .before .before .before .before .before .before .before .before .before .args .out .now) .text) (c .before .before .before .before .before .before .before .before .before .before .before .before .before .before .before .before .before .before .args .text .now) _ _ (c .before .before .before .before .before .before .reply-or-bad .ensures .0)))))
+returns c = let p = response-parts _ _ _ _ _ (response-line (c .before .before .before .before .before .before .before .before .before .before .before .before .before .before .before .before .before .before .args .line .now) (c .before .before .before .before .before .before .before .before .before .before .before .before .before .before .before .before .before .before .args .text .now) (c .before .before .before .before .before .before .before .before .before .before .before .before .before .before .before .before .before .before .args .space .now) (c .before .before .before .before .before .before .before .before .before .before .before .before .before .before .before .before .before .before .args .out .now) _ _ _ _ (leb-true _ _ (told (c .before .before .before .before .before .before .before .before .before .before .before .has-room .ensures) (c .before .before .before .before .before .before .before .before .before .before .if1 .taken))) (c .before .before .before .before .before .before .reply-or-bad .ensures .0, c .before .before .before .before .before .before .reply-or-bad .ensures .1 .0) (c .before .before .before .before .before .before .reply-or-bad .ensures .1 .1)) in (p .0, (p .1, (p .2, (p .3, line-within (saidOf spaceStep (means (c .before .before .before .before .before .before .before .before .before .before .before .before .before .before .before .before .before .before .args .line .now) (c .before .before .before .before .before .before .before .before .before .before .before .before .before .before .before .before .before .before .args .out .now)) (c .before .before .before .before .before .before .before .before .before .before .before .before .before .before .before .before .before .before .args .space .now) (c .before .before .before .before .before .before .before .before .before .before .before .before .before .before .before .before .before .before .args .out .now) .text) (c .before .before .before .before .before .before .before .before .before .before .before .before .before .before .before .before .before .before .args .text .now) _ _ (c .before .before .before .before .before .before .reply-or-bad .ensures .0)))))
 
 same-length-4 : tie.Need-same-length-4
 same-length-4 c = search needs

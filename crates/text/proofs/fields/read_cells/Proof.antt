@@ -5,13 +5,13 @@ use native.Mathlib.Omega.{arith}
 use lib.ListN.{length, take, length-set}
 use borrow.Author.Needs.{needs}
 use Rattle.text.specs.Fields.{hexCells}
-use Rattle.text.specs.Places.{restAt, Ends}
+use Rattle.text.specs.Places.{restAt, FieldEnds}
 use Rattle.text.proofs.FieldsLaws.{prepend, prepend-none, cells-step, cells-over, cells-refused}
 use Rattle.text.proofs.fields.read_cells.Statement.{statement}
 use Rattle.text.proofs.fields.read_cells.Tie as tie
 
 abbrev Inv-loop : tie.InvT-loop
-Inv-loop line at cells₀ n₀ i₀ cells n i = Ends line i × (9 * n ≤ i) × (length cells ≡ length cells₀) × (hexCells (restAt line at) ≡ prepend (take n cells) (hexCells (restAt line i)))
+Inv-loop line at cells₀ n₀ i₀ cells n i = FieldEnds line i × (9 * n ≤ i) × (length cells ≡ length cells₀) × (hexCells (restAt line at) ≡ prepend (take n cells) (hexCells (restAt line i)))
 
 abbrev μ-loop : tie.MeasureT-loop
 μ-loop line at cells₀ n₀ i₀ cells n i = length line - i
