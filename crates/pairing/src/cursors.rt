@@ -47,27 +47,20 @@ fn gather_path(space: &[u32], end: End, cells: &mut [u32]) -> usize
     0
 }
 
-// The answer of m terms whose path ends here, taken in hand, however long the path is.
-fn take_long(space: &[u32], end: End, m: usize, held: &mut [u32], edition: u32)
-    requires { ⌜ PathTakeable (now space) end m (now held) edition ⌝ }
-    ensures { λ _. ⌜ Takes (old space) end m (old held) (new held) edition ⌝ }
-{
-    let mut path = [0u32; CELLS];
-    let k = gather_path(space, end, &mut path);
-    take_in_hand(&path[k..], m, held, edition);
-}
-
-// The same, in few cells where they are enough.
+// The answer of m terms whose path ends here, taken in hand: in few cells where they are enough, and else in those of a
+// whole path.
 fn take_path(space: &[u32], end: End, m: usize, held: &mut [u32], edition: u32)
     requires { ⌜ PathTakeable (now space) end m (now held) edition ⌝ }
     ensures { λ _. ⌜ Takes (old space) end m (old held) (new held) edition ⌝ }
 {
-    let mut path = [0u32; FEW];
-    let k = gather_path(space, end, &mut path);
-    if k == 0 {
-        take_long(space, end, m, held, edition);
+    let mut few = [0u32; FEW];
+    let start = gather_path(space, end, &mut few);
+    if 0 < start {
+        take_in_hand(&few[start..], m, held, edition);
         return;
     }
+    let mut path = [0u32; CELLS];
+    let k = gather_path(space, end, &mut path);
     take_in_hand(&path[k..], m, held, edition);
 }
 
