@@ -1,5 +1,5 @@
-// Answer: decided first, and then the space is changed. It searches with an index; without one it is lent an index of no
-// cells.
+// Answer: decided first, and then the space is changed. It searches with an index; without one it is lent an index of
+// no cells.
 use basis::limits::MOST_CELLS;
 use basis::refusals::NODES;
 use basis::refusals::NUMBER;

@@ -22,7 +22,8 @@ use text::fields::read_cells;
 ghost use mathlib.Core.Path.{_≡_};
 ghost use Rattle.basis.specs.Moments.{old, new};
 ghost use Rattle.asking.specs.Asking.{Askable, AskableCells, AskableOut};
-ghost use Rattle.asking.specs.Asking.{Asks, AsksReading, callMeant, answerMeant, finishMeant, nextMeant, countsMeant};
+ghost use Rattle.asking.specs.Asking.{Asks, AsksReading};
+ghost use Rattle.asking.specs.Asking.{callMeant, answerMeant, finishMeant, nextMeant, countsMeant};
 ghost use Rattle.asking.specs.Asking.{loadSaid, instanceSaid, LoadPrints, InstancePrints};
 
 // A line that means something has at most so many bytes, its newline not counted.

@@ -10,7 +10,8 @@ ghost use Prim.Native.Nat.{_<_};
 ghost use lib.ListN.{length};
 ghost use Rattle.basis.specs.Moments.{old, new};
 ghost use Rattle.trie.specs.Index.{insertFrom, emptyIndex};
-ghost use Rattle.indexing.specs.Parts.{lookedAt, triesIn, AmongFit, EntersChildren, FillsIndex, Slots, Insertable};
+ghost use Rattle.indexing.specs.Parts.{lookedAt, triesIn, AmongFit, Slots, Insertable};
+ghost use Rattle.indexing.specs.Parts.{EntersChildren, FillsIndex};
 
 // Every slot free.
 fn clear(index: &mut [u32])

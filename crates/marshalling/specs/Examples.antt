@@ -9,7 +9,8 @@ use Rattle.forms.specs.Compact.{compact, elements, compactForm, filled, lastOf,
 use Rattle.forms.specs.Compact.{whole, entered, items, front, formTerms, pairForm, same, areForms, legalForm}
 use Rattle.forms.specs.Converting.{reading, loading, fitting, fittingForm, fittingTerms, compacting, expanding}
 use Rattle.marshalling.specs.Bytes.{cellsOf, bytesOf}
-use Rattle.marshalling.specs.Export.{outcome, returned, writtenBytes, outcomeOf, exported, compactBytes, expandBytes}
+use Rattle.marshalling.specs.Export.{outcome, returned, writtenBytes, outcomeOf, exported}
+use Rattle.marshalling.specs.Export.{compactBytes, expandBytes}
 
 -- [1|2] in pair form, and in compact form (M6)
 abbrev pair12 : List ℕ

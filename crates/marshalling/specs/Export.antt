@@ -39,11 +39,13 @@ exported converter input out = pick (eqb (length input % 4) 0) (converter (cells
 
 -- `compact_bytes` of one term
 unfoldable pub compactBytes : (ℕ → ℕ) → List ℕ → List ℕ → Outcome
-compactBytes arity input out = outcomeOf (exported (compacting arity 1) input out) (compactForm arity (cellsOf input)) out
+compactBytes arity input out =
+    outcomeOf (exported (compacting arity 1) input out) (compactForm arity (cellsOf input)) out
 
 -- `expand_bytes` of the form of one term
 unfoldable pub expandBytes : (ℕ → ℕ) → List ℕ → List ℕ → Outcome
-expandBytes arity input out = outcomeOf (exported (expanding arity 1) input out) (pairForm arity (cellsOf input)) out
+expandBytes arity input out =
+    outcomeOf (exported (expanding arity 1) input out) (pairForm arity (cellsOf input)) out
 
 -- in the edition of this number; another is refused (1), before all else
 unfoldable pub outcomeIn : ℕ → Outcome → List ℕ → Outcome

@@ -18,7 +18,8 @@ ghost use mathlib.Core.Bool.{_&&_, _||_};
 ghost use lib.ListN.{length};
 ghost use Rattle.basis.specs.Moments.{old};
 ghost use Rattle.trie.specs.Index.{searchIndexed};
-ghost use Rattle.pairing.specs.Counting.{beginning, allForms, JoinReady, oneMore, added, CountsForms, ReadyToCount};
+ghost use Rattle.pairing.specs.Counting.{beginning, allForms, oneMore, added};
+ghost use Rattle.pairing.specs.Counting.{JoinReady, CountsForms, ReadyToCount};
 ghost use Rattle.pairing.specs.Counting.{EarlierOf, allShared, MeetsOneMore, oneNew, needsMore, NeedsOf};
 
 // Where a join begins: nothing is in hand.

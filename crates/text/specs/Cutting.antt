@@ -52,7 +52,9 @@ linesOfChunks begun (c ∷ cs) =
 
 -- it does not matter where the chunks begin and end
 abbrev pub AnyChunks : Type 0
-AnyChunks = (begun : List ℕ) (chunks : List (List ℕ)) → linesOfChunks begun chunks ≡ linesFrom begun (concatenated chunks)
+AnyChunks =
+    (begun : List ℕ) (chunks : List (List ℕ))
+    → linesOfChunks begun chunks ≡ linesFrom begun (concatenated chunks)
 
 -- ---- a line taken from a chunk into a buffer, which keeps as much of it as it has room for
 
