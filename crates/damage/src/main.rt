@@ -21,7 +21,7 @@ use trie::paths::long_path;
 use trie::paths::short_path;
 use trie::walks::walk_tokens;
 ghost use mathlib.Core.Path.{_≡_};
-ghost use Prim.Native.Nat.{_<_};
+ghost use Prim.Native.Nat.{_+_, _<_, _≤_};
 ghost use lib.ListN.{length};
 ghost use Rattle.space.specs.Sound.{Bounds, NodesIn};
 ghost use Rattle.trie.specs.Runs.{levels, Ends};
@@ -32,125 +32,48 @@ struct Tally {
     sum: u64,
 }
 
-fn small() -> [u32; 116] {
-    [
-        1,
-        13,
-        3,
-        3,
-        8,
+// The cells of the space.
+const CELLS_IN_ALL: usize = 116;
+
+// Puts cells at a place.
+fn put(space: &mut [u32; CELLS_IN_ALL], from: usize, cells: &[u32])
+    requires { ⌜ from + length (now cells) ≤ 116 ⌝ }
+{
+    let mut i = 0;
+    while i < cells.len() {
+        space[from + i] = cells[i];
+        i += 1;
+    }
+}
+
+// The nodes, two to a line: of f(X, a), f(X, b) and g(X), which were called, of the roots of their answers, and of these.
+fn put_nodes(space: &mut [u32; CELLS_IN_ALL]) {
+    put(space, 8, &[0, 1, 0, 0, 0, 0x40000012, 2, 5, 0, 0]);
+    put(space, 18, &[0x10000000, 3, 0, 1, 0, 0x20000005, 0, 8, 2, 1]);
+    put(space, 28, &[0, 10, 0, 4, 0, 0x40000021, 6, 0, 0, 0]);
+    put(space, 38, &[0x10000000, 0, 0, 5, 2, 0, 12, 0, 7, 0]);
+    put(space, 48, &[0x20000006, 0, 0, 2, 3, 0, 0, 0, 9, 0]);
+    put(
+        space,
+        58,
+        &[0x20000005, 0, 11, 4, 1, 0x20000006, 0, 0, 4, 2],
+    );
+    put(space, 68, &[0x20000005, 0, 0, 7, 3]);
+}
+
+// The small space: its header, nodes, subgoals and answers, each with room for one more, and two cells behind its end.
+fn small() -> [u32; CELLS_IN_ALL] {
+    let mut space = [0u32; CELLS_IN_ALL];
+    put(&mut space, 0, &[1, 13, 3, 3, 8, 78, 102, 114]);
+    put_nodes(&mut space);
+    put(
+        &mut space,
         78,
-        102,
-        114,
-        0,
-        1,
-        0,
-        0,
-        0,
-        1073741842,
-        2,
-        5,
-        0,
-        0,
-        268435456,
-        3,
-        0,
-        1,
-        0,
-        536870917,
-        0,
-        8,
-        2,
-        1,
-        0,
-        10,
-        0,
-        4,
-        0,
-        1073741857,
-        6,
-        0,
-        0,
-        0,
-        268435456,
-        0,
-        0,
-        5,
-        2,
-        0,
-        12,
-        0,
-        7,
-        0,
-        536870918,
-        0,
-        0,
-        2,
-        3,
-        0,
-        0,
-        0,
-        9,
-        0,
-        536870917,
-        0,
-        11,
-        4,
-        1,
-        536870918,
-        0,
-        0,
-        4,
-        2,
-        536870917,
-        0,
-        0,
-        7,
-        3,
-        0,
-        0,
-        0,
-        0,
-        0,
-        3,
-        4,
-        1,
-        0,
-        1,
-        2,
-        6,
-        7,
-        1,
-        1,
-        3,
-        3,
-        8,
-        9,
-        1,
-        0,
-        0,
-        0,
-        0,
-        0,
-        0,
-        0,
-        0,
-        0,
-        10,
-        1,
-        2,
-        11,
-        1,
-        0,
-        12,
-        2,
-        0,
-        0,
-        0,
-        0,
-        7,
-        7,
-    ]
+        &[3, 4, 1, 0, 1, 2, 6, 7, 1, 1, 3, 3, 8, 9, 1],
+    );
+    put(&mut space, 102, &[10, 1, 2, 11, 1, 0, 12, 2, 0]);
+    put(&mut space, 114, &[7, 7]);
+    space
 }
 
 fn more(count: u64) -> u64 {
@@ -445,7 +368,7 @@ fn readings(space: &[u32]) {
 }
 
 // The readings with cell i set to the value.
-fn trial(space: &mut [u32; 116], i: usize, value: u32)
+fn trial(space: &mut [u32; CELLS_IN_ALL], i: usize, value: u32)
     requires { ⌜ i < 116 ⌝ }
 {
     let old = space[i];
@@ -457,7 +380,7 @@ fn trial(space: &mut [u32; 116], i: usize, value: u32)
     space[i] = old;
 }
 
-fn trials(space: &mut [u32; 116], i: usize)
+fn trials(space: &mut [u32; CELLS_IN_ALL], i: usize)
     requires { ⌜ i < 116 ⌝ }
 {
     let old = space[i];
@@ -473,7 +396,7 @@ fn main() {
     io::write_all(1, b"whole");
     readings(&space);
     let mut i = 0;
-    while i < 116 {
+    while i < CELLS_IN_ALL {
         trials(&mut space, i);
         i += 1;
     }

@@ -2,7 +2,7 @@
 use trials::back;
 use trials::both;
 
-// Source 000, section 2.
+// Source 000, section 2: variables; terms without any.
 fn variables_and_functors() {
     both(
         b"000 f(g(Y,Z),X,Z)",
@@ -30,6 +30,10 @@ fn variables_and_functors() {
         1,
         1,
     );
+}
+
+// The same: a constant that stands twice, and a variable that does.
+fn repeated_arguments() {
     both(
         b"000 rt(a,g(b,c),c)",
         &[
@@ -189,7 +193,7 @@ fn malformed_terms() {
     both(b"cells for no terms", &[0x30000001], 0, 1);
 }
 
-// The forms of other approaches, which are no compact form: figures 4, 5 and 6 of source 001.
+// The forms of other approaches, which are no compact form: figures 4 and 5 of source 001.
 fn other_approaches() {
     back(
         b"001 fig 4 standard list",
@@ -224,6 +228,10 @@ fn other_approaches() {
         1,
         1,
     );
+}
+
+// The same, of figure 6.
+fn second_approach() {
     back(
         b"001 fig 6 second approach [1,2,3]",
         &[
@@ -283,11 +291,13 @@ fn other_forms() {
 
 fn main() {
     variables_and_functors();
+    repeated_arguments();
     tries();
     lists();
     nested_lists();
     terms_together();
     malformed_terms();
     other_approaches();
+    second_approach();
     other_forms();
 }
