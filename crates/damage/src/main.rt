@@ -12,19 +12,17 @@ use space::records::read_answer;
 use space::records::read_node;
 use space::records::read_subgoal;
 use trie::End;
-use trie::Gathered;
-use trie::Short;
 use trie::Walked;
 use trie::paths::CELLS;
 use trie::paths::LEVELS;
-use trie::paths::long_path;
-use trie::paths::short_path;
+use trie::paths::few_path;
+use trie::paths::whole_path;
 use trie::walks::walk_tokens;
 ghost use mathlib.Core.Path.{_≡_};
 ghost use Prim.Native.Nat.{_+_, _<_, _≤_};
 ghost use lib.ListN.{length};
 ghost use Rattle.space.specs.Sound.{Bounds, NodesIn};
-ghost use Rattle.trie.specs.Runs.{levels, Ends};
+ghost use Rattle.trie.specs.Runs.{Ends};
 
 // How many answers were damage, and a sum over all answers in order.
 struct Tally {
@@ -276,28 +274,18 @@ fn all_walks(space: &[u32], h: Head) -> Tally
     walks_both(space, h, &f, x)
 }
 
-// The path to an end that goes on from node n above its last tokens.
-fn long_tokens(space: &[u32], end: End, n: usize, last: &[u32; LEVELS], t: Tally) -> Tally
-    requires { ⌜ NodesIn (now space) (end .nodes) × (n < end .nodes) × (length (now last) ≡ levels) ⌝ }
-{
-    let mut path = [0u32; CELLS];
-    let Gathered::Tokens(k) = long_path(space, end, n, last, &mut path) else {
-        return with_damage(t);
-    };
-    with_tokens(t, &path[k..])
-}
-
-// The path to an end.
+// The path to an end, in the cells of a whole path.
 fn one_path(space: &[u32], end: End, t: Tally) -> Tally
     requires { ⌜ Ends (now space) end ⌝ }
 {
-    let mut cells = [0u32; LEVELS];
-    let short = short_path(space, end, &mut cells);
-    match short {
-        Short::Whole(k) => with_tokens(t, &cells[k..]),
-        Short::Longer(n) => long_tokens(space, end, n, &cells, t),
-        Short::Damaged => with_damage(t),
+    let mut few = [0u32; LEVELS];
+    let begun = few_path(space, end, &mut few);
+    let mut path = [0u32; CELLS];
+    let k = whole_path(space, end, begun, &few, &mut path);
+    if k == 0 {
+        return with_damage(t);
     }
+    with_tokens(t, &path[k..])
 }
 
 fn paths_to(space: &[u32], nodes: usize, links: usize, root: usize, start: Tally) -> Tally

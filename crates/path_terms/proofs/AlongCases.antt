@@ -1,12 +1,17 @@
--- A law for each case of a load and of an instance along paths.
-use Prim.Native.Nat.{ℕ}
+-- A law for each case of a load and of an instance along paths, and of the task that either is.
+use Prim.Native.Nat.{ℕ, zero, suc, _+_, _≤_}
 use mathlib.Core.Path.{_≡_, refl, sym, ap, _∙_}
 use mathlib.Core.Bool.{Bool, true, false}
 use mathlib.Core.List.{List}
 use lib.ListN.{length}
-use lib.Dec.{leb}
+use lib.Dec.{eqb, leb}
+use borrow.Author.Tests.{leb-true, leb-false, eq-eqb}
 use Rattle.basis.proofs.Cases.{by-cases}
+use Rattle.basis.proofs.Tests.{true-not-false}
+use Rattle.forms.specs.Cells.{arityOf}
 use Rattle.forms.specs.Compact.{pairForm, legalForm}
+use native.Mathlib.Omega.{arith}
+use Rattle.forms.proofs.RoundTrip.{legal-parts}
 use Rattle.forms.specs.Converting.{loading, fitting, fittingTerms, expanding, written}
 use Rattle.forms.specs.declared.Answer as converted
 use Rattle.forms.specs.declared.Answer.the-variants.{Cells, Refused, Short}
@@ -17,9 +22,12 @@ use Rattle.trie.specs.Paths.{Path, none, tokens}
 use Rattle.store.specs.Views.{View}
 use Rattle.store.specs.Decisions.{Decision, gives, refuses, sound, onPath}
 use Rattle.store.specs.Replies.{saidCells}
-use Rattle.instances.specs.Leaving.{instancedFrom, Leaves}
-use Rattle.instances.proofs.LeavingLaws.{leaves-says, leaves-same, gives-fits, path-behind, subgoalTest}
-use Rattle.path_terms.specs.AlongPaths.{loadedFrom}
+use Rattle.trie.specs.Runs.{levels}
+use Rattle.instances.specs.Leaving.{Leaves, sized, Instances}
+use Rattle.instances.proofs.LeavingLaws.{leaves-says, leaves-same, leaves-said, gives-fits, sized-short, sized-cells, path-behind, subgoalTest}
+use Rattle.path_terms.specs.AlongPaths.{LoadsPath, worth}
+use Rattle.path_terms.specs.Tasks.{inFew, Done}
+use Rattle.path_terms.proofs.WorthCases.{worth-lost}
 
 module _ (test : Word → Bool) (d : Word → Decision) where
   pub path-lost : (p : Path) → p ≡ none → refuses 9 ≡ onPath p test d
@@ -33,18 +41,27 @@ module _ (test : Word → Bool) (d : Word → Decision) where
 
 -- ---- load
 
--- of a path, by an equal one
-pub load-same : (arity : ℕ → ℕ) (v : View) (p q : Path) (m : ℕ) (out : List ℕ) (x : Reply) (out′ : List ℕ) → p ≡ q → Leaves v (loadedFrom arity p m) out x out′ → Leaves v (loadedFrom arity q m) out x out′
-load-same arity v p q m out x out′ e l = leaves-same v _ _ out x out′ (ap (λ (r : Path). loadedFrom arity r m) e) l
-
-pub load-lost : (arity : ℕ → ℕ) (v : View) (p : Path) (m : ℕ) (out : List ℕ) → p ≡ none → Leaves v (loadedFrom arity p m) out (refused 9) out
-load-lost arity v p m out e = leaves-says v _ out (refused 9) (path-lost (legalForm arity m) (λ w. gives (pairForm arity w)) p e)
+pub load-lost : (edition : ℕ) (p : Path) (m : ℕ) (out : List ℕ) → p ≡ none → LoadsPath edition p m out 0 out
+load-lost edition p m out e v = leaves-says v _ out (refused 9) (path-lost (legalForm (arityOf edition) m) (λ w. gives (pairForm (arityOf edition) w)) p e)
 
 -- expanding says 13 where loading says 9
 abbrev pub saidLoaded : converted.Answer → Reply
 saidLoaded (Cells n) = cells n
 saidLoaded (Refused r) = refused 9
 saidLoaded (Short n) = short n
+
+-- as a number
+abbrev pub numbered : converted.Answer → ℕ
+numbered (Cells n) = n + 1
+numbered (Refused r) = 0
+numbered (Short n) = n + 1
+
+fitting-numbered : (need room : ℕ) (r : converted.Answer) → r ≡ fitting need room → saidLoaded r ≡ sized room (numbered r)
+unfolding fitting
+fitting-numbered need room r e =
+    by-cases (leb need room)
+    (λ t. let i : r ≡ Cells need = rw t at e in rw i (sized-cells room (need + 1) need refl (leb-true _ _ t)))
+    (λ t. let i : r ≡ Short need = rw t at e in rw i (sized-short room (need + 1) need refl (leb-false _ _ t)))
 
 -- what fits is never refused by a number
 fitting-said : (need room : ℕ) (r : converted.Answer) → r ≡ fitting need room → saidCells r ≡ saidLoaded r
@@ -81,17 +98,75 @@ module _ (arity : ℕ → ℕ) (m : ℕ) (w : Word) (out : List ℕ) where
       let j : out′ ≡ out = rw i at f in
       leaves-same v (refuses 9) the-path out (saidLoaded r) out′ (sym (x .1)) (rw (i, j) (leaves-says v (refuses 9) out (refused 9) refl)))
 
+  expanding-numbered : (r : converted.Answer) → r ≡ expanding arity m w (length out) → saidLoaded r ≡ sized (length out) (numbered r)
+  expanding-numbered r e =
+      by-cases (legalForm arity m w)
+      (λ t. fitting-numbered (length (pairForm arity w)) (length out) r (e ∙ expanded-legal t .0))
+      (λ t. let i : r ≡ Refused 13 = e ∙ expanded-illegal t .0 in rw i refl)
+
+  pub numbered-few : (r : converted.Answer) → r ≡ expanding arity m w (length out) → numbered r ≤ 257
+  unfolding fitting
+  numbered-few r e =
+      by-cases (legalForm arity m w) (λ t.
+      let l = legal-parts arity m w t .cells in
+      by-cases (leb (length (pairForm arity w)) (length out))
+      (λ b. let i : r ≡ Cells (length (pairForm arity w)) = e ∙ expanded-legal t .0 ∙ simp b in rw i (omega arith))
+      (λ b. let i : r ≡ Short (length (pairForm arity w)) = e ∙ expanded-legal t .0 ∙ simp b in rw i (omega arith)))
+      (λ t. let i : r ≡ Refused 13 = e ∙ expanded-illegal t .0 in rw i (omega arith))
+
+pub loaded-numbered : (edition m : ℕ) (w : Word) (out : List ℕ) (r : converted.Answer) (out′ : List ℕ) → r ≡ expanding (arityOf edition) m w (length out) → out′ ≡ written r (pairForm (arityOf edition) w) out
+    → LoadsPath edition (tokens w) m out (numbered r) out′
+loaded-numbered edition m w out r out′ e f v =
+    leaves-said v _ out _ _ out′ (expanding-numbered (arityOf edition) m w out r e) (expanded-path (arityOf edition) m w out r out′ e f v)
+
 -- ---- instance
 
--- of two paths, by equal ones
-pub instance-same : (arity : ℕ → ℕ) (v : View) (p p′ q q′ : Path) (m : ℕ) (out : List ℕ) (x : Reply) (out′ : List ℕ) → p ≡ p′ → q ≡ q′ → Leaves v (instancedFrom arity p q m) out x out′ → Leaves v (instancedFrom arity p′ q′ m) out x out′
-instance-same arity v p p′ q q′ m out x out′ e f l =
-    leaves-same v _ _ out x out′ (ap (λ (r : Path). instancedFrom arity r q m) e ∙ ap (λ (r : Path). instancedFrom arity p′ r m) f) l
+pub instance-lost : (edition : ℕ) (p q : Path) (m : ℕ) (out : List ℕ) → p ≡ none → Instances edition p q m out 0 out
+instance-lost edition p q m out e v = leaves-says v _ out (refused 9) (path-lost (legalForm (arityOf edition) m) (λ w. onPath q (subgoalTest (compactCoding (arityOf edition)) m) (λ u. gives ((compactCoding (arityOf edition)) .instanceOf u w))) p e)
 
-pub instance-lost : (arity : ℕ → ℕ) (v : View) (p q : Path) (m : ℕ) (out : List ℕ) → p ≡ none → Leaves v (instancedFrom arity p q m) out (refused 9) out
-instance-lost arity v p q m out e = leaves-says v _ out (refused 9) (path-lost (legalForm arity m) (λ w. onPath q (subgoalTest (compactCoding arity) m) (λ u. gives ((compactCoding arity) .instanceOf u w))) p e)
+pub instance-under-lost : (edition : ℕ) (p q : Path) (m : ℕ) (out : List ℕ) → q ≡ none → Instances edition p q m out 0 out
+instance-under-lost edition p q m out e v =
+    leaves-says v _ out (refused 9) (path-behind (legalForm (arityOf edition) m) (λ w. onPath q (subgoalTest (compactCoding (arityOf edition)) m) (λ u. gives ((compactCoding (arityOf edition)) .instanceOf u w))) p
+    (λ w. path-lost (subgoalTest (compactCoding (arityOf edition)) m) (λ u. gives ((compactCoding (arityOf edition)) .instanceOf u w)) q e))
 
-pub instance-under-lost : (arity : ℕ → ℕ) (v : View) (p q : Path) (m : ℕ) (out : List ℕ) → q ≡ none → Leaves v (instancedFrom arity p q m) out (refused 9) out
-instance-under-lost arity v p q m out e =
-    leaves-says v _ out (refused 9) (path-behind (legalForm arity m) (λ w. onPath q (subgoalTest (compactCoding arity) m) (λ u. gives ((compactCoding arity) .instanceOf u w))) p
-    (λ w. path-lost (subgoalTest (compactCoding arity) m) (λ u. gives ((compactCoding arity) .instanceOf u w)) q e))
+-- ---- a task
+
+module _ (edition m : ℕ) (out : List ℕ) where
+  -- by equal paths
+  pub done-same : (task r : ℕ) (out′ : List ℕ) (p p′ q q′ : Path) → p ≡ p′ → q ≡ q′ → Done task edition p q m out r out′ → Done task edition p′ q′ m out r out′
+  done-same task r out′ p p′ q q′ e f d = rw f at (rw e at d)
+
+  -- an instance needs its second path, no other task does
+  pub done-single : (task r : ℕ) (out′ : List ℕ) (p p′ q q′ : Path) → (task ≡ 1 → ⊥) → p ≡ p′ → Done task edition p q m out r out′ → Done task edition p′ q′ m out r out′
+  done-single zero r out′ p p′ q q′ n e d = rw e at d
+  done-single (suc zero) r out′ p p′ q q′ n e d = absurd (n refl)
+  done-single (suc (suc k)) r out′ p p′ q q′ n e d = rw e at d
+
+  module _ (p q : Path) where
+    pub done-lost : (task : ℕ) → p ≡ none → Done task edition p q m out 0 out
+    done-lost zero e = load-lost edition p m out e
+    done-lost (suc zero) e = instance-lost edition p q m out e
+    done-lost (suc (suc k)) e = (worth-lost edition m (eqb (suc (suc k)) 3) p e, refl)
+
+    pub done-under-lost : (task : ℕ) → task ≡ 1 → q ≡ none → Done task edition p q m out 0 out
+    done-under-lost task t e = rw t (instance-under-lost edition p q m out e)
+
+    module _ (task r : ℕ) (out′ : List ℕ) where
+      pub done-load : task ≡ 0 → LoadsPath edition p m out r out′ → Done task edition p q m out r out′
+      done-load t d = rw t d
+
+      pub done-instance : task ≡ 1 → Instances edition p q m out r out′ → Done task edition p q m out r out′
+      done-instance t d = rw t d
+
+    pub done-judged : (task r : ℕ) → (task ≡ 0 → ⊥) → (task ≡ 1 → ⊥) → r ≡ worth edition m (eqb task 3) p → Done task edition p q m out r out
+    done-judged zero r a b e = absurd (a refl)
+    done-judged (suc zero) r a b e = absurd (b refl)
+    done-judged (suc (suc k)) r a b e = (e, refl)
+
+-- what few cells hold
+module _ (task begun above : ℕ) (t : inFew task begun above ≡ true) where
+  pub few-begun : begun ≤ levels
+  few-begun = by-cases (leb begun levels) (λ b. leb-true _ _ b) (λ b. absurd (true-not-false t (simp b)))
+
+  pub few-above : task ≡ 1 → above ≤ levels
+  few-above e = by-cases (leb above levels) (λ b. leb-true _ _ b) (λ b. absurd (true-not-false t (by-cases (leb begun levels) (λ c. simp (c, eq-eqb _ _ e, b)) (λ c. simp c))))

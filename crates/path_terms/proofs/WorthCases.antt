@@ -46,9 +46,9 @@ module _ (edition m : ℕ) (called : Bool) (w : Word) where
     pub worth-answered : called ≡ false → variables ≡ length (met [] w) → variables + 1 ≡ formWorth edition m called w
     worth-answered c v = rw (← form-loaded (arityOf edition) m w n e) (rw (c, v) refl)
 
-module _ (edition m : ℕ) (called : Bool) where
-  pub worth-same : (p q : Path) (r : ℕ) → p ≡ q → r ≡ worth edition m called p → r ≡ worth edition m called q
-  worth-same p q r e h = rw e at h
+pub worth-lost : (edition m : ℕ) (called : Bool) (p : Path) → p ≡ none → 0 ≡ worth edition m called p
+worth-lost edition m called p e = rw e refl
 
-  pub worth-lost : (p : Path) → p ≡ none → 0 ≡ worth edition m called p
-  worth-lost p e = rw e refl
+-- told of a flag by what it is
+pub worth-as : (edition m : ℕ) (p : Path) (r : ℕ) {called known : Bool} → called ≡ known → r ≡ worth edition m known p → r ≡ worth edition m called p
+worth-as edition m p r e w = rw e w

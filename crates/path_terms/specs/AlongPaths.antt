@@ -8,7 +8,6 @@ use Rattle.basis.specs.Choice.{pick}
 use Rattle.forms.specs.Cells.{arityOf}
 use Rattle.forms.specs.Compact.{pairForm, legalForm}
 use Rattle.forms.specs.Numbering.{met}
-use Rattle.forms.specs.declared.Answer.{Answer}
 use Rattle.plain.specs.Words.{Word}
 use Rattle.plain.specs.Coding.{predicate}
 use Rattle.trie.specs.Paths.{Path, none, tokens}
@@ -16,16 +15,23 @@ use Rattle.trie.specs.Runs.{pathTo}
 use Rattle.trie.specs.declared.End.{End}
 use Rattle.store.specs.Views.{View}
 use Rattle.store.specs.Decisions.{Decision, gives, onPath}
-use Rattle.store.specs.Replies.{saidCells}
-use Rattle.instances.specs.Leaving.{Leaves, Instances}
+use Rattle.instances.specs.Leaving.{Leaves, sized, Instances}
 
 -- the m terms of an answer's path
 abbrev pub loadedFrom : (ℕ → ℕ) → Path → ℕ → Decision
 loadedFrom arity p m = onPath p (legalForm arity m) (λ w. gives (pairForm arity w))
 
--- a path was loaded into out
-abbrev pub LoadsPath : ℕ → Path → ℕ → List ℕ → Answer → List ℕ → Type 0
-LoadsPath edition p m out r out′ = (v : View) → Leaves v (loadedFrom (arityOf edition) p m) out (saidCells r) out′
+-- the terms of a path were written to out, as a number says
+abbrev pub LoadsPath : ℕ → Path → ℕ → List ℕ → ℕ → List ℕ → Type 0
+LoadsPath edition p m out r out′ =
+    (v : View) → Leaves v (loadedFrom (arityOf edition) p m) out (sized (length out) r) out′
+
+-- those of a form, or of the path to an end
+abbrev pub LoadsOf : List ℕ → ℕ → ℕ → List ℕ → ℕ → List ℕ → Type 0
+LoadsOf form m edition out r out′ = LoadsPath edition (tokens form) m out r out′
+
+abbrev pub LoadsTo : List ℕ → End → ℕ → ℕ → List ℕ → ℕ → List ℕ → Type 0
+LoadsTo cs e m edition out r out′ = LoadsPath edition (pathTo cs e) m out r out′
 
 -- what a form is worth, held against m legal terms: one more than its variables; 0 where it is none, or where it is
 -- to be called and begins with neither an atom nor a functor
@@ -38,9 +44,6 @@ abbrev pub worth : (edition m : ℕ) → Bool → Path → ℕ
 worth edition m called none = 0
 worth edition m called (tokens w) = formWorth edition m called w
 
--- the instance of an answer was written to out: by the ends of both paths, or by its form and its subgoal's end
+-- the instance of an answer was written to out, by the ends of both paths
 abbrev pub InstancesTo : List ℕ → End → End → ℕ → ℕ → List ℕ → ℕ → List ℕ → Type 0
 InstancesTo cs e g m edition out r out′ = Instances edition (pathTo cs e) (pathTo cs g) m out r out′
-
-abbrev pub InstancesUnder : List ℕ → End → List ℕ → ℕ → ℕ → List ℕ → ℕ → List ℕ → Type 0
-InstancesUnder cs g form m edition out r out′ = Instances edition (tokens form) (pathTo cs g) m out r out′

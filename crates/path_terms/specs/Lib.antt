@@ -1,1 +1,2 @@
 pub mod AlongPaths
+pub mod Tasks

@@ -1,7 +1,7 @@
 // The paths of an answer and of its subgoal, gathered and loaded, or put together to an instance; and whether a path is
 // a legal form, for the crates that judge paths without loading them. A path is gathered in the few cells that suffice
-// for most; only a longer one gets the cells of a whole path, since each is cleared first.
-use basis::refusals::RECORDS;
+// for most; only a longer one gets the cells of a whole path, since each is cleared first. Every task goes on from there
+// by one function, so that this choice is made in one place.
 use convert::Loaded;
 use convert::buffers::FEW_TOKENS;
 use convert::buffers::SOME_TOKENS;
@@ -14,19 +14,39 @@ use forms::Answer;
 use forms::is_callable;
 use instances::instance_path;
 use trie::End;
-use trie::Gathered;
-use trie::Short;
 use trie::paths::CELLS;
 use trie::paths::LEVELS;
-use trie::paths::long_path;
-use trie::paths::short_path;
+use trie::paths::few_path;
+use trie::paths::whole_path;
 ghost use mathlib.Core.Path.{_≡_};
 ghost use Rattle.basis.specs.Moments.{old, new};
 ghost use Rattle.convert.specs.Holds.{RoomForTerms};
 ghost use Rattle.plain.specs.Coding.{predicate};
-ghost use Rattle.trie.specs.Paths.{tokens};
 ghost use Rattle.trie.specs.Runs.{Ends, pathTo};
-ghost use Rattle.path_terms.specs.AlongPaths.{formWorth, worth, LoadsPath, InstancesUnder, InstancesTo};
+ghost use Rattle.path_terms.specs.AlongPaths.{formWorth, worth, LoadsOf, LoadsTo, InstancesTo};
+ghost use Rattle.path_terms.specs.Tasks.{inFew, BothBegun, DoneTo};
+
+// What paths are gathered for: the terms of an answer, its instance, or what a path is worth, that of an answer or of a
+// subgoal, which is called. A number that each caller gives as a constant: so the compiler makes a copy of `use_begun`
+// for each, without the other tasks.
+const LOAD: u32 = 0;
+
+const INSTANCE: u32 = 1;
+
+const JUDGE: u32 = 2;
+
+const CALLED: u32 = 3;
+
+// The ends of an answer's path and of its subgoal's, what gathering each in few cells came to, and how many terms the
+// answer has. Where there is one path, it stands twice.
+pub struct Paths {
+    pub end: End,
+    pub begun: usize,
+    pub subgoal: End,
+    pub above: usize,
+    pub m: usize,
+    pub edition: u32,
+}
 
 // Does the form begin with an atom or a functor?
 fn begins(form: &[u32]) -> bool
@@ -73,86 +93,130 @@ fn form_worth(form: &[u32], m: usize, called: bool, edition: u32) -> usize
     form_worth_with(form, m, called, &mut cells, edition)
 }
 
-// The same of a path, from its leaf up; a damaged one is worth 0.
+// Loads the form of m terms: one more than their cells, which are written where there is room for them; 0 for what is
+// no legal form.
+fn load_form(form: &[u32], m: usize, out: &mut [u32], edition: u32) -> usize
+    ensures { λ r. ⌜ LoadsOf (old form) m edition (old out) r (new out) ⌝ }
+{
+    let expanded = expand_terms(&form[..], m, out, edition);
+    match expanded {
+        Answer::Cells(n) => n + 1,
+        Answer::Short(n) => n + 1,
+        Answer::Refused(_) => 0,
+    }
+}
+
+// A task is done with paths that were begun in few cells, in those of whole paths.
+fn use_long(
+    task: u32,
+    space: &[u32],
+    x: Paths,
+    few: &[u32; LEVELS],
+    called: &[u32; LEVELS],
+    out: &mut [u32],
+) -> usize
+    requires { ⌜ BothBegun (now space) x (now few) (now called) ⌝ }
+    ensures { λ r. ⌜ DoneTo task (old space) x (old out) r (new out) ⌝ }
+{
+    let mut path = [0u32; CELLS];
+    let k = whole_path(space, x.end, x.begun, few, &mut path);
+    if k == 0 {
+        return 0;
+    }
+    if task == LOAD {
+        return load_form(&path[k..], x.m, out, x.edition);
+    }
+    if task != INSTANCE {
+        return form_worth(&path[k..], x.m, task == CALLED, x.edition);
+    }
+    let mut above = [0u32; CELLS];
+    let j = whole_path(space, x.subgoal, x.above, called, &mut above);
+    if j == 0 {
+        return 0;
+    }
+    instance_path(&above[j..], &path[k..], x.m, out, x.edition)
+}
+
+// Do few cells hold the paths of a task?
+fn in_few(task: u32, begun: usize, above: usize) -> bool
+    ensures { λ r. ⌜ r ≡ inFew task begun above ⌝ }
+{
+    if LEVELS < begun {
+        return false;
+    }
+    if task == INSTANCE {
+        return above <= LEVELS;
+    }
+    true
+}
+
+// A task is done with paths that were begun in few cells: in these where they hold them. The choice between few cells
+// and those of a whole path stands here alone.
+fn use_begun(
+    task: u32,
+    space: &[u32],
+    x: Paths,
+    few: &[u32; LEVELS],
+    called: &[u32; LEVELS],
+    out: &mut [u32],
+) -> usize
+    requires { ⌜ BothBegun (now space) x (now few) (now called) ⌝ }
+    ensures { λ r. ⌜ DoneTo task (old space) x (old out) r (new out) ⌝ }
+{
+    if in_few(task, x.begun, x.above) {
+        let path = &few[..];
+        let k = x.begun;
+        if task == LOAD {
+            return load_form(&path[k..], x.m, out, x.edition);
+        }
+        if task != INSTANCE {
+            return form_worth(&path[k..], x.m, task == CALLED, x.edition);
+        }
+        let above = &called[..];
+        let j = x.above;
+        return instance_path(&above[j..], &path[k..], x.m, out, x.edition);
+    }
+    use_long(task, space, x, few, called, out)
+}
+
+// What a path is worth, from its leaf up; a damaged one is worth 0.
 pub fn path_worth(space: &[u32], end: End, m: usize, called: bool, edition: u32) -> usize
     requires { ⌜ Ends (now space) end ⌝ }
     ensures { λ r. ⌜ r ≡ worth edition m called (pathTo (old space) end) ⌝ }
 {
-    let mut cells = [0u32; LEVELS];
-    let short = short_path(space, end, &mut cells);
-    match short {
-        Short::Whole(k) => form_worth(&cells[k..], m, called, edition),
-        Short::Longer(n) => {
-            let mut path = [0u32; CELLS];
-            let long = long_path(space, end, n, &cells, &mut path);
-            match long {
-                Gathered::Tokens(k) => form_worth(&path[k..], m, called, edition),
-                Gathered::Damaged => 0,
-            }
-        }
-        Short::Damaged => 0,
+    let mut few = [0u32; LEVELS];
+    let begun = few_path(space, end, &mut few);
+    let x = Paths {
+        end: end,
+        begun: begun,
+        subgoal: end,
+        above: begun,
+        m: m,
+        edition: edition,
+    };
+    let mut none: [u32; 0] = [];
+    if called {
+        return use_begun(CALLED, space, x, &few, &few, &mut none);
     }
-}
-
-// A gathered path in pair form; what is no legal form is damage.
-fn expand_path(path: &[u32], m: usize, out: &mut [u32], edition: u32) -> Answer
-    ensures { λ r. ⌜ LoadsPath edition (tokens (old path)) m (old out) r (new out) ⌝ }
-{
-    let expanded = expand_terms(path, m, out, edition);
-    match expanded {
-        Answer::Cells(n) => Answer::Cells(n),
-        Answer::Short(n) => Answer::Short(n),
-        Answer::Refused(_) => Answer::Refused(RECORDS),
-    }
+    use_begun(JUDGE, space, x, &few, &few, &mut none)
 }
 
 // The terms of an answer, by its path from the leaf up.
-pub fn load_path(space: &[u32], end: End, m: usize, out: &mut [u32], edition: u32) -> Answer
+pub fn load_path(space: &[u32], end: End, m: usize, out: &mut [u32], edition: u32) -> usize
     requires { ⌜ Ends (now space) end ⌝ }
-    ensures { λ r. ⌜ LoadsPath edition (pathTo (old space) end) m (old out) r (new out) ⌝ }
+    ensures { λ r. ⌜ LoadsTo (old space) end m edition (old out) r (new out) ⌝ }
 {
-    let mut cells = [0u32; LEVELS];
-    let short = short_path(space, end, &mut cells);
-    match short {
-        Short::Whole(k) => expand_path(&cells[k..], m, out, edition),
-        Short::Longer(n) => {
-            let mut path = [0u32; CELLS];
-            let long = long_path(space, end, n, &cells, &mut path);
-            match long {
-                Gathered::Tokens(k) => expand_path(&path[k..], m, out, edition),
-                Gathered::Damaged => Answer::Refused(RECORDS),
-            }
-        }
-        Short::Damaged => Answer::Refused(RECORDS),
-    }
-}
-
-// The instance of an answer's form, by its subgoal's path from the leaf up.
-fn instance_under(
-    space: &[u32],
-    end: End,
-    form: &[u32],
-    m: usize,
-    out: &mut [u32],
-    edition: u32,
-) -> usize
-    requires { ⌜ Ends (now space) end ⌝ }
-    ensures { λ r. ⌜ InstancesUnder (old space) end (old form) m edition (old out) r (new out) ⌝ }
-{
-    let mut cells = [0u32; LEVELS];
-    let short = short_path(space, end, &mut cells);
-    match short {
-        Short::Whole(k) => instance_path(&cells[k..], &form[..], m, out, edition),
-        Short::Longer(n) => {
-            let mut path = [0u32; CELLS];
-            let long = long_path(space, end, n, &cells, &mut path);
-            match long {
-                Gathered::Tokens(k) => instance_path(&path[k..], &form[..], m, out, edition),
-                Gathered::Damaged => 0,
-            }
-        }
-        Short::Damaged => 0,
-    }
+    let mut few = [0u32; LEVELS];
+    let begun = few_path(space, end, &mut few);
+    let x = Paths {
+        end: end,
+        begun: begun,
+        subgoal: end,
+        above: begun,
+        m: m,
+        edition: edition,
+    };
+    use_begun(LOAD, space, x, &few, &few, out)
 }
 
 // The instance of an answer, by its path and its subgoal's from the leaves up.
@@ -167,18 +231,17 @@ pub fn instance_paths(
     requires { ⌜ Ends (now space) end × Ends (now space) subgoal ⌝ }
     ensures { λ r. ⌜ InstancesTo (old space) end subgoal m edition (old out) r (new out) ⌝ }
 {
-    let mut cells = [0u32; LEVELS];
-    let short = short_path(space, end, &mut cells);
-    match short {
-        Short::Whole(k) => instance_under(space, subgoal, &cells[k..], m, out, edition),
-        Short::Longer(n) => {
-            let mut path = [0u32; CELLS];
-            let long = long_path(space, end, n, &cells, &mut path);
-            match long {
-                Gathered::Tokens(k) => instance_under(space, subgoal, &path[k..], m, out, edition),
-                Gathered::Damaged => 0,
-            }
-        }
-        Short::Damaged => 0,
-    }
+    let mut few = [0u32; LEVELS];
+    let begun = few_path(space, end, &mut few);
+    let mut called = [0u32; LEVELS];
+    let above = few_path(space, subgoal, &mut called);
+    let x = Paths {
+        end: end,
+        begun: begun,
+        subgoal: subgoal,
+        above: above,
+        m: m,
+        edition: edition,
+    };
+    use_begun(INSTANCE, space, x, &few, &called, out)
 }

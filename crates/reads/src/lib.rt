@@ -150,6 +150,21 @@ fn pair_sound(space: &[u32], h: Head, a: usize) -> bool
     true
 }
 
+// The answer to a number of cells that were to be written to so much room: 0 is damage, any other one more than they
+// are.
+fn cells_answer(room: usize, n: usize) -> Answer
+    ensures { λ r. ⌜ saidCells r ≡ sized room n ⌝ }
+{
+    if n == 0 {
+        return Answer::Refused(RECORDS);
+    }
+    let cells = n - 1;
+    if room < cells {
+        return Answer::Short(cells);
+    }
+    Answer::Cells(cells)
+}
+
 // Load of an answer whose records are sound.
 fn load_with(space: &[u32], h: Head, a: usize, out: &mut [u32]) -> Answer
     requires { ⌜ HasAnswer (now space) h a ⌝ }
@@ -164,7 +179,9 @@ fn load_with(space: &[u32], h: Head, a: usize, out: &mut [u32]) -> Answer
         root: g.root,
         leaf: y.leaf,
     };
-    load_path(space, end, g.variables, out, h.edition)
+    let room = out.len();
+    let n = load_path(space, end, g.variables, out, h.edition);
+    cells_answer(room, n)
 }
 
 // Load, under a sound header.
@@ -193,21 +210,6 @@ pub fn load(space: &[u32], answer: u32, out: &mut [u32]) -> Answer
         Header::Sound(h) => load_in(space, h, wide(answer), out),
         Header::Refused(r) => Answer::Refused(r),
     }
-}
-
-// The answer to a number of cells that were to be written to so much room: 0 is damage, any other one more than they
-// are.
-fn cells_answer(room: usize, n: usize) -> Answer
-    ensures { λ r. ⌜ saidCells r ≡ sized room n ⌝ }
-{
-    if n == 0 {
-        return Answer::Refused(RECORDS);
-    }
-    let cells = n - 1;
-    if room < cells {
-        return Answer::Short(cells);
-    }
-    Answer::Cells(cells)
 }
 
 // Instance of an answer whose records are sound.

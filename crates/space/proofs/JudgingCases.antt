@@ -1,7 +1,7 @@
 -- A law for each case of judging.
 use Prim.Native.Nat.{ℕ, _+_, _<_, _≤_}
-use mathlib.Core.Path.{_≡_}
-use mathlib.Core.Bool.{true, false, not}
+use mathlib.Core.Path.{_≡_, refl}
+use mathlib.Core.Bool.{Bool, true, false, not, _&&_}
 use lib.Dec.{eqb, leb, ltb}
 use borrow.Author.Tests.{lt-ltb, le-ltb, le-leb, lt-leb, eq-eqb, ne-eqb}
 use Rattle.space.specs.Judging.{follows, bothOrNeither, nodeSound, subgoalSound, answerSound, readNode, readSubgoal, readAnswer}
@@ -51,6 +51,49 @@ module _ (nodes links n : ℕ) (y : Node) where
       pub node-link : y .parent ≤ n → leb (y .link) links ≡ nodeSound nodes links n y
       unfolding nodeSound
       node-link g = simp (e, f, le-leb _ _ g)
+
+-- ---- a node, by its two halves
+
+pub both-tests : (p n l links : ℕ) → p ≤ n → leb l links ≡ (leb p n && leb l links)
+both-tests p n l links g = simp (le-leb _ _ g)
+
+pub first-fails : (p n l links : ℕ) → n < p → false ≡ (leb p n && leb l links)
+first-fails p n l links g = simp (lt-leb _ _ g)
+
+pub and-second : (a b : Bool) → a ≡ true → b ≡ (a && b)
+and-second a b e = rw e refl
+
+pub and-none : (a b : Bool) → a ≡ false → false ≡ (a && b)
+and-none a b e = rw e refl
+
+and-all : (a b c : Bool) → a ≡ true → (b && c) ≡ (a && b && c)
+and-all a b c e = rw e refl
+
+and-first : (a b c : Bool) → a ≡ false → (a && b && c) ≡ false
+and-first a b c e = rw e refl
+
+and-others : (a b c : Bool) → (b && c) ≡ false → (a && b && c) ≡ false
+and-others true b c e = e
+and-others false b c e = refl
+
+module _ (nodes links n : ℕ) (y : Node) where
+  abbrev pub nodeRises : Bool
+  nodeRises = leb (y .parent) n && leb (y .link) links
+
+  abbrev pub nodeBranches : Bool
+  nodeBranches = follows nodes n (y .child) && follows nodes n (y .sibling)
+
+  pub node-halves : nodeBranches ≡ true → nodeRises ≡ nodeSound nodes links n y
+  unfolding nodeSound
+  node-halves e = and-all nodeBranches (leb (y .parent) n) (leb (y .link) links) e
+
+  pub node-unsound-below : nodeBranches ≡ false → nodeSound nodes links n y ≡ false
+  unfolding nodeSound
+  node-unsound-below e = and-first nodeBranches (leb (y .parent) n) (leb (y .link) links) e
+
+  pub node-unsound-above : nodeRises ≡ false → nodeSound nodes links n y ≡ false
+  unfolding nodeSound
+  node-unsound-above e = and-others nodeBranches (leb (y .parent) n) (leb (y .link) links) e
 
 module _ (nodes answers : ℕ) (y : Subgoal) where
   pub subgoal-leaf : nodes ≤ y .leaf → false ≡ subgoalSound nodes answers y

@@ -8,5 +8,5 @@ pub mod SlotLaws
 mod SearchCases
 mod TurnCases
 mod WalkCases
-mod PathCases
+pub mod PathCases
 mod AppendCases

@@ -1,5 +1,5 @@
 -- What a climb and a gathered path return and leave, case by case.
-use Prim.Native.Nat.{ℕ, suc, _+_, _-_, _*_, _/_, _<_, _≤_}
+use Prim.Native.Nat.{ℕ, suc, _+_, _-_, _*_, _<_, _≤_}
 use mathlib.Core.Path.{_≡_, refl, sym, ap, _∙_}
 use mathlib.Core.Bool.{true}
 use mathlib.Core.List.{List, [], _∷_, _++_, append-nil, append-assoc}
@@ -16,10 +16,8 @@ use Rattle.space.specs.declared.NodeRead.the-variants as node
 use Rattle.space.proofs.JudgingLaws.{node-bounds, read-node-sound, read-node-damaged}
 use Rattle.trie.specs.Siblings.{Trie, sound}
 use Rattle.trie.specs.Paths.{Path, none, tokens, gather, longest}
-use Rattle.trie.specs.Runs.{levels, pathCells, onto, Climb, lost, toRoot, cut, longer, climbed, lostCode, onCode, Ran, RunCopied, PathHolds, RunsHold, trieOf, pathBy, Begun, Found, GoesOn}
+use Rattle.trie.specs.Runs.{levels, pathCells, onto, Climb, lost, toRoot, cut, longer, climbed, lostCode, onCode, Ran, RunCopied, PathHolds, RunsHold, trieOf, pathTo, Begun, ClimbsRuns, Found, Gathers}
 use Rattle.trie.specs.declared.End.{End}
-use Rattle.trie.specs.declared.Short.the-variants as short
-use Rattle.trie.specs.declared.Gathered.the-variants.{Tokens, Damaged}
 use Rattle.trie.proofs.PathLaws.{climbed-unsound, climbed-root, climbed-other, climbed-up, Tells, climbed-tells, Within, gather-within}
 
 -- ---- a climb
@@ -145,12 +143,6 @@ module _ (t : Trie) (root n runs : ℕ) (a before sub after : List ℕ) (r : ℕ
   last-run (toRoot xs) x d h i = let e : r ≡ levels - length xs = d .0 in absurd (omega arith)
   last-run (cut p xs) x d h i = rw (x .3 (levels * runs - 1) (omega arith)) (refl, put .1)
 
-  -- the node number falls from run to run
-  pub next-lower : (c : Climb) → Tells t root n levels c → Ran levels c before sub r → lostCode < r → r - onCode < n
-  next-lower lost x d h = let e : r ≡ lostCode = d .0 in absurd (omega arith)
-  next-lower (toRoot xs) x d h = let e : r ≡ levels - length xs = d .0 in absurd (omega arith)
-  next-lower (cut p xs) x d h = let e : r ≡ onCode + p = d .0 in let l = x .1 in omega arith
-
   -- the runs above, with the tokens of this one behind theirs
   onto-placed : (p : Path) (xs b : List ℕ) (q : ℕ) → length xs ≡ levels → drop from after ≡ xs ++ drop (levels * runs) a → PathHolds from p q after b → PathHolds (levels * runs) (onto p xs) q a b
   onto-placed none xs b q m e d = d
@@ -176,77 +168,91 @@ module _ (t : Trie) (root n runs : ℕ) (a before sub after : List ℕ) (r : ℕ
         u .1 ∙ put .1,
       )
 
--- ---- a path in the cells of a run
+-- ---- a path in the cells of runs
 
-module _ (cs : List ℕ) (e : End) (a b : List ℕ) (r : ℕ) where
-  abbrev Told : Climb → Type 0
-  Told c = Tells (trieOf cs e) (e .root) (e .leaf) levels c
+-- the node number falls from run to run
+cut-lower : (t : Trie) (root n : ℕ) (a b : List ℕ) (r : ℕ) (c : Climb) → Tells t root n levels c → Ran levels c a b r → lostCode < r → r - onCode < n
+cut-lower t root n a b r lost x d h = let e : r ≡ lostCode = d .0 in absurd (omega arith)
+cut-lower t root n a b r (toRoot xs) x d h = let e : r ≡ levels - length xs = d .0 in absurd (omega arith)
+cut-lower t root n a b r (cut p xs) x d h = let e : r ≡ onCode + p = d .0 in let l = x .1 in omega arith
 
-  begun-whole : (c : Climb) → Told c → length a ≡ levels → length b ≡ levels → Ran levels c a b r → r < lostCode → Begun cs e (short.Whole r) b
-  begun-whole lost x l m d h = let o : r ≡ lostCode = d .0 in absurd (omega arith)
-  begun-whole (cut p xs) x l m d h = let o : r ≡ onCode + p = d .0 in absurd (omega arith)
-  begun-whole (toRoot xs) x l m d h =
-      let o : r ≡ levels - length xs = d .0 in
-      let k : length xs ≤ levels = x .0 in
-      (omega arith, x .1 longest (omega arith) ∙ ap tokens (sym (ap (λ (i : ℕ). drop i b) o ∙ tokens-of xs a b l (d .1))))
+module _ (cs : List ℕ) (e : End) where
+  abbrev climbedFrom : ℕ → Climb
+  climbedFrom n = climbed levels (trieOf cs e) (e .root) n
 
-  begun-damaged : (c : Climb) → Told c → Ran levels c a b r → r ≡ lostCode → Begun cs e short.Damaged b
-  begun-damaged lost x d h = x longest
-  begun-damaged (toRoot xs) x d h = let o : r ≡ levels - length xs = d .0 in absurd (omega arith)
-  begun-damaged (cut p xs) x d h = let o : r ≡ onCode + p = d .0 in absurd (omega arith)
+  tells : (n : ℕ) → Tells (trieOf cs e) (e .root) n levels (climbedFrom n)
+  tells n = climbed-tells (trieOf cs e) (e .root) levels n
 
-  begun-longer : (c : Climb) → Told c → length a ≡ levels → Ran levels c a b r → lostCode < r → e .leaf < e .nodes → Begun cs e (short.Longer (r - onCode)) b
-  begun-longer lost x l d h i = let o : r ≡ lostCode = d .0 in absurd (omega arith)
-  begun-longer (toRoot xs) x l d h i = let o : r ≡ levels - length xs = d .0 in absurd (omega arith)
-  begun-longer (cut p xs) x l d h i =
-      let o : r - onCode ≡ p = let o : r ≡ onCode + p = d .0 in omega arith in
-      let m : length xs ≡ levels = x .0 in
-      let q : p + levels ≤ e .leaf = x .1 in
-      let z : levels - length xs ≡ 0 = omega arith in
-      let s : b ≡ xs = ap (λ (i : ℕ). drop i b) (sym z) ∙ tokens-of xs a b l (d .1) in
-      (omega arith, x .2 longest (omega arith) ∙ ap (λ (j : ℕ). pathBy cs e j xs) (sym o) ∙ ap (pathBy cs e (r - onCode)) (sym s))
+  -- what a climb from node n answers, where that is to be gone on from, is a lower node
+  climb-falls : (n : ℕ) (a b : List ℕ) (r : ℕ) → Ran levels (climbedFrom n) a b r → lostCode < r → r - onCode < n
+  climb-falls n a b r d h = cut-lower (trieOf cs e) (e .root) n a b r (climbedFrom n) (tells n) d h
 
-  module _ (l : length a ≡ levels) (m : length b ≡ levels) (d : Ran levels (climbed levels (trieOf cs e) (e .root) (e .leaf)) a b r) where
-    abbrev this : Climb
-    this = climbed levels (trieOf cs e) (e .root) (e .leaf)
+  -- the same from run to run
+  pub run-falls : (r : ℕ) (a b : List ℕ) (q : ℕ) → Ran levels (climbedFrom (r - onCode)) a b q → lostCode < r → q < r
+  run-falls r a b q d h =
+      by-cases (leb q lostCode)
+      (λ t. let l : q ≤ lostCode = leb-true q lostCode t in omega arith)
+      (λ t. let l : lostCode < q = leb-false q lostCode t in let f = climb-falls (r - onCode) a b q d l in omega arith)
 
-    tells : Told this
-    tells = climbed-tells (trieOf cs e) (e .root) levels (e .leaf)
+  pub run-on : (r : ℕ) (a b : List ℕ) (q : ℕ) → Ran levels (climbedFrom (r - onCode)) a b q → r - onCode < e .nodes → onCode ≤ q → q - onCode < e .nodes
+  run-on r a b q d l h = let f = climb-falls (r - onCode) a b q d (omega arith) in omega arith
 
-    pub short-whole : r < lostCode → Begun cs e (short.Whole r) b
-    short-whole h = begun-whole this tells l m d h
+  module _ (r : ℕ) (run : List ℕ) (runs : ℕ) (a after : List ℕ) (one : 1 ≤ runs) (new : length run ≡ levels) (put : RunCopied run (levels * (runs - 1)) a after) where
+    pub runs-whole : r < lostCode → ClimbsRuns cs e r run runs a after (levels * (runs - 1) + r)
+    runs-whole h = (put .1, λ n before old d. whole-run (trieOf cs e) (e .root) n runs a before run after r one old new put (climbedFrom n) (tells n) d h)
 
-    pub short-damaged : r ≡ lostCode → Begun cs e short.Damaged b
-    short-damaged h = begun-damaged this tells d h
+    pub runs-lost : r ≡ lostCode → ClimbsRuns cs e r run runs a after 0
+    runs-lost h = (put .1, λ n before old d. lost-run (trieOf cs e) (e .root) n runs a before run after r one old new put (climbedFrom n) (tells n) d h)
 
-    pub short-longer : lostCode < r → e .leaf < e .nodes → Begun cs e (short.Longer (r - onCode)) b
-    short-longer h i = begun-longer this tells l d h i
+    pub runs-last : lostCode < r → runs ≡ 1 → ClimbsRuns cs e r run runs a after 0
+    runs-last h i = (put .1, λ n before old d. last-run (trieOf cs e) (e .root) n runs a before run after r one old new put (climbedFrom n) (tells n) d h i)
 
--- ---- the runs above it
+    -- the next run, climbed from the node where this one was cut
+    pub runs-next : lostCode < r → (runs ≡ 1 → ⊥) → (empty next : List ℕ) (q : ℕ) → length empty ≡ levels → Ran levels (climbedFrom (r - onCode)) empty next q
+        → (b : List ℕ) (k : ℕ) → ClimbsRuns cs e q next (runs - 1) after b k → ClimbsRuns cs e r run runs a b k
+    runs-next h i empty next q z ran b k u =
+        (u .0 ∙ put .1, λ n before old d. next-run (trieOf cs e) (e .root) n runs a before run after r one old new put (climbedFrom n) (tells n) d h i b k (u .1 (r - onCode) empty z ran))
 
--- how many, and their cells
-abbrev pub higher : ℕ
-higher = pathCells / levels - 1
+  -- ---- a path that was begun
 
-abbrev pub higherCells : ℕ
-higherCells = levels * higher
+  module _ (r : ℕ) (cells : List ℕ) (b : Begun cs e r cells) where
+    pub begun-size : length cells ≡ levels
+    begun-size = b .ran .2 ∙ b .size
 
-path-found : (p : Path) (run start a b : List ℕ) (k : ℕ) → length b ≡ pathCells → length start ≡ pathCells → drop higherCells a ≡ run ++ drop (higherCells + levels) start → (k ≡ 0 → ⊥) → PathHolds higherCells p k a b → Found (onto p run) (Tokens k) b
-path-found none run start a b k l m e z d = absurd (z d)
-path-found (tokens xs) run start a b k l m e z d =
-    let f : k + length xs ≡ higherCells = d .0 in
-    let n : drop (higherCells + levels) start ≡ [] = drop-of-length-le start {i = higherCells + levels} (omega arith) in
-    let g : drop higherCells a ≡ run = e ∙ ap (λ (ys : List ℕ). run ++ ys) n ∙ append-nil run in
-    (omega arith, ap tokens (sym (d .1 ∙ ap (λ (ys : List ℕ). xs ++ ys) g)))
+    -- it can be gone on from
+    pub begun-on : e .leaf < e .nodes → onCode ≤ r → r - onCode < e .nodes
+    begun-on l h = let f = climb-falls (e .leaf) (b .before) cells r (b .ran) (omega arith) in omega arith
 
-path-lost : (p : Path) (run a b : List ℕ) (k : ℕ) → Within (longest - levels) p → k ≡ 0 → PathHolds higherCells p k a b → Found (onto p run) Damaged b
-path-lost none run a b k w z d = refl
-path-lost (tokens xs) run a b k w z d = let e : k + length xs ≡ higherCells = d .0 in absurd (omega arith)
+    whole-begun : (c : Climb) → Tells (trieOf cs e) (e .root) (e .leaf) levels c → Ran levels c (b .before) cells r → r < lostCode → pathTo cs e ≡ tokens (drop r cells)
+    whole-begun lost x d h = let o : r ≡ lostCode = d .0 in absurd (omega arith)
+    whole-begun (cut p xs) x d h = let o : r ≡ onCode + p = d .0 in absurd (omega arith)
+    whole-begun (toRoot xs) x d h =
+        let o : r ≡ levels - length xs = d .0 in
+        let k : length xs ≤ levels = x .0 in
+        x .1 longest (omega arith) ∙ ap tokens (sym (ap (λ (i : ℕ). drop i cells) o ∙ tokens-of xs (b .before) cells (b .size) (d .1)))
 
-module _ (cs : List ℕ) (e : End) (n k : ℕ) (run start a b : List ℕ) (l : length start ≡ pathCells) (put : RunCopied run higherCells start a)
-    (d : RunsHold higher (gather (longest - levels) (trieOf cs e) (e .root) n) k a b) where
-  pub long-found : (k ≡ 0 → ⊥) → GoesOn cs e n run (Tokens k) b
-  long-found z = let f = d .1 in let g = put .1 in (path-found (gather (longest - levels) (trieOf cs e) (e .root) n) run start a b k (omega arith) l (put .0) z (d .0), omega arith)
+    -- where the cells hold it, it starts at r
+    pub begun-stands : r < lostCode → pathTo cs e ≡ tokens (drop r cells)
+    begun-stands h = whole-begun (climbedFrom (e .leaf)) (tells (e .leaf)) (b .ran) h
 
-  pub long-damaged : k ≡ 0 → GoesOn cs e n run Damaged b
-  long-damaged z = let f = d .1 in let g = put .1 in (path-lost (gather (longest - levels) (trieOf cs e) (e .root) n) run a b k (gather-within (longest - levels) (trieOf cs e) (e .root) n) z (d .0), omega arith)
+    found : (p : Path) (a path : List ℕ) (k : ℕ) → Within longest p → length a ≡ pathCells → length path ≡ pathCells → PathHolds pathCells p k a path → Found p k path
+    found none a path k w l m d = d
+    found (tokens xs) a path k w l m d =
+        let f : k + length xs ≡ pathCells = d .0 in
+        let z : drop pathCells a ≡ [] = drop-of-length-le a {i = pathCells} (omega arith) in
+        (omega arith, omega arith, d .1 ∙ ap (λ (ys : List ℕ). xs ++ ys) z ∙ append-nil xs)
+
+    -- gone on from, it stands in the cells of a whole path
+    pub begun-found : (a path : List ℕ) (k : ℕ) → length a ≡ pathCells → ClimbsRuns cs e r cells 6 a path k → Gathers cs e k path
+    begun-found a path k l u =
+        let d = u .1 (e .leaf) (b .before) (b .size) (b .ran) in
+        let m : length path ≡ pathCells = u .0 ∙ l in
+        (found (pathTo cs e) a path k (gather-within longest (trieOf cs e) (e .root) (e .leaf)) l m (d .0), m)
+
+found-within : (p : Path) (k : ℕ) (cells : List ℕ) → Found p k cells → k ≤ length cells
+found-within none k cells f = omega arith
+found-within (tokens xs) k cells f = f .1
+
+-- wherever it starts, that is within them
+pub gathers-within : (cs : List ℕ) (e : End) (k : ℕ) (cells : List ℕ) → Gathers cs e k cells → k ≤ pathCells
+gathers-within cs e k cells g = let l = found-within (pathTo cs e) k cells (g .0) in let m = g .1 in omega arith

@@ -10,10 +10,6 @@ use Rattle.space.specs.Sound.{NodesIn}
 use Rattle.trie.specs.Siblings.{Trie, trieIn, sound}
 use Rattle.trie.specs.Paths.{Path, none, tokens, gather, longest}
 use Rattle.trie.specs.declared.End.{End}
-use Rattle.trie.specs.declared.Gathered.{Gathered}
-use Rattle.trie.specs.declared.Gathered.the-variants.{Tokens, Damaged}
-use Rattle.trie.specs.declared.Short.{Short}
-use Rattle.trie.specs.declared.Short.the-variants as short
 
 -- the levels of a run
 abbrev pub levels : ℕ
@@ -87,11 +83,6 @@ PathHolds end (tokens xs) r a b = (r + length xs ≡ end) × (drop r b ≡ xs ++
 abbrev pub RunsHold : ℕ → Path → ℕ → List ℕ → List ℕ → Type 0
 RunsHold runs p r a b = PathHolds (levels * runs) p r a b × (length b ≡ length a)
 
--- a path that these cells can hold, in the cells of a space
-abbrev pub ClimbsRuns : List ℕ → ℕ → ℕ → ℕ → ℕ → ℕ → List ℕ → List ℕ → ℕ → Type 0
-ClimbsRuns cs nodes links root n runs a b r =
-    RunsHold runs (gather (levels * runs - 1) (trieIn sizes cs nodes links) root n) r a b
-
 -- ---- the path to an end, as a caller gets it
 
 abbrev pub trieOf : List ℕ → End → Trie
@@ -104,21 +95,31 @@ Ends cs e = NodesIn cs (e .nodes) × (e .leaf < e .nodes)
 abbrev pub pathTo : List ℕ → End → Path
 pathTo cs e = gather longest (trieOf cs e) (e .root) (e .leaf)
 
--- its last tokens are given, and it goes on from node n
-abbrev pub pathBy : List ℕ → End → ℕ → List ℕ → Path
-pathBy cs e n last = onto (gather (longest - levels) (trieOf cs e) (e .root) n) last
+-- ---- a path that was begun: the climb of a run from its leaf answered r and left these cells
 
--- a path stands in the cells from some place on
-abbrev pub Found : Path → Gathered → List ℕ → Type 0
-Found p (Tokens k) cells = (k ≤ length cells) × (p ≡ tokens (drop k cells))
-Found p Damaged cells = p ≡ none
+-- before it the cells held something, no matter what
+pub record Begun (cs : List ℕ) (e : End) (r : ℕ) (cells : List ℕ) : Type 0 where
+  pub before : List ℕ
+  pub size : length before ≡ levels
+  pub ran : Ran levels (climbed levels (trieOf cs e) (e .root) (e .leaf)) before cells r
 
--- a path in few cells: the same, or the cells hold its last tokens, and it goes on from a node
-abbrev pub Begun : List ℕ → End → Short → List ℕ → Type 0
-Begun cs e (short.Whole k) cells = (k ≤ length cells) × (pathTo cs e ≡ tokens (drop k cells))
-Begun cs e (short.Longer n) cells = (n < e .nodes) × (pathTo cs e ≡ pathBy cs e n cells)
-Begun cs e short.Damaged cells = pathTo cs e ≡ none
+-- a run that can be gone on from: where it was cut, at a node that there is
+abbrev pub RunBegun : List ℕ → End → ℕ → List ℕ → Type 0
+RunBegun cs e r run = NodesIn cs (e .nodes) × (length run ≡ levels) × (onCode ≤ r → r - onCode < e .nodes)
 
--- a path that goes on, in the cells of a whole one
-abbrev pub GoesOn : List ℕ → End → ℕ → List ℕ → Gathered → List ℕ → Type 0
-GoesOn cs e n last r cells = Found (pathBy cs e n last) r cells × (length cells ≡ pathCells)
+-- whatever node the run was climbed from: its path, where the cells of so many runs can hold it, stands in these
+abbrev pub ClimbsRuns : List ℕ → End → ℕ → List ℕ → ℕ → List ℕ → List ℕ → ℕ → Type 0
+ClimbsRuns cs e begun run runs a b r =
+    (length b ≡ length a)
+    × ((n : ℕ) (before : List ℕ) → length before ≡ levels
+    → Ran levels (climbed levels (trieOf cs e) (e .root) n) before run begun
+    → RunsHold runs (gather (levels * runs - 1) (trieOf cs e) (e .root) n) r a b)
+
+-- a path stands in the cells from r on, which is 0 where there is none
+abbrev pub Found : Path → ℕ → List ℕ → Type 0
+Found none r cells = r ≡ 0
+Found (tokens xs) r cells = (1 ≤ r) × (r ≤ length cells) × (drop r cells ≡ xs)
+
+-- the path to an end, in the cells of a whole one
+abbrev pub Gathers : List ℕ → End → ℕ → List ℕ → Type 0
+Gathers cs e r cells = Found (pathTo cs e) r cells × (length cells ≡ pathCells)

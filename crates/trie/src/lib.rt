@@ -28,16 +28,3 @@ pub struct End {
     pub root: usize,
     pub leaf: usize,
 }
-
-// A path gathered in few cells: whole, and where its tokens start; or longer, and the node from which it goes on.
-pub enum Short {
-    Whole(usize),
-    Longer(usize),
-    Damaged,
-}
-
-// Where the tokens that were gathered start.
-pub enum Gathered {
-    Tokens(usize),
-    Damaged,
-}

@@ -4,17 +4,16 @@
 // call. The cells of one run are all that most paths need, and few enough to be cleared in no time that was measured; a
 // caller lends the cells of a whole path only where the path turns out to be longer.
 use super::End;
-use super::Gathered;
-use super::Short;
 use basis::limits::MOST_TOKENS;
 use space::NodeRead;
-use space::records::read_node;
+use space::records::read_rising_node;
 ghost use mathlib.Core.Path.{_≡_};
 ghost use Prim.Native.Nat.{_<_, _≤_, _+_, _*_};
 ghost use lib.ListN.{length};
 ghost use Rattle.basis.specs.Moments.{old, new};
 ghost use Rattle.space.specs.Sound.{NodesIn};
-ghost use Rattle.trie.specs.Runs.{levels, pathCells, Climbs, RunCopied, ClimbsRuns, Ends, Begun, GoesOn};
+ghost use Rattle.trie.specs.Runs.{levels, pathCells, Climbs, RunCopied, RunBegun, ClimbsRuns};
+ghost use Rattle.trie.specs.Runs.{Ends, Begun, Gathers};
 
 // The levels of a run.
 pub const LEVELS: usize = 64;
@@ -22,10 +21,8 @@ pub const LEVELS: usize = 64;
 // The cells of a whole path: one more than it has tokens at most, which is a whole number of runs.
 pub const CELLS: usize = MOST_TOKENS + 1;
 
-// The runs above the first, and their cells.
-const HIGHER_RUNS: usize = CELLS / LEVELS - 1;
-
-const HIGHER_CELLS: usize = LEVELS * HIGHER_RUNS;
+// Its runs.
+const RUNS: usize = CELLS / LEVELS;
 
 // What `climb` answers for damage, and the least that it answers for a node to go on from.
 const LOST: usize = LEVELS + 1;
@@ -48,7 +45,7 @@ fn climb(
     requires { ⌜ (1 ≤ left) × (left ≤ levels) × (length (now run) ≡ levels) ⌝ }
     ensures { λ r. ⌜ Climbs (now (old space)) nodes links root n left (old run) (new run) r ⌝ }
 {
-    let NodeRead::Sound(y) = read_node(*space, nodes, links, n) else {
+    let NodeRead::Sound(y) = read_rising_node(*space, nodes, links, n) else {
         return LOST;
     };
     if y.parent == n {
@@ -65,12 +62,13 @@ fn climb(
     climb(space, nodes, links, root, y.parent, at, run)
 }
 
-// The path in the cells of a run, which hold its last tokens where it is longer.
-pub fn short_path(space: &[u32], end: End, cells: &mut [u32; LEVELS]) -> Short
+// The path in the cells of a run: where it starts, or a number above LEVELS where it is longer, and then they hold its
+// last tokens, or where it is damaged.
+pub fn few_path(space: &[u32], end: End, cells: &mut [u32; LEVELS]) -> usize
     requires { ⌜ Ends (now space) end × (length (now cells) ≡ levels) ⌝ }
-    ensures { λ r. ⌜ Begun (old space) end r (new cells) × (length (new cells) ≡ levels) ⌝ }
+    ensures { λ r. ⌜ Begun (old space) end r (new cells) ⌝ }
 {
-    let r = climb(
+    climb(
         &space,
         end.nodes,
         end.links,
@@ -78,14 +76,7 @@ pub fn short_path(space: &[u32], end: End, cells: &mut [u32; LEVELS]) -> Short
         end.leaf,
         LEVELS,
         cells,
-    );
-    if r < LOST {
-        return Short::Whole(r);
-    }
-    if r == LOST {
-        return Short::Damaged;
-    }
-    Short::Longer(r - ON)
+    )
 }
 
 // Copies a run to the cells of path from `from` on.
@@ -100,52 +91,54 @@ fn copy_run(run: &[u32; LEVELS], from: usize, path: &mut [u32])
     }
 }
 
-// The tokens of node n and of those above it, written to the cells of so many runs from behind: where they start, or 0
-// for none.
+// A path whose last run was climbed, in the cells of so many runs, from behind: the run is copied, and where it was cut,
+// the next is climbed. Where its tokens start, or 0 for none.
 fn climb_runs(
     space: &&[u32],
-    nodes: usize,
-    links: usize,
-    root: usize,
-    n: usize,
+    end: End,
+    begun: usize,
+    run: &[u32; LEVELS],
     runs: usize,
     path: &mut [u32],
 ) -> usize
-    requires { ⌜ NodesIn (now (now space)) nodes × (n < nodes) × (1 ≤ runs) × (levels * runs ≤ length (now path)) ⌝ }
-    ensures { λ r. ⌜ ClimbsRuns (now (old space)) nodes links root n runs (old path) (new path) r ⌝ }
+    requires { ⌜ RunBegun (now (now space)) end begun (now run) ⌝ }
+    requires { ⌜ (1 ≤ runs) × (levels * runs ≤ length (now path)) ⌝ }
+    ensures { λ r. ⌜ ClimbsRuns (now (old space)) end begun (old run) runs (old path) (new path) r ⌝ }
 {
-    let mut run = [0u32; LEVELS];
-    let r = climb(space, nodes, links, root, n, LEVELS, &mut run);
     let from = LEVELS * (runs - 1);
-    copy_run(&run, from, path);
-    if r < LOST {
-        return from + r;
+    copy_run(run, from, path);
+    if begun < LOST {
+        return from + begun;
     }
-    if r == LOST {
+    if begun == LOST {
         return 0;
     }
     if runs == 1 {
         return 0;
     }
-    climb_runs(space, nodes, links, root, r - ON, runs - 1, path)
+    let mut next = [0u32; LEVELS];
+    let r = climb(
+        space,
+        end.nodes,
+        end.links,
+        end.root,
+        begun - ON,
+        LEVELS,
+        &mut next,
+    );
+    climb_runs(space, end, r, &next, runs - 1, path)
 }
 
-// A path that goes on from node n above its last tokens, which are given, in the last cells of path.
-pub fn long_path(
+// A path that was begun in the cells of a run, in those of a whole path: where it starts, or 0 for none.
+pub fn whole_path(
     space: &[u32],
     end: End,
-    n: usize,
-    last: &[u32; LEVELS],
-    path: &mut [u32],
-) -> Gathered
-    requires { ⌜ NodesIn (now space) (end .nodes) × (n < end .nodes) ⌝ }
-    requires { ⌜ (length (now last) ≡ levels) × (length (now path) ≡ pathCells) ⌝ }
-    ensures { λ r. ⌜ GoesOn (old space) end n (old last) r (new path) ⌝ }
+    begun: usize,
+    few: &[u32; LEVELS],
+    path: &mut [u32; CELLS],
+) -> usize
+    requires { ⌜ Ends (now space) end × Begun (now space) end begun (now few) × (length (now path) ≡ pathCells) ⌝ }
+    ensures { λ r. ⌜ Gathers (old space) end r (new path) ⌝ }
 {
-    copy_run(last, HIGHER_CELLS, path);
-    let k = climb_runs(&space, end.nodes, end.links, end.root, n, HIGHER_RUNS, path);
-    if k == 0 {
-        return Gathered::Damaged;
-    }
-    Gathered::Tokens(k)
+    climb_runs(&space, end, begun, few, RUNS, path)
 }

@@ -13,7 +13,7 @@ use borrow.Fn.PlainCycle.{Measures, is, falls, and}
 use Rattle.trie.proofs.paths.climb.Reads as climb
 use Rattle.trie.proofs.paths.climb.Kinds as climb-kinds
 use Rattle.trie.proofs.paths.+climb.Lts-climb as climb-lts
-use Rattle.space.proofs.records.read_node.Reads as read-node-reads
+use Rattle.space.proofs.records.read_rising_node.Reads as read-rising-node-reads
 use Rattle.trie.proofs.paths.+climb.{statement}
 use Rattle.trie.proofs.paths.+climb.Tie.{close}
 
@@ -26,120 +26,120 @@ climb-at t = and 3 climb-kinds.ps (is 3 climb-kinds.ps μ-climb t) climb.Pre
 abbrev climb-below : ℕ → In 3 climb-kinds.ps
 climb-below t = and 3 climb-kinds.ps (falls 3 climb-kinds.ps _<_ μ-climb t) climb.Pre
 
-climb-read-node-requires : (t : ℕ) → climb-lts.Need-read-node-requires (
-  read-node-reads.Asked,
-  read-node-reads.Learnt,
+climb-read-rising-node-requires : (t : ℕ) → climb-lts.Need-read-rising-node-requires (
+  read-rising-node-reads.Asked,
+  read-rising-node-reads.Learnt,
   climb-below t,
   climb.Post,
 ) (climb-at t) climb.Post
-climb-read-node-requires t c κs = search needs
+climb-read-rising-node-requires t c κs = search needs
 
 climb-enum-known-y : (t : ℕ) → climb-lts.Need-enum-known-y (
-  read-node-reads.Asked,
-  read-node-reads.Learnt,
+  read-rising-node-reads.Asked,
+  read-rising-node-reads.Learnt,
   climb-below t,
   climb.Post,
 ) (climb-at t) climb.Post
 climb-enum-known-y t c = search needs
 
 climb-enum-told : (t : ℕ) → climb-lts.Need-enum-told (
-  read-node-reads.Asked,
-  read-node-reads.Learnt,
+  read-rising-node-reads.Asked,
+  read-rising-node-reads.Learnt,
   climb-below t,
   climb.Post,
 ) (climb-at t) climb.Post
 climb-enum-told t c = search needs
 
 climb-returns : (t : ℕ) → climb-lts.Need-returns (
-  read-node-reads.Asked,
-  read-node-reads.Learnt,
+  read-rising-node-reads.Asked,
+  read-rising-node-reads.Learnt,
   climb-below t,
   climb.Post,
 ) (climb-at t) climb.Post
-climb-returns t c = climb-damaged _ (trieIn sizes (c .before .before .before .before .args .space .now .now) (c .before .before .before .before .args .nodes) (c .before .before .before .before .args .links)) _ _ _ (search needs) (told (c .enum-told .given .1) (c .before .before .read-node .ensures))
+climb-returns t c = climb-damaged _ (trieIn sizes (c .before .before .before .before .args .space .now .now) (c .before .before .before .before .args .nodes) (c .before .before .before .before .args .links)) _ _ _ (search needs) (told (c .enum-told .given .1) (c .before .before .read-rising-node .ensures))
 
 climb-returns-2 : (t : ℕ) → climb-lts.Need-returns-2 (
-  read-node-reads.Asked,
-  read-node-reads.Learnt,
+  read-rising-node-reads.Asked,
+  read-rising-node-reads.Learnt,
   climb-below t,
   climb.Post,
 ) (climb-at t) climb.Post
-climb-returns-2 t c = climb-root _ (trieIn sizes (c .before .before .before .before .before .before .before .before .args .space .now .now) (c .before .before .before .before .before .before .before .before .args .nodes) (c .before .before .before .before .before .before .before .before .args .links)) _ _ _ (search needs) (c .before .before .before .before .y .given .0 .0) (told (c .before .before .before .before .y .given .1) (c .before .before .before .before .before .before .read-node .ensures)) (search needs) (search needs)
+climb-returns-2 t c = climb-root _ (trieIn sizes (c .before .before .before .before .before .before .before .before .args .space .now .now) (c .before .before .before .before .before .before .before .before .args .nodes) (c .before .before .before .before .before .before .before .before .args .links)) _ _ _ (search needs) (c .before .before .before .before .y .given .0 .0) (told (c .before .before .before .before .y .given .1) (c .before .before .before .before .before .before .read-rising-node .ensures)) (search needs) (search needs)
 
 climb-returns-3 : (t : ℕ) → climb-lts.Need-returns-3 (
-  read-node-reads.Asked,
-  read-node-reads.Learnt,
+  read-rising-node-reads.Asked,
+  read-rising-node-reads.Learnt,
   climb-below t,
   climb.Post,
 ) (climb-at t) climb.Post
-climb-returns-3 t c = climb-other _ (trieIn sizes (c .before .before .before .before .before .before .before .before .args .space .now .now) (c .before .before .before .before .before .before .before .before .args .nodes) (c .before .before .before .before .before .before .before .before .args .links)) _ _ _ (search needs) (c .before .before .before .before .y .given .0 .0) (told (c .before .before .before .before .y .given .1) (c .before .before .before .before .before .before .read-node .ensures)) (search needs) (search needs)
+climb-returns-3 t c = climb-other _ (trieIn sizes (c .before .before .before .before .before .before .before .before .args .space .now .now) (c .before .before .before .before .before .before .before .before .args .nodes) (c .before .before .before .before .before .before .before .before .args .links)) _ _ _ (search needs) (c .before .before .before .before .y .given .0 .0) (told (c .before .before .before .before .y .given .1) (c .before .before .before .before .before .before .read-rising-node .ensures)) (search needs) (search needs)
 
 climb-sub-at : (t : ℕ) → climb-lts.Need-sub-at (
-  read-node-reads.Asked,
-  read-node-reads.Learnt,
+  read-rising-node-reads.Asked,
+  read-rising-node-reads.Learnt,
   climb-below t,
   climb.Post,
 ) (climb-at t) climb.Post
 climb-sub-at t c = omega arith
 
 climb-mul-run : (t : ℕ) → climb-lts.Need-mul-run (
-  read-node-reads.Asked,
-  read-node-reads.Learnt,
+  read-rising-node-reads.Asked,
+  read-rising-node-reads.Learnt,
   climb-below t,
   climb.Post,
 ) (climb-at t) climb.Post
 climb-mul-run t c = omega arith
 
 climb-element-write-run : (t : ℕ) → climb-lts.Need-element-write-run (
-  read-node-reads.Asked,
-  read-node-reads.Learnt,
+  read-rising-node-reads.Asked,
+  read-rising-node-reads.Learnt,
   climb-below t,
   climb.Post,
 ) (climb-at t) climb.Post
 climb-element-write-run t c = omega arith
 
 climb-add-result : (t : ℕ) → climb-lts.Need-add-result (
-  read-node-reads.Asked,
-  read-node-reads.Learnt,
+  read-rising-node-reads.Asked,
+  read-rising-node-reads.Learnt,
   climb-below t,
   climb.Post,
 ) (climb-at t) climb.Post
-climb-add-result t c = let l = climb-lower 1 (trieIn sizes (c .before .before .before .before .before .before .before .before .before .args .space .now .now) (c .before .before .before .before .before .before .before .before .before .args .nodes) (c .before .before .before .before .before .before .before .before .before .args .links)) 0 (c .before .before .before .before .before .before .before .before .before .args .n) [] (omega arith) (c .before .before .before .before .before .y .given .0 .0) (told (c .before .before .before .before .before .y .given .1) (c .before .before .before .before .before .before .before .read-node .ensures)) in omega arith
+climb-add-result t c = let l = climb-lower 1 (trieIn sizes (c .before .before .before .before .before .before .before .before .before .args .space .now .now) (c .before .before .before .before .before .before .before .before .before .args .nodes) (c .before .before .before .before .before .before .before .before .before .args .links)) 0 (c .before .before .before .before .before .before .before .before .before .args .n) [] (omega arith) (c .before .before .before .before .before .y .given .0 .0) (told (c .before .before .before .before .before .y .given .1) (c .before .before .before .before .before .before .before .read-rising-node .ensures)) in omega arith
 
 climb-returns-4 : (t : ℕ) → climb-lts.Need-returns-4 (
-  read-node-reads.Asked,
-  read-node-reads.Learnt,
+  read-rising-node-reads.Asked,
+  read-rising-node-reads.Learnt,
   climb-below t,
   climb.Post,
 ) (climb-at t) climb.Post
-climb-returns-4 t c = climb-cut _ (trieIn sizes (c .before .before .before .before .before .before .before .before .before .args .space .now .now) (c .before .before .before .before .before .before .before .before .before .args .nodes) (c .before .before .before .before .before .before .before .before .before .args .links)) _ _ _ (search needs) (c .before .before .before .before .before .y .given .0 .0) (told (c .before .before .before .before .before .y .given .1) (c .before .before .before .before .before .before .before .read-node .ensures)) (search needs) (omega arith) (search needs)
+climb-returns-4 t c = climb-cut _ (trieIn sizes (c .before .before .before .before .before .before .before .before .before .args .space .now .now) (c .before .before .before .before .before .before .before .before .before .args .nodes) (c .before .before .before .before .before .before .before .before .before .args .links)) _ _ _ (search needs) (c .before .before .before .before .before .y .given .0 .0) (told (c .before .before .before .before .before .y .given .1) (c .before .before .before .before .before .before .before .read-rising-node .ensures)) (search needs) (omega arith) (search needs)
 
 climb-climb-requires : (t : ℕ) → climb-lts.Need-climb-requires (
-  read-node-reads.Asked,
-  read-node-reads.Learnt,
+  read-rising-node-reads.Asked,
+  read-rising-node-reads.Learnt,
   climb-below t,
   climb.Post,
 ) (climb-at t) climb.Post
-climb-climb-requires t c κs = let l = climb-lower 1 (trieIn sizes (c .before .before .before .before .before .before .before .before .before .args .space .now .now) (c .before .before .before .before .before .before .before .before .before .args .nodes) (c .before .before .before .before .before .before .before .before .before .args .links)) 0 (c .before .before .before .before .before .before .before .before .before .args .n) [] (omega arith) (c .before .before .before .before .before .y .given .0 .0) (told (c .before .before .before .before .before .y .given .1) (c .before .before .before .before .before .before .before .read-node .ensures)) in simp length-set (search needs)
+climb-climb-requires t c κs = let l = climb-lower 1 (trieIn sizes (c .before .before .before .before .before .before .before .before .before .args .space .now .now) (c .before .before .before .before .before .before .before .before .before .args .nodes) (c .before .before .before .before .before .before .before .before .before .args .links)) 0 (c .before .before .before .before .before .before .before .before .before .args .n) [] (omega arith) (c .before .before .before .before .before .y .given .0 .0) (told (c .before .before .before .before .before .y .given .1) (c .before .before .before .before .before .before .before .read-rising-node .ensures)) in simp length-set (search needs)
 
 climb-returns-5 : (t : ℕ) → climb-lts.Need-returns-5 (
-  read-node-reads.Asked,
-  read-node-reads.Learnt,
+  read-rising-node-reads.Asked,
+  read-rising-node-reads.Learnt,
   climb-below t,
   climb.Post,
 ) (climb-at t) climb.Post
-climb-returns-5 t c = climb-more _ (trieIn sizes (c .before .before .before .before .before .before .before .before .before .before .args .space .now .now) (c .before .before .before .before .before .before .before .before .before .before .args .nodes) (c .before .before .before .before .before .before .before .before .before .before .args .links)) _ _ _ (search needs) (c .before .before .before .before .before .before .y .given .0 .0) (told (c .before .before .before .before .before .before .y .given .1) (c .before .before .before .before .before .before .before .before .read-node .ensures)) (search needs) (omega arith) _ _ (c .climb .ensures)
+climb-returns-5 t c = climb-more _ (trieIn sizes (c .before .before .before .before .before .before .before .before .before .before .args .space .now .now) (c .before .before .before .before .before .before .before .before .before .before .args .nodes) (c .before .before .before .before .before .before .before .before .before .before .args .links)) _ _ _ (search needs) (c .before .before .before .before .before .before .y .given .0 .0) (told (c .before .before .before .before .before .before .y .given .1) (c .before .before .before .before .before .before .before .before .read-rising-node .ensures)) (search needs) (omega arith) _ _ (c .climb .ensures)
 
 pub +climb-spec : {M : Type 1} → statement M
 +climb-spec = close μ-climb λ t. climb-lts.spec (
-  read-node-reads.Asked,
-  read-node-reads.Learnt,
+  read-rising-node-reads.Asked,
+  read-rising-node-reads.Learnt,
   climb-below t,
   climb.Post,
 )
     (climb-at t)
     climb.Post
-    (climb-read-node-requires t)
+    (climb-read-rising-node-requires t)
     (climb-enum-known-y t)
     (climb-enum-told t)
     (climb-returns t)
