@@ -77,16 +77,16 @@ module _ (cs : List ℕ) (x : Sides) (ps ks : List ℕ) (k : Throughout cs x ps 
           stop : Stop cs (x .h) (x .first) outer y
           stop = remains-some cs (x .h) (x .first) outer y (k .first) (a .stands .outer) z e
 
-          pub first-takeable : FirstTakeable cs x (y .leaf) hands′
-          first-takeable = ((bounds-nodes cs (x .h) (k .bounds), stop .leaf-in), (stop .form, stop .path, stop .ground), k .first .few, omega (arith, f .1))
+          pub first-takeable : FirstTakeable cs x (y .leaf) hands′ form′
+          first-takeable = ((bounds-nodes cs (x .h) (k .bounds), stop .leaf-in), (stop .form, stop .path, stop .ground), k .first .few, omega (arith, f .1), f .2)
 
           -- fewer are still to come
           pub advancing-less : length (formsFrom cs (x .h) (x .first .number) (y .next)) < length (formsFrom cs (x .h) (x .first .number) outer)
           advancing-less = omega (arith, ap length (stop .are))
 
           -- the next answer of the first in hand
-          pub advancing-on : (hands″ : List ℕ) → TakesFirst cs x (y .leaf) hands′ hands″ → Advancing cs x ps ks from hands0 (y .next) (x .second .first) hands″ form′
-          advancing-on hands″ t =
+          pub advancing-on : (hands″ form″ : List ℕ) → TakesFirst cs x (y .leaf) hands′ hands″ → length form″ ≡ length form′ → Advancing cs x ps ks from hands0 (y .next) (x .second .first) hands″ form″
+          advancing-on hands″ form″ t s =
               let i : InHand (arityOf (x .h .edition)) (x .first .variables) (stop .form) hands″ = t .0 (stop .form) (stop .path) in
               let w : formIn (x .first .variables) hands″ ≡ stop .form = form-in (arityOf (x .h .edition)) (x .first .variables) (stop .form) hands″ i in
               let all : List Terms = partsFrom cs (x .h) (x .second) (x .second .first) in
@@ -94,7 +94,7 @@ module _ (cs : List ℕ) (x : Sides) (ps ks : List ℕ) (k : Throughout cs x ps 
               record {
                 stands = record {
                   outer = stop .behind;
-                  inner = record { rest = k .all; held = λ l. hand-said (arityOf (x .h .edition)) (x .first .variables) (stop .form) hands″ i; hands-room = t .1 ∙ f .1; form-room = f .2 };
+                  inner = record { rest = k .all; held = λ l. hand-said (arityOf (x .h .edition)) (x .first .variables) (stop .form) hands″ i; hands-room = t .1 ∙ f .1; form-room = s ∙ f .2 };
                 };
                 passed = only-behind
                     ∙ ap (λ (ws : List Word). combined ps ks (map (parts (arityOf (x .h .edition))) ws) (partsFrom cs (x .h) (x .second) (x .second .first))) (stop .are)

@@ -80,10 +80,10 @@ module _ (cs : List ℕ) (x : Sides) (ps ks : List ℕ) (k : Throughout cs x ps 
     stop : Stop cs (x .h) (x .second) b y
     stop = remains-some cs (x .h) (x .second) b y (k .second) (f .rest) z e
 
-    pub second-takeable : SecondTakeable cs x (y .leaf) hands
+    pub second-takeable : SecondTakeable cs x (y .leaf) hands form
     second-takeable = (
       omega (arith, f .hands-room),
-      ((bounds-nodes cs (x .h) (k .bounds), stop .leaf-in), (stop .form, stop .path, stop .ground), k .second .few, omega (arith, f .hands-room, length-drop hand hands)),
+      ((bounds-nodes cs (x .h) (k .bounds), stop .leaf-in), (stop .form, stop .path, stop .ground), k .second .few, omega (arith, f .hands-room, length-drop hand hands), f .form-room),
     )
 
     pub rises : (y .next ≡ 0 → ⊥) → b < y .next
@@ -96,8 +96,8 @@ module _ (cs : List ℕ) (x : Sides) (ps ks : List ℕ) (k : Throughout cs x ps 
     pub next-within : y .next ≤ x .h .answers
     next-within = stop .behind .within
 
-    -- after the second's answer is in hand too
-    module _ (hands′ : List ℕ) (t : TakesSecond cs x (y .leaf) hands hands′) where
+    -- after the second's answer is in hand too, and its path in the cells of the form
+    module _ (hands′ used : List ℕ) (t : TakesSecond cs x (y .leaf) hands hands′) (s : length used ≡ length form) where
       pub size : length hands′ ≡ twoHands
       size = omega (arith, f .hands-room, length-drop hand hands, length-drop hand hands′, t .0 .1, ap length (t .1), length-take hand hands, length-take hand hands′)
 
@@ -141,19 +141,19 @@ module _ (cs : List ℕ) (x : Sides) (ps ks : List ℕ) (k : Throughout cs x ps 
       matched r c = c (arityOf (x .h .edition)) (x .first .variables) (x .second .variables) (formIn (x .first .variables) hands0) (stop .form) first-held second-held (k .paired)
 
       -- the answer does not match
-      pub finding-on : (r : Bool) → HandsCompare ps hands′ r → r ≡ false → Finding cs x ps ks from hands0 (y .next) hands′ form
+      pub finding-on : (r : Bool) → HandsCompare ps hands′ r → r ≡ false → Finding cs x ps ks from hands0 (y .next) hands′ used
       finding-on r c q = record {
         rest = stop .behind;
         began = λ l. low;
         kept = kept;
         passed = f .passed ∙ along-step cs x ps ks b hands0 y stop ∙ ap (λ (t : Bool). pick t (copied ks us vs ∷ alongHand cs x ps ks (y .next) hands0) (alongHand cs x ps ks (y .next) hands0)) (sym (matched r c) ∙ q);
         hands-room = size;
-        form-room = f .form-room;
+        form-room = s ∙ f .form-room;
       }
 
       -- it does
       module _ (r : Bool) (c : HandsCompare ps hands′ r) (q : r ≡ true) where
-        pub copyable : HandsCopyable (x .h .edition) ks hands′ form
+        pub copyable : HandsCopyable (x .h .edition) ks hands′ used
         copyable = (
           omega (arith, size),
           record {
@@ -164,14 +164,14 @@ module _ (cs : List ℕ) (x : Sides) (ps ks : List ℕ) (k : Throughout cs x ps 
             first = first-held;
             second = second-held;
             named = k .copied;
-            room = omega (arith, f .form-room);
+            room = omega (arith, s, f .form-room);
           },
         )
 
         first-is : alongHand cs x ps ks from hands0 ≡ copied ks us vs ∷ alongHand cs x ps ks (y .next) hands0
         first-is = f .passed ∙ along-step cs x ps ks b hands0 y stop ∙ ap (λ (t : Bool). pick t (copied ks us vs ∷ alongHand cs x ps ks (y .next) hands0) (alongHand cs x ps ks (y .next) hands0)) (sym (matched r c) ∙ q)
 
-        module _ (form′ : List ℕ) (w : Together) (p : HandsCopied (x .h .edition) ks hands′ form form′ w) where
+        module _ (form′ : List ℕ) (w : Together) (p : HandsCopied (x .h .edition) ks hands′ used form′ w) where
           put : Holds (arityOf (x .h .edition)) (copied ks us vs) form′ w
           put = p .holds (x .first .variables) (x .second .variables) (formIn (x .first .variables) hands0) (stop .form) first-held second-held (k .copied)
 
@@ -186,7 +186,7 @@ module _ (cs : List ℕ) (x : Sides) (ps ks : List ℕ) (k : Throughout cs x ps 
                   rest = stop .behind;
                   held = λ b. stays .1;
                   hands-room = size;
-                  form-room = p .size ∙ f .form-room;
+                  form-room = p .size ∙ s ∙ f .form-room;
                 },
                 (
                   omega (arith, l, length-take n form′),

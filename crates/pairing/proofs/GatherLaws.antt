@@ -5,25 +5,28 @@ use mathlib.Core.Bool.{true}
 use mathlib.Core.List.{List, [], _∷_, _++_, append-nil, append-assoc}
 use native.Mathlib.Omega.{arith}
 use lib.Dec.{eqb}
-use lib.ListN.{length, take, drop, set, length-append, length-set, drop-of-length-le}
+use lib.ListN.{length, drop, set, length-append, length-set, drop-of-length-le}
 use borrow.Author.Tests.{eqb-true, eqb-false}
 use Rattle.basis.proofs.SetsLaws.{drop-written}
 use Rattle.basis.proofs.Cases.{by-cases}
-use Rattle.forms.specs.Cells.{arityOf}
 use Rattle.plain.specs.Words.{Word}
 use Rattle.space.specs.Layout.{sizes, nodeIn}
 use Rattle.space.specs.declared.Node.{Node}
 use Rattle.space.proofs.JudgingLaws.{node-bounds}
 use Rattle.trie.specs.Siblings.{Trie, sound}
 use Rattle.trie.specs.Paths.{Path, none, tokens, below, gather, longest}
-use Rattle.trie.specs.Runs.{trieOf, pathTo, pathCells}
+use Rattle.trie.specs.Runs.{trieOf, pathTo}
 use Rattle.trie.specs.declared.End.{End}
 use Rattle.trie.proofs.PathLaws.{gather-unsound, gather-root, gather-other, gather-deep, gather-up}
-use Rattle.pairing.specs.Pairing.{Gatherable, Gathers, PathTakeable}
-use Rattle.pairing.proofs.HandLaws.{tokensOf, path-there, ground-short}
+use Rattle.pairing.specs.Pairing.{Gatherable, Gathers}
+use Rattle.pairing.proofs.HandLaws.{tokensOf}
 
 none-not : {us : List ℕ} → none ≡ tokens us → ⊥
 none-not e = let z : _≡_ {A = ℕ} 0 1 = cc in omega arith
+
+nothing : (us : List ℕ) → length us ≡ 0 → us ≡ []
+nothing [] z = refl
+nothing (u ∷ us) z = absurd (omega arith)
 
 -- ---- one node of a path that there is
 
@@ -72,7 +75,7 @@ pub record Gathering (cs : List ℕ) (e : End) (cells₀ cells : List ℕ) (n at
   pub whole : pathTo cs e ≡ tokens (first ++ drop at cells)
 
 module _ (cs : List ℕ) (e : End) (cells₀ : List ℕ) where
-  pub gathering-begun : Gatherable cs e → Gathering cs e cells₀ cells₀ (e .leaf) (length cells₀)
+  pub gathering-begun : Gatherable cs e cells₀ → Gathering cs e cells₀ cells₀ (e .leaf) (length cells₀)
   gathering-begun g = record {
     used = g .0 .1;
     within = omega arith;
@@ -84,32 +87,26 @@ module _ (cs : List ℕ) (e : End) (cells₀ : List ℕ) where
   }
 
   module _ (cells : List ℕ) (n at : ℕ) (g : Gathering cs e cells₀ cells n at) where
-    -- no cell is left
-    pub gathered-none : at ≡ 0 → Gathers cs e cells₀ cells 0
-    gathered-none z = (
-      omega arith,
-      λ l. absurd (omega arith),
-      λ w p q.
-          let u : w ≡ g .first ++ drop at cells = ap tokensOf (sym p ∙ g .whole) in
-          let d : drop at cells ≡ cells = ap (λ (i : ℕ). drop i cells) z in
-          omega (arith, ap length u, length-append (g .first) (drop at cells), ap length d),
-      g .size,
-    )
+    -- no cell is left: the path fills them
+    pub gathered-all : Gatherable cs e cells₀ → at ≡ 0 → Gathers cs e cells₀ cells 0
+    gathered-all p z =
+        let u : p .1 .0 ≡ g .first ++ drop at cells = ap tokensOf (sym (p .1 .1) ∙ g .whole) in
+        let d : drop at cells ≡ cells = ap (λ (i : ℕ). drop i cells) z in
+        let l : length (g .first) ≡ 0 = omega (arith, ap length u, length-append (g .first) (drop at cells), ap length d, p .1 .2, g .size) in (
+          omega arith,
+          g .whole ∙ ap (λ (us : List ℕ). tokens (us ++ drop at cells)) (nothing (g .first) l) ∙ ap (λ (i : ℕ). tokens (drop i cells)) z,
+          g .size,
+        )
 
     module _ (y : Node) (is : y ≡ nodeIn sizes cs n) where
       own : y .parent ≡ trieOf cs e .at n .parent
       own = ap (λ (x : Node). x .parent) is
 
       -- the root is reached
-      pub gathered-root : y .parent ≡ n → 0 < at → Gathers cs e cells₀ cells at
-      gathered-root p l =
+      pub gathered-root : y .parent ≡ n → Gathers cs e cells₀ cells at
+      gathered-root p =
           let z : g .first ≡ [] = path-root (trieOf cs e) (e .root) n (g .first) (g .fuel) (g .path) (sym own ∙ p) in
-          let whole : pathTo cs e ≡ tokens (drop at cells) = g .whole ∙ ap (λ (us : List ℕ). tokens (us ++ drop at cells)) z in (
-            g .within,
-            λ o. whole,
-            λ w q k. absurd (omega arith),
-            g .size,
-          )
+          (g .within, g .whole ∙ ap (λ (us : List ℕ). tokens (us ++ drop at cells)) z, g .size)
 
       -- one node more
       module _ (p : y .parent ≡ n → ⊥) where
@@ -139,18 +136,3 @@ module _ (cs : List ℕ) (e : End) (cells₀ : List ℕ) where
                   ∙ ap (λ (x : ℕ). tokens (above .first ++ (x ∷ drop at cells))) o
                   ∙ ap (λ (ys : List ℕ). tokens (above .first ++ ys)) (sym d);
             }
-
--- ---- what is gathered, as a part of a slice gives it
-
-module _ (cs : List ℕ) (e : End) (cells : List ℕ) (k size : ℕ) (z : length cells ≡ size) where
-  pub gathered-there : (0 < k → pathTo cs e ≡ tokens (drop k cells)) → 0 < k → pathTo cs e ≡ tokens (take (size - k) (drop k cells))
-  gathered-there g l = path-there (pathTo cs e) cells (size - k) k (omega arith) (g l)
-
-  -- the cells of a whole path are always enough
-  pub gathered-some : (m : ℕ) (held : List ℕ) (edition : ℕ) → PathTakeable cs e m held edition → size ≡ pathCells
-      → ((w : Word) → pathTo cs e ≡ tokens w → k ≡ 0 → length cells ≤ length w) → 0 < k
-  gathered-some m held edition t y g =
-      let s : length (t .1 .0) ≤ 383 = ground-short (arityOf edition) m (t .1 .0) (t .1 .2) in
-      by-cases (eqb k 0)
-      (λ b. absurd (omega (arith, s, g (t .1 .0) (t .1 .1) (eqb-true _ _ b))))
-      (λ b. let o : k ≡ 0 → ⊥ = eqb-false _ _ b in omega arith)

@@ -21,7 +21,7 @@ use Rattle.parts.specs.Hands as hands
 use Rattle.parts.specs.declared.Together.{Together}
 use Rattle.forms.specs.Cells.{arityOf}
 use Rattle.pairing.specs.declared.Sides.{Sides}
-use Rattle.pairing.specs.Pairing.{hand, formIn, twoHands, PathTakeable, Takes, endOf, TakesSecond, HandsComparable, HandsCompare, HandsCopyable, HandsCopied}
+use Rattle.pairing.specs.Pairing.{Gatherable, hand, formIn, twoHands, PathTakeable, Takes, endOf, TakesSecond, HandsComparable, HandsCompare, HandsCopyable, HandsCopied}
 
 pub ground-short : (arity : ℕ → ℕ) (m : ℕ) (w : Word) → GroundForm arity m w → length w ≤ 383
 ground-short arity m w g = compact-laws arity .legal-short m w (g .legal)
@@ -86,8 +86,12 @@ path-there p ks n k l e =
     let d : length (drop k ks) ≡ length ks - k = length-drop k ks in
     e ∙ ap tokens (sym (take-all n (drop k ks) (omega arith)))
 
-module _ (cs : List ℕ) (e : End) (m : ℕ) (held : List ℕ) (edition : ℕ) where
-  pub path-takeable : (form : List ℕ) → PathTakeable cs e m held edition → pathTo cs e ≡ tokens form → hands.Takeable edition m form held
+module _ (cs : List ℕ) (e : End) (m : ℕ) (held cells : List ℕ) (edition : ℕ) where
+  -- the cells suffice for it
+  pub path-gatherable : PathTakeable cs e m held cells edition → Gatherable cs e cells
+  path-gatherable k = (k .0, (k .1 .0, k .1 .1, omega (arith, ground-short (arityOf edition) m (k .1 .0) (k .1 .2), k .4)))
+
+  pub path-takeable : (form : List ℕ) → PathTakeable cs e m held cells edition → pathTo cs e ≡ tokens form → hands.Takeable edition m form held
   path-takeable form k p =
       let q : k .1 .0 ≡ form = ap tokensOf (sym (k .1 .1) ∙ p) in
       let g : GroundForm (arityOf edition) m form = subst (GroundForm (arityOf edition) m) q (k .1 .2) in
@@ -97,7 +101,7 @@ module _ (cs : List ℕ) (e : End) (m : ℕ) (held : List ℕ) (edition : ℕ) w
   path-takes form held′ p t =
       (λ w q. subst (λ (v : Word). InHand (arityOf edition) m v held′) (ap tokensOf (sym p ∙ q)) (t .hand), t .size)
 
-  pub path-lost : PathTakeable cs e m held edition → pathTo cs e ≡ none → ⊥
+  pub path-lost : PathTakeable cs e m held cells edition → pathTo cs e ≡ none → ⊥
   path-lost k p = mathlib.Core.Bool.false≢true (ap isPath (sym p ∙ k .1 .1))
 
 -- ---- the second hand, as a part of the cells

@@ -70,22 +70,20 @@ mostTokens = 383
 abbrev pub formIn : ℕ → List ℕ → Word
 formIn m held = take (getD held m 0 - tokensStart) (drop tokensStart held)
 
--- there is a path to an end
-abbrev pub Gatherable : List ℕ → End → Type 0
-Gatherable cs e = Ends cs e × ((w : Word) × (pathTo cs e ≡ tokens w))
+-- there is a path to an end, and there are cells enough for it
+abbrev pub Gatherable : List ℕ → End → List ℕ → Type 0
+Gatherable cs e cells = Ends cs e × ((w : Word) × (pathTo cs e ≡ tokens w) × (length w ≤ length cells))
 
--- it stands in the cells from k on; k is 0 where its tokens are not fewer than the cells
+-- it stands in the cells from k on
 abbrev pub Gathers : List ℕ → End → List ℕ → List ℕ → ℕ → Type 0
 Gathers cs e cells cells′ k =
-    (k ≤ length cells′) × (0 < k → pathTo cs e ≡ tokens (drop k cells′))
-    × ((w : Word) → pathTo cs e ≡ tokens w → k ≡ 0 → length cells′ ≤ length w)
-    × (length cells′ ≡ length cells)
+    (k ≤ length cells′) × (pathTo cs e ≡ tokens (drop k cells′)) × (length cells′ ≡ length cells)
 
--- the path to an end is the form of m terms without variables, and there is room for it
-abbrev pub PathTakeable : List ℕ → End → ℕ → List ℕ → ℕ → Type 0
-PathTakeable cs e m held edition =
+-- the path to an end is the form of m terms without variables, and there is room for it, and cells to gather it in
+abbrev pub PathTakeable : List ℕ → End → ℕ → List ℕ → List ℕ → ℕ → Type 0
+PathTakeable cs e m held form edition =
     Ends cs e × ((w : Word) × (pathTo cs e ≡ tokens w) × GroundForm (arityOf edition) m w) × (m ≤ 32)
-    × (hand ≤ length held)
+    × (hand ≤ length held) × (length form ≡ mostTokens)
 
 -- it is in hand afterwards
 abbrev pub Takes : List ℕ → End → ℕ → List ℕ → List ℕ → ℕ → Type 0
@@ -96,18 +94,18 @@ Takes cs e m held held′ edition =
 abbrev pub endOf : Head → Source → ℕ → End
 endOf h x leaf = record { nodes = h .nodes; links = h .answers; root = x .root; leaf = leaf }
 
-abbrev pub FirstTakeable : List ℕ → Sides → ℕ → List ℕ → Type 0
-FirstTakeable cs x leaf hands =
-    PathTakeable cs (endOf (x .h) (x .first) leaf) (x .first .variables) hands (x .h .edition)
+abbrev pub FirstTakeable : List ℕ → Sides → ℕ → List ℕ → List ℕ → Type 0
+FirstTakeable cs x leaf hands form =
+    PathTakeable cs (endOf (x .h) (x .first) leaf) (x .first .variables) hands form (x .h .edition)
 
 abbrev pub TakesFirst : List ℕ → Sides → ℕ → List ℕ → List ℕ → Type 0
 TakesFirst cs x leaf hands hands′ =
     Takes cs (endOf (x .h) (x .first) leaf) (x .first .variables) hands hands′ (x .h .edition)
 
-abbrev pub SecondTakeable : List ℕ → Sides → ℕ → List ℕ → Type 0
-SecondTakeable cs x leaf hands =
+abbrev pub SecondTakeable : List ℕ → Sides → ℕ → List ℕ → List ℕ → Type 0
+SecondTakeable cs x leaf hands form =
     (twoHands ≤ length hands)
-    × PathTakeable cs (endOf (x .h) (x .second) leaf) (x .second .variables) (drop hand hands) (x .h .edition)
+    × PathTakeable cs (endOf (x .h) (x .second) leaf) (x .second .variables) (drop hand hands) form (x .h .edition)
 
 -- the first hand stays
 abbrev pub TakesSecond : List ℕ → Sides → ℕ → List ℕ → List ℕ → Type 0

@@ -11,7 +11,6 @@ use parts::take_in_hand;
 use space::records::answer_in;
 use space::records::node_in;
 use trie::End;
-use trie::paths::CELLS;
 ghost use mathlib.Core.Path.{_≡_};
 ghost use Rattle.basis.specs.Moments.{old, new};
 ghost use Rattle.pairing.specs.Pairing.{Gatherable, Gathers, PathTakeable, Takes};
@@ -22,15 +21,11 @@ ghost use Rattle.pairing.specs.Pairing.{Throughout, Compared, Stands, Fi
 // The cells of two hands: the first's answer is in the one, the second's in the other.
 pub const HANDS: usize = 2 * HAND;
 
-// Cells that most paths do not fill. Cells are cleared before they are lent.
-const FEW: usize = 32;
-
 // The tokens of the path that ends here, from its leaf up to its root, written to the cells from behind: where they
-// start, or 0 where they are not fewer than the cells. That a path is gathered by recursion on the parent is asked of
-// load, and stays so there; this is a loop. It judges no node: the sources were judged before the first pass, and no
-// pass changes them.
+// start. There are cells enough. That a path is gathered by recursion on the parent is asked of load, and stays so
+// there; this is a loop. It judges no node: the sources were judged before the first pass, and no pass changes them.
 fn gather_path(space: &[u32], end: End, cells: &mut [u32]) -> usize
-    requires { ⌜ Gatherable (now space) end ⌝ }
+    requires { ⌜ Gatherable (now space) end (now cells) ⌝ }
     ensures { λ r. ⌜ Gathers (old space) end (old cells) (new cells) r ⌝ }
 {
     let mut n = end.leaf;
@@ -47,26 +42,25 @@ fn gather_path(space: &[u32], end: End, cells: &mut [u32]) -> usize
     0
 }
 
-// The answer of m terms whose path ends here, taken in hand: in few cells where they are enough, and else in those of a
-// whole path.
-fn take_path(space: &[u32], end: End, m: usize, held: &mut [u32], edition: u32)
-    requires { ⌜ PathTakeable (now space) end m (now held) edition ⌝ }
+// The answer of m terms whose path ends here, taken in hand. The path is gathered in the cells of a form.
+fn take_path(
+    space: &[u32],
+    end: End,
+    m: usize,
+    held: &mut [u32],
+    form: &mut [u32],
+    edition: u32,
+)
+    requires { ⌜ PathTakeable (now space) end m (now held) (now form) edition ⌝ }
     ensures { λ _. ⌜ Takes (old space) end m (old held) (new held) edition ⌝ }
 {
-    let mut few = [0u32; FEW];
-    let start = gather_path(space, end, &mut few);
-    if 0 < start {
-        take_in_hand(&few[start..], m, held, edition);
-        return;
-    }
-    let mut path = [0u32; CELLS];
-    let k = gather_path(space, end, &mut path);
-    take_in_hand(&path[k..], m, held, edition);
+    let k = gather_path(space, end, form);
+    take_in_hand(&form[k..], m, held, edition);
 }
 
 // The first's answer with this leaf.
-fn take_first(space: &[u32], x: Sides, leaf: usize, hands: &mut [u32])
-    requires { ⌜ FirstTakeable (now space) x leaf (now hands) ⌝ }
+fn take_first(space: &[u32], x: Sides, leaf: usize, hands: &mut [u32], form: &mut [u32])
+    requires { ⌜ FirstTakeable (now space) x leaf (now hands) (now form) ⌝ }
     ensures { λ _. ⌜ TakesFirst (old space) x leaf (old hands) (new hands) ⌝ }
 {
     let end = End {
@@ -75,12 +69,12 @@ fn take_first(space: &[u32], x: Sides, leaf: usize, hands: &mut [u32])
         root: x.first.root,
         leaf: leaf,
     };
-    take_path(space, end, x.first.variables, hands, x.h.edition);
+    take_path(space, end, x.first.variables, hands, form, x.h.edition);
 }
 
 // The second's answer with this leaf.
-fn take_second(space: &[u32], x: Sides, leaf: usize, hands: &mut [u32])
-    requires { ⌜ SecondTakeable (now space) x leaf (now hands) ⌝ }
+fn take_second(space: &[u32], x: Sides, leaf: usize, hands: &mut [u32], form: &mut [u32])
+    requires { ⌜ SecondTakeable (now space) x leaf (now hands) (now form) ⌝ }
     ensures { λ _. ⌜ TakesSecond (old space) x leaf (old hands) (new hands) ⌝ }
 {
     let end = End {
@@ -94,6 +88,7 @@ fn take_second(space: &[u32], x: Sides, leaf: usize, hands: &mut [u32])
         end,
         x.second.variables,
         &mut hands[HAND..],
+        form,
         x.h.edition,
     );
 }
@@ -131,7 +126,7 @@ fn find_match(
     let mut b = from;
     while b != 0 {
         let y = answer_in(space, x.h, b);
-        take_second(space, x, y.leaf, hands);
+        take_second(space, x, y.leaf, hands, form);
         if hands_match(pairs, hands) {
             let t = join_hands(copies, hands, form, x.h.edition);
             match t {
@@ -186,7 +181,7 @@ pub fn advance(
             return Match::End;
         }
         let y = answer_in(space, x.h, outer);
-        take_first(space, x, y.leaf, hands);
+        take_first(space, x, y.leaf, hands, form);
         outer = y.next;
         inner = x.second.first;
     }

@@ -55,13 +55,13 @@ answer-in-requires : tie.Need-answer-in-requires Inv-loop μ-loop
 answer-in-requires c κs = (c .before .before .before .before .before .before .before .before .before .before .before .before .before .before .before .before .pre .0 .bounds, omega arith, c .before .before .before .before .before .before .before .before .before .before .loop .inv .stands .outer .within)
 
 take-first-requires : tie.Need-take-first-requires Inv-loop μ-loop
-take-first-requires c κs = first-takeable _ _ _ _ (c .before .before .before .before .before .before .before .before .before .before .before .before .before .before .before .before .before .before .pre .0) _ _ _ _ _ _ (c .before .before .before .before .before .before .before .before .before .before .before .before .loop .inv) (c .before .before .before .before .before .before .before .before .before .find-match .last .1 .1 .1 .0) (c .before .before .before .before .before .before .before .before .before .find-match .last .1 .1 .1 .1 .1 .1 .0) (ended (c .before .before .before)) (c .before .before .if1 .left) _ (c .before .answer-in .ensures)
+take-first-requires c κs = first-takeable _ _ _ _ (c .before .before .before .before .before .before .before .before .before .before .before .before .before .before .before .before .before .before .before .pre .0) _ _ _ _ _ _ (c .before .before .before .before .before .before .before .before .before .before .before .before .before .loop .inv) (c .before .before .before .before .before .before .before .before .before .before .find-match .last .1 .1 .1 .0) (c .before .before .before .before .before .before .before .before .before .before .find-match .last .1 .1 .1 .1 .1 .1 .0) (ended (c .before .before .before .before)) (c .before .before .before .if1 .left) _ (c .before .before .answer-in .ensures)
 
 loop-less : tie.Need-loop-less Inv-loop μ-loop
-loop-less c = advancing-less _ _ _ _ (c .before .before .before .before .before .before .before .before .before .before .before .before .before .before .before .before .before .before .before .before .before .pre .0) _ _ _ _ _ _ (c .before .before .before .before .before .before .before .before .before .before .before .before .before .before .before .loop .inv) (c .before .before .before .before .before .before .before .before .before .before .before .before .find-match .last .1 .1 .1 .0) (c .before .before .before .before .before .before .before .before .before .before .before .before .find-match .last .1 .1 .1 .1 .1 .1 .0) (ended (c .before .before .before .before .before .before)) (c .before .before .before .before .before .if1 .left) _ (c .before .before .before .before .answer-in .ensures)
+loop-less c = advancing-less _ _ _ _ (c .before .before .before .before .before .before .before .before .before .before .before .before .before .before .before .before .before .before .before .before .before .before .before .before .pre .0) _ _ _ _ _ _ (c .before .before .before .before .before .before .before .before .before .before .before .before .before .before .before .before .before .before .loop .inv) (c .before .before .before .before .before .before .before .before .before .before .before .before .before .before .before .find-match .last .1 .1 .1 .0) (c .before .before .before .before .before .before .before .before .before .before .before .before .before .before .before .find-match .last .1 .1 .1 .1 .1 .1 .0) (ended (c .before .before .before .before .before .before .before .before .before)) (c .before .before .before .before .before .before .before .before .if1 .left) _ (c .before .before .before .before .before .before .before .answer-in .ensures)
 
 loop-again : tie.Need-loop-again Inv-loop μ-loop
-loop-again c = advancing-on _ _ _ _ (c .before .before .before .before .before .before .before .before .before .before .before .before .before .before .before .before .before .before .before .before .before .pre .0) _ _ _ _ _ _ (c .before .before .before .before .before .before .before .before .before .before .before .before .before .before .before .loop .inv) (c .before .before .before .before .before .before .before .before .before .before .before .before .find-match .last .1 .1 .1 .0) (c .before .before .before .before .before .before .before .before .before .before .before .before .find-match .last .1 .1 .1 .1 .1 .1 .0) (ended (c .before .before .before .before .before .before)) (c .before .before .before .before .before .if1 .left) _ (c .before .before .before .before .answer-in .ensures) _ (c .before .before .take-first .ensures)
+loop-again c = advancing-on _ _ _ _ (c .before .before .before .before .before .before .before .before .before .before .before .before .before .before .before .before .before .before .before .before .before .before .before .before .pre .0) _ _ _ _ _ _ (c .before .before .before .before .before .before .before .before .before .before .before .before .before .before .before .before .before .before .loop .inv) (c .before .before .before .before .before .before .before .before .before .before .before .before .before .before .before .find-match .last .1 .1 .1 .0) (c .before .before .before .before .before .before .before .before .before .before .before .before .before .before .before .find-match .last .1 .1 .1 .1 .1 .1 .0) (ended (c .before .before .before .before .before .before .before .before .before)) (c .before .before .before .before .before .before .before .before .if1 .left) _ (c .before .before .before .before .before .before .before .answer-in .ensures) _ _ (c .before .before .before .before .take-first .ensures) (c .before .form2 .given)
 
 pub advance-spec : {M : Type 1} → statement M
 advance-spec =

@@ -1,5 +1,5 @@
 -- `pairing::cursors::gather_path` meets its contract.
-use Rattle.pairing.proofs.GatherLaws.{Gathering, gathering-begun, gathered-none, gathered-root, gathering-on}
+use Rattle.pairing.proofs.GatherLaws.{Gathering, gathering-begun, gathered-all, gathered-root, gathering-on}
 use native.Mathlib.Omega.{arith}
 use borrow.Author.Needs.{needs}
 use Rattle.pairing.proofs.cursors.gather_path.Statement.{statement}
@@ -21,7 +21,7 @@ same-length : tie.Need-same-length Inv-loop μ-loop
 same-length c = c .before .before .before .before .loop .inv .size
 
 returns : tie.Need-returns Inv-loop μ-loop
-returns c = gathered-root (c .before .before .before .before .before .before .before .args .space .now) (c .before .before .before .before .before .before .before .args .end) (c .before .before .before .before .before .before .before .args .cells .now) _ _ _ (c .before .before .before .before .loop .inv) _ (c .before .before .node-in .ensures) (search needs) (search needs)
+returns c = gathered-root (c .before .before .before .before .before .before .before .args .space .now) (c .before .before .before .before .before .before .before .args .end) (c .before .before .before .before .before .before .before .args .cells .now) _ _ _ (c .before .before .before .before .loop .inv) _ (c .before .before .node-in .ensures) (search needs)
 
 sub-at : tie.Need-sub-at Inv-loop μ-loop
 sub-at c = omega arith
@@ -42,7 +42,7 @@ same-length-2 : tie.Need-same-length-2 Inv-loop μ-loop
 same-length-2 c = c .before .loop .inv .size
 
 returns-2 : tie.Need-returns-2 Inv-loop μ-loop
-returns-2 c = gathered-none (c .before .before .before .before .args .space .now) (c .before .before .before .before .args .end) (c .before .before .before .before .args .cells .now) _ _ _ (c .before .loop .inv) (omega arith)
+returns-2 c = gathered-all (c .before .before .before .before .args .space .now) (c .before .before .before .before .args .end) (c .before .before .before .before .args .cells .now) _ _ _ (c .before .loop .inv) (c .before .before .before .before .pre) (omega arith)
 
 pub gather-path-spec : {M : Type 1} → statement M
 gather-path-spec =

@@ -19,8 +19,11 @@ take-path-requires c κs = search needs
 same-length : tie.Need-same-length
 same-length c = search needs
 
+same-length-2 : tie.Need-same-length-2
+same-length-2 c = search needs
+
 returns : tie.Need-returns
-returns c = second-taken (c .before .before .before .before .before .before .args .space .now) (c .before .before .before .before .before .before .args .x) (c .before .before .before .before .before .before .args .leaf) (c .before .before .before .before .before .before .args .hands .now) (c .before .before .take-path .last .1 .1 .1 .0) (c .before .before .before .before .before .before .pre .0) (c .before .before .take-path .ensures)
+returns c = second-taken (c .before .before .before .before .before .before .before .before .before .before .args .space .now) (c .before .before .before .before .before .before .before .before .before .before .args .x) (c .before .before .before .before .before .before .before .before .before .before .args .leaf) (c .before .before .before .before .before .before .before .before .before .before .args .hands .now) (c .before .before .before .before .take-path .last .1 .1 .1 .0) (c .before .before .before .before .before .before .before .before .before .before .pre .0) (c .before .before .before .before .take-path .ensures)
 
 pub take-second-spec : {M : Type 1} → statement M
 take-second-spec =
@@ -31,4 +34,5 @@ take-second-spec =
     part-take-path-end
     take-path-requires
     same-length
+    same-length-2
     returns)
