@@ -43,14 +43,7 @@ fn gather_path(space: &[u32], end: End, cells: &mut [u32]) -> usize
 }
 
 // The answer of m terms whose path ends here, taken in hand. The path is gathered in the cells of a form.
-fn take_path(
-    space: &[u32],
-    end: End,
-    m: usize,
-    held: &mut [u32],
-    form: &mut [u32],
-    edition: u32,
-)
+fn take_path(space: &[u32], end: End, m: usize, held: &mut [u32], form: &mut [u32], edition: u32)
     requires { ⌜ PathTakeable (now space) end m (now held) (now form) edition ⌝ }
     ensures { λ _. ⌜ Takes (old space) end m (old held) (new held) edition ⌝ }
 {
