@@ -18,7 +18,6 @@ use trie::paths::LEVELS;
 use trie::paths::few_path;
 use trie::paths::whole_path;
 use trie::walks::walk_tokens;
-ghost use mathlib.Core.Path.{_≡_};
 ghost use Prim.Native.Nat.{_+_, _<_, _≤_};
 ghost use lib.ListN.{length};
 ghost use Rattle.space.specs.Sound.{Bounds, NodesIn};

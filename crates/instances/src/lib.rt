@@ -7,6 +7,7 @@ use convert::buffers::SOME_TOKENS;
 use convert::buffers::TERMS_OF_FEW;
 use convert::buffers::TERMS_OF_MOST;
 use convert::buffers::TERMS_OF_SOME;
+use convert::buffers::tokens_rung;
 use forms::Loading;
 use forms::arguments_of;
 use forms::due_after;
@@ -190,7 +191,7 @@ fn instance_beside(
     requires { ⌜ RoomForTerms (now form) (now terms) ⌝ }
     ensures { λ r. ⌜ InstancesOf (old form) (old path) m edition (old out) r (new out) ⌝ }
 {
-    if path.len() <= FEW_TOKENS {
+    if tokens_rung(path.len()) == FEW_TOKENS {
         let mut cells = [0u32; TERMS_OF_FEW];
         return instance_with(&path[..], &form[..], m, &mut cells, terms, out, edition);
     }
@@ -202,11 +203,12 @@ fn instance_beside(
 pub fn instance_path(path: &[u32], form: &[u32], m: usize, out: &mut [u32], edition: u32) -> usize
     ensures { λ r. ⌜ InstancesOf (old form) (old path) m edition (old out) r (new out) ⌝ }
 {
-    if form.len() <= FEW_TOKENS {
+    let rung = tokens_rung(form.len());
+    if rung == FEW_TOKENS {
         let mut terms = [0u32; TERMS_OF_FEW];
         return instance_beside(&path[..], &form[..], m, &mut terms, out, edition);
     }
-    if form.len() <= SOME_TOKENS {
+    if rung == SOME_TOKENS {
         let mut terms = [0u32; TERMS_OF_SOME];
         return instance_beside(&path[..], &form[..], m, &mut terms, out, edition);
     }

@@ -19,6 +19,8 @@ use convert::buffers::TERMS_OF_FEW;
 use convert::buffers::TERMS_OF_MANY;
 use convert::buffers::TERMS_OF_MOST;
 use convert::buffers::TERMS_OF_SOME;
+use convert::buffers::cells_rung;
+use convert::buffers::tokens_rung;
 use forms::Loading;
 use forms::Reading;
 ghost use mathlib.Core.Path.{_≡_};
@@ -118,13 +120,14 @@ fn compact_input(input: &[u8], out: &mut [u8], edition: u32) -> u32
         return REFUSED + TERM;
     }
     let n = bytes / 4;
-    if n <= FEW_CELLS {
+    let rung = cells_rung(n);
+    if rung == FEW_CELLS {
         let mut cells = [0u32; FEW_CELLS];
         let mut vars = [0u32; FEW_CELLS];
         let mut form = [0u32; FORM_OF_FEW];
         return compact_with(input, n, &mut cells, &mut vars, &mut form, out, edition);
     }
-    if n <= SOME_CELLS {
+    if rung == SOME_CELLS {
         let mut cells = [0u32; SOME_CELLS];
         let mut vars = [0u32; SOME_CELLS];
         let mut form = [0u32; FORM_OF_SOME];
@@ -169,17 +172,18 @@ fn expand_input(input: &[u8], out: &mut [u8], edition: u32) -> u32
         return REFUSED + TERM;
     }
     let n = bytes / 4;
-    if n <= FEW_TOKENS {
+    let rung = tokens_rung(n);
+    if rung == FEW_TOKENS {
         let mut form = [0u32; FEW_TOKENS];
         let mut cells = [0u32; TERMS_OF_FEW];
         return expand_with(input, n, &mut form, &mut cells, out, edition);
     }
-    if n <= SOME_TOKENS {
+    if rung == SOME_TOKENS {
         let mut form = [0u32; SOME_TOKENS];
         let mut cells = [0u32; TERMS_OF_SOME];
         return expand_with(input, n, &mut form, &mut cells, out, edition);
     }
-    if n <= MANY_TOKENS {
+    if rung == MANY_TOKENS {
         let mut form = [0u32; MANY_TOKENS];
         let mut cells = [0u32; TERMS_OF_MANY];
         return expand_with(input, n, &mut form, &mut cells, out, edition);

@@ -1,6 +1,6 @@
 -- Answers in hand: the form that is in one, and that it depends on its own cells alone.
 use mathlib.Core.Path.{_≡_, refl, sym, ap, _∙_, subst}
-use mathlib.Core.Bool.{Bool, true, false}
+use mathlib.Core.Bool.{Bool}
 use mathlib.Core.List.{List, [], _∷_, _++_, append-nil}
 use Prim.Native.Nat.{ℕ, zero, suc, _+_, _-_, _≤_}
 use native.Mathlib.Omega.{arith}
@@ -76,10 +76,6 @@ abbrev pub tokensOf : Path → List ℕ
 tokensOf none = []
 tokensOf (tokens xs) = xs
 
-abbrev isPath : Path → Bool
-isPath none = false
-isPath (tokens xs) = true
-
 -- a path that stands in the cells from k on, as a part of a slice gives it
 pub path-there : (p : Path) (ks : List ℕ) (n k : ℕ) → length ks ≤ n + k → p ≡ tokens (drop k ks) → p ≡ tokens (take n (drop k ks))
 path-there p ks n k l e =
@@ -100,9 +96,6 @@ module _ (cs : List ℕ) (e : End) (m : ℕ) (held cells : List ℕ) (edition : 
   pub path-takes : (form held′ : List ℕ) → pathTo cs e ≡ tokens form → hands.Taken edition m form held held′ → Takes cs e m held held′ edition
   path-takes form held′ p t =
       (λ w q. subst (λ (v : Word). InHand (arityOf edition) m v held′) (ap tokensOf (sym p ∙ q)) (t .hand), t .size)
-
-  pub path-lost : PathTakeable cs e m held cells edition → pathTo cs e ≡ none → ⊥
-  path-lost k p = mathlib.Core.Bool.false≢true (ap isPath (sym p ∙ k .1 .1))
 
 -- ---- the second hand, as a part of the cells
 

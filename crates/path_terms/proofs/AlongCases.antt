@@ -136,12 +136,6 @@ module _ (edition m : ℕ) (out : List ℕ) where
   pub done-same : (task r : ℕ) (out′ : List ℕ) (p p′ q q′ : Path) → p ≡ p′ → q ≡ q′ → Done task edition p q m out r out′ → Done task edition p′ q′ m out r out′
   done-same task r out′ p p′ q q′ e f d = rw f at (rw e at d)
 
-  -- an instance needs its second path, no other task does
-  pub done-single : (task r : ℕ) (out′ : List ℕ) (p p′ q q′ : Path) → (task ≡ 1 → ⊥) → p ≡ p′ → Done task edition p q m out r out′ → Done task edition p′ q′ m out r out′
-  done-single zero r out′ p p′ q q′ n e d = rw e at d
-  done-single (suc zero) r out′ p p′ q q′ n e d = absurd (n refl)
-  done-single (suc (suc k)) r out′ p p′ q q′ n e d = rw e at d
-
   module _ (p q : Path) where
     pub done-lost : (task : ℕ) → p ≡ none → Done task edition p q m out 0 out
     done-lost zero e = load-lost edition p m out e

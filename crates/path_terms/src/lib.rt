@@ -8,6 +8,7 @@ use convert::buffers::SOME_TOKENS;
 use convert::buffers::TERMS_OF_FEW;
 use convert::buffers::TERMS_OF_MOST;
 use convert::buffers::TERMS_OF_SOME;
+use convert::buffers::tokens_rung;
 use convert::expand_terms;
 use convert::load_counted;
 use forms::Answer;
@@ -81,11 +82,12 @@ fn form_worth_with(form: &[u32], m: usize, called: bool, cells: &mut [u32], edit
 fn form_worth(form: &[u32], m: usize, called: bool, edition: u32) -> usize
     ensures { λ r. ⌜ r ≡ formWorth edition m called (old form) ⌝ }
 {
-    if form.len() <= FEW_TOKENS {
+    let rung = tokens_rung(form.len());
+    if rung == FEW_TOKENS {
         let mut cells = [0u32; TERMS_OF_FEW];
         return form_worth_with(form, m, called, &mut cells, edition);
     }
-    if form.len() <= SOME_TOKENS {
+    if rung == SOME_TOKENS {
         let mut cells = [0u32; TERMS_OF_SOME];
         return form_worth_with(form, m, called, &mut cells, edition);
     }

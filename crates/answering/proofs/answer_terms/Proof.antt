@@ -4,6 +4,9 @@ use borrow.Author.Needs.{needs}
 use Rattle.answering.proofs.answer_terms.Statement.{statement}
 use Rattle.answering.proofs.answer_terms.Tie as tie
 
+cells-rung-requires : tie.Need-cells-rung-requires
+cells-rung-requires c κs = search needs
+
 slice-aggregate-read-terms : tie.Need-slice-aggregate-read-terms
 slice-aggregate-read-terms c = search needs
 
@@ -50,6 +53,7 @@ pub answer-terms-spec : {M : Type 1} → statement M
 answer-terms-spec =
     tie.close
     (tie.spec
+    cells-rung-requires
     slice-aggregate-read-terms
     slice-aggregate-read-terms-2
     read-terms-requires

@@ -22,6 +22,9 @@ returns c = call-answers _ _ _ _ _ (steps-refused _ _ _ _ (told (c .before .read
 enum-known-read-2 : tie.Need-enum-known-read-2
 enum-known-read-2 c = search needs
 
+cells-rung-requires : tie.Need-cells-rung-requires
+cells-rung-requires c κs = search needs
+
 slice-aggregate-call-with : tie.Need-slice-aggregate-call-with
 slice-aggregate-call-with c = search needs
 
@@ -29,13 +32,13 @@ slice-aggregate-call-with-2 : tie.Need-slice-aggregate-call-with-2
 slice-aggregate-call-with-2 c = search needs
 
 call-with-requires : tie.Need-call-with-requires
-call-with-requires c κs = (header-bounds _ _ (told (c .before .before .before .before .before .read2 .given .1) (c .before .before .before .before .before .before .before .read-header .ensures)), search needs)
+call-with-requires c κs = (header-bounds _ _ (told (c .before .before .before .before .before .before .read2 .given .1) (c .before .before .before .before .before .before .before .before .read-header .ensures)), search needs)
 
 same-length-2 : tie.Need-same-length-2
 same-length-2 c = search needs
 
 returns-2 : tie.Need-returns-2
-returns-2 c = call-answers _ _ _ _ _ (steps-sound _ _ _ _ _ _ (told (c .before .before .before .before .before .before .before .before .before .before .read2 .given .1) (c .before .before .before .before .before .before .before .before .before .before .before .before .read-header .ensures)) (c .before .before .before .before .call-with .ensures))
+returns-2 c = call-answers _ _ _ _ _ (steps-sound _ _ _ _ _ _ (told (c .before .before .before .before .before .before .before .before .before .before .before .read2 .given .1) (c .before .before .before .before .before .before .before .before .before .before .before .before .before .read-header .ensures)) (c .before .before .before .before .call-with .ensures))
 
 slice-aggregate-call-with-3 : tie.Need-slice-aggregate-call-with-3
 slice-aggregate-call-with-3 c = search needs
@@ -44,13 +47,13 @@ slice-aggregate-call-with-4 : tie.Need-slice-aggregate-call-with-4
 slice-aggregate-call-with-4 c = search needs
 
 call-with-requires-2 : tie.Need-call-with-requires-2
-call-with-requires-2 c κs = (header-bounds _ _ (told (c .before .before .before .before .before .read2 .given .1) (c .before .before .before .before .before .before .before .read-header .ensures)), search needs)
+call-with-requires-2 c κs = (header-bounds _ _ (told (c .before .before .before .before .before .before .read2 .given .1) (c .before .before .before .before .before .before .before .before .read-header .ensures)), search needs)
 
 same-length-3 : tie.Need-same-length-3
 same-length-3 c = search needs
 
 returns-3 : tie.Need-returns-3
-returns-3 c = call-answers _ _ _ _ _ (steps-sound _ _ _ _ _ _ (told (c .before .before .before .before .before .before .before .before .before .before .read2 .given .1) (c .before .before .before .before .before .before .before .before .before .before .before .before .read-header .ensures)) (c .before .before .before .before .call-with2 .ensures))
+returns-3 c = call-answers _ _ _ _ _ (steps-sound _ _ _ _ _ _ (told (c .before .before .before .before .before .before .before .before .before .before .before .read2 .given .1) (c .before .before .before .before .before .before .before .before .before .before .before .before .before .read-header .ensures)) (c .before .before .before .before .call-with2 .ensures))
 
 pub call-indexed-spec : {M : Type 1} → statement M
 call-indexed-spec =
@@ -61,6 +64,7 @@ call-indexed-spec =
     same-length
     returns
     enum-known-read-2
+    cells-rung-requires
     slice-aggregate-call-with
     slice-aggregate-call-with-2
     call-with-requires

@@ -11,6 +11,9 @@ add-result c = omega arith
 returns : tie.Need-returns
 returns c = compact-odd _ _ _ (c .if1 .taken)
 
+cells-rung-requires : tie.Need-cells-rung-requires
+cells-rung-requires c κs = search needs
+
 slice-aggregate-compact-with : tie.Need-slice-aggregate-compact-with
 slice-aggregate-compact-with c = search needs
 
@@ -69,7 +72,7 @@ add-result-2 : tie.Need-add-result-2
 add-result-2 c = omega arith
 
 returns-5 : tie.Need-returns-5
-returns-5 c = compact-long _ _ _ (c .before .before .before .if1 .left) (omega arith)
+returns-5 c = compact-long _ _ _ (c .before .before .before .before .if1 .left) (omega arith)
 
 pub compact-input-spec : {M : Type 1} → statement M
 compact-input-spec =
@@ -77,6 +80,7 @@ compact-input-spec =
     (tie.spec
     add-result
     returns
+    cells-rung-requires
     slice-aggregate-compact-with
     slice-aggregate-compact-with-2
     slice-aggregate-compact-with-3

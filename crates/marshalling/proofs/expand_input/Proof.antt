@@ -11,6 +11,9 @@ add-result c = omega arith
 returns : tie.Need-returns
 returns c = expand-odd _ _ _ (c .if1 .taken)
 
+tokens-rung-requires : tie.Need-tokens-rung-requires
+tokens-rung-requires c κs = search needs
+
 slice-aggregate-expand-with : tie.Need-slice-aggregate-expand-with
 slice-aggregate-expand-with c = search needs
 
@@ -75,7 +78,7 @@ add-result-2 : tie.Need-add-result-2
 add-result-2 c = omega arith
 
 returns-6 : tie.Need-returns-6
-returns-6 c = expand-long _ _ _ (c .before .before .before .before .if1 .left) (omega arith)
+returns-6 c = expand-long _ _ _ (c .before .before .before .before .before .if1 .left) (omega arith)
 
 pub expand-input-spec : {M : Type 1} → statement M
 expand-input-spec =
@@ -83,6 +86,7 @@ expand-input-spec =
     (tie.spec
     add-result
     returns
+    tokens-rung-requires
     slice-aggregate-expand-with
     slice-aggregate-expand-with-2
     expand-with-requires

@@ -1,5 +1,4 @@
 -- `path_terms::in_few` meets its contract.
-use lib.Dec.{leb}
 use Rattle.trie.specs.Runs.{levels}
 use borrow.Author.Tests.{le-leb, lt-leb, eq-eqb, ne-eqb}
 use borrow.Author.Needs.{needs}

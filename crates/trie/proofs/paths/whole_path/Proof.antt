@@ -1,7 +1,6 @@
 -- `trie::paths::whole_path` meets its contract.
 use Rattle.trie.proofs.PathCases.{begun-size, begun-on, begun-found}
 use native.Mathlib.Omega.{arith}
-use borrow.Author.Needs.{needs}
 use Rattle.trie.proofs.paths.whole_path.Statement.{statement}
 use Rattle.trie.proofs.paths.whole_path.Tie as tie
 
