@@ -1,7 +1,7 @@
-// The lengths of the buffers that the readers are lent, as a ladder: for which length which rung. Making a buffer clears
-// it, so short terms and short forms get short ones. An array has its length in its type, so whoever needs buffers makes
-// those of the rung that it is told here, each in an arm of its own. A form has at most three tokens for two cells, and
-// its terms at most two cells for a token; none that is loaded has more than MOST_CELLS.
+// The lengths of the buffers that the readers are lent, as a ladder: for which length which rung. Making a buffer
+// clears it, so short terms and short forms get short ones. An array has its length in its type, so whoever needs
+// buffers makes those of the rung that it is told here, each in an arm of its own. A form has at most three tokens for
+// two cells, and its terms at most two cells for a token; none that is loaded has more than MOST_CELLS.
 use basis::limits::MOST_CELLS;
 ghost use Prim.Native.Nat.{_≤_};
 

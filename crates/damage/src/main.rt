@@ -43,7 +43,8 @@ fn put(space: &mut [u32; CELLS_IN_ALL], from: usize, cells: &[u32])
     }
 }
 
-// The nodes, two to a line: of f(X, a), f(X, b) and g(X), which were called, of the roots of their answers, and of these.
+// The nodes, two to a line: of f(X, a), f(X, b) and g(X), which were called, of the roots of their answers, and of
+// these.
 fn put_nodes(space: &mut [u32; CELLS_IN_ALL]) {
     put(space, 8, &[0, 1, 0, 0, 0, 0x40000012, 2, 5, 0, 0]);
     put(space, 18, &[0x10000000, 3, 0, 1, 0, 0x20000005, 0, 8, 2, 1]);

@@ -6,7 +6,7 @@ use native.Mathlib.Omega.{arith}
 use lib.ListN.{length, take, drop, length-drop}
 use lib.Seq.{take-all}
 use Rattle.trie.specs.Paths.{Path, none, tokens}
-use Rattle.trie.specs.Runs.{levels, pathCells, pathTo, Begun, Found, Gathers}
+use Rattle.trie.specs.Runs.{levels, pathCells, pathTo, Begun, Found, GathersWhole}
 use Rattle.trie.specs.declared.End.{End}
 use Rattle.trie.proofs.PathCases.{begun-size, begun-stands}
 
@@ -36,7 +36,7 @@ found-stands none k ks f z l = absurd (z f)
 found-stands (tokens xs) k ks f z l = stands pathCells k ks (tokens xs) (f .1) l (ap tokens (sym (f .2)))
 
 -- in the cells of a whole path, or there is none
-module _ (cs : List ℕ) (e : End) (k : ℕ) (ks : List ℕ) (g : Gathers cs e k ks) where
+module _ (cs : List ℕ) (e : End) (k : ℕ) (ks : List ℕ) (g : GathersWhole cs e k ks) where
   pub whole-none : k ≡ 0 → pathTo cs e ≡ none
   whole-none z = found-none (pathTo cs e) k ks (g .0) z
 

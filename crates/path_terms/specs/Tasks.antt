@@ -19,7 +19,8 @@ inFew task begun above = leb begun levels && pick (eqb task 1) (leb above levels
 -- both paths were begun in few cells
 abbrev pub BothBegun : List ℕ → Paths → List ℕ → List ℕ → Type 0
 BothBegun cs x few called =
-    (Ends cs (x .end) × Begun cs (x .end) (x .begun) few) × (Ends cs (x .subgoal) × Begun cs (x .subgoal) (x .above) called)
+    (Ends cs (x .end) × Begun cs (x .end) (x .begun) few)
+    × (Ends cs (x .subgoal) × Begun cs (x .subgoal) (x .above) called)
 
 -- a path was judged, and out left as it was
 abbrev pub Judges : ℕ → Path → ℕ → Bool → List ℕ → ℕ → List ℕ → Type 0

@@ -1,7 +1,7 @@
 // The paths of an answer and of its subgoal, gathered and loaded, or put together to an instance; and whether a path is
 // a legal form, for the crates that judge paths without loading them. A path is gathered in the few cells that suffice
-// for most; only a longer one gets the cells of a whole path, since each is cleared first. Every task goes on from there
-// by one function, so that this choice is made in one place.
+// for most; only a longer one gets the cells of a whole path, since each is cleared first. Every task goes on from
+// there by one function, so that this choice is made in one place.
 use convert::Loaded;
 use convert::buffers::FEW_TOKENS;
 use convert::buffers::SOME_TOKENS;

@@ -16,7 +16,7 @@ use Rattle.space.specs.declared.NodeRead.the-variants as node
 use Rattle.space.proofs.JudgingLaws.{node-bounds, read-node-sound, read-node-damaged}
 use Rattle.trie.specs.Siblings.{Trie, sound}
 use Rattle.trie.specs.Paths.{Path, none, tokens, gather, longest}
-use Rattle.trie.specs.Runs.{levels, pathCells, onto, Climb, lost, toRoot, cut, longer, climbed, lostCode, onCode, Ran, RunCopied, PathHolds, RunsHold, trieOf, pathTo, Begun, ClimbsRuns, Found, Gathers}
+use Rattle.trie.specs.Runs.{levels, pathCells, onto, Climb, lost, toRoot, cut, longer, climbed, lostCode, onCode, Ran, RunCopied, PathHolds, RunsHold, trieOf, pathTo, Begun, ClimbsRuns, Found, GathersWhole}
 use Rattle.trie.specs.declared.End.{End}
 use Rattle.trie.proofs.PathLaws.{climbed-unsound, climbed-root, climbed-other, climbed-up, Tells, climbed-tells, Within, gather-within}
 
@@ -243,7 +243,7 @@ module _ (cs : List ℕ) (e : End) where
         (omega arith, omega arith, d .1 ∙ ap (λ (ys : List ℕ). xs ++ ys) z ∙ append-nil xs)
 
     -- gone on from, it stands in the cells of a whole path
-    pub begun-found : (a path : List ℕ) (k : ℕ) → length a ≡ pathCells → ClimbsRuns cs e r cells 6 a path k → Gathers cs e k path
+    pub begun-found : (a path : List ℕ) (k : ℕ) → length a ≡ pathCells → ClimbsRuns cs e r cells 6 a path k → GathersWhole cs e k path
     begun-found a path k l u =
         let d = u .1 (e .leaf) (b .before) (b .size) (b .ran) in
         let m : length path ≡ pathCells = u .0 ∙ l in
@@ -254,5 +254,5 @@ found-within none k cells f = omega arith
 found-within (tokens xs) k cells f = f .1
 
 -- wherever it starts, that is within them
-pub gathers-within : (cs : List ℕ) (e : End) (k : ℕ) (cells : List ℕ) → Gathers cs e k cells → k ≤ pathCells
+pub gathers-within : (cs : List ℕ) (e : End) (k : ℕ) (cells : List ℕ) → GathersWhole cs e k cells → k ≤ pathCells
 gathers-within cs e k cells g = let l = found-within (pathTo cs e) k cells (g .0) in let m = g .1 in omega arith

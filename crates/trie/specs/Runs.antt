@@ -121,5 +121,5 @@ Found none r cells = r ≡ 0
 Found (tokens xs) r cells = (1 ≤ r) × (r ≤ length cells) × (drop r cells ≡ xs)
 
 -- the path to an end, in the cells of a whole one
-abbrev pub Gathers : List ℕ → End → ℕ → List ℕ → Type 0
-Gathers cs e r cells = Found (pathTo cs e) r cells × (length cells ≡ pathCells)
+abbrev pub GathersWhole : List ℕ → End → ℕ → List ℕ → Type 0
+GathersWhole cs e r cells = Found (pathTo cs e) r cells × (length cells ≡ pathCells)

@@ -13,7 +13,7 @@ ghost use lib.ListN.{length};
 ghost use Rattle.basis.specs.Moments.{old, new};
 ghost use Rattle.space.specs.Sound.{NodesIn};
 ghost use Rattle.trie.specs.Runs.{levels, pathCells, Climbs, RunCopied, RunBegun, ClimbsRuns};
-ghost use Rattle.trie.specs.Runs.{Ends, Begun, Gathers};
+ghost use Rattle.trie.specs.Runs.{Ends, Begun, GathersWhole};
 
 // The levels of a run.
 pub const LEVELS: usize = 64;
@@ -91,8 +91,8 @@ fn copy_run(run: &[u32; LEVELS], from: usize, path: &mut [u32])
     }
 }
 
-// A path whose last run was climbed, in the cells of so many runs, from behind: the run is copied, and where it was cut,
-// the next is climbed. Where its tokens start, or 0 for none.
+// A path whose last run was climbed, in the cells of so many runs, from behind: the run is copied, and where it was
+// cut, the next is climbed. Where its tokens start, or 0 for none.
 fn climb_runs(
     space: &&[u32],
     end: End,
@@ -138,7 +138,7 @@ pub fn whole_path(
     path: &mut [u32; CELLS],
 ) -> usize
     requires { ⌜ Ends (now space) end × Begun (now space) end begun (now few) × (length (now path) ≡ pathCells) ⌝ }
-    ensures { λ r. ⌜ Gathers (old space) end r (new path) ⌝ }
+    ensures { λ r. ⌜ GathersWhole (old space) end r (new path) ⌝ }
 {
     climb_runs(&space, end, begun, few, RUNS, path)
 }
