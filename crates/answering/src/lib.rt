@@ -277,7 +277,7 @@ fn answer_terms(
         ⌜ Does (old space) h (answeredTerms (searchIndexed (old index)) h s (g .variables) (old terms)) (saidAnswer r)
         (new space) ⌝ }
 {
-    if cells_rung(terms.len()) == FEW_CELLS {
+    if cells_rung(terms.len()) <= FEW_CELLS {
         let mut vars = [0u32; FEW_CELLS];
         let mut form = [0u32; FORM_OF_FEW];
         let read = read_terms(terms, g.variables, &mut vars, &mut form, h.edition);

@@ -188,7 +188,7 @@ pub fn call_indexed(space: &mut [u32], term: &[u32], index: &[u32]) -> CallAnswe
     match read {
         Header::Refused(r) => return CallAnswer::Refused(r),
         Header::Sound(h) => {
-            if cells_rung(term.len()) == FEW_CELLS {
+            if cells_rung(term.len()) <= FEW_CELLS {
                 let mut vars = [0u32; FEW_CELLS];
                 let mut form = [0u32; FORM_OF_FEW];
                 return call_with(space, h, term, &mut vars, &mut form, index);

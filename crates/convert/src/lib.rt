@@ -148,7 +148,7 @@ fn compact_with(
 fn compact_terms(s: &[u32], m: usize, out: &mut [u32], edition: u32) -> Answer
     ensures { λ r. ⌜ Compacts edition m (old s) (old out) r (new out) ⌝ }
 {
-    if cells_rung(s.len()) == FEW_CELLS {
+    if cells_rung(s.len()) <= FEW_CELLS {
         let mut vars = [0u32; FEW_CELLS];
         let mut form = [0u32; FORM_OF_FEW];
         return compact_with(s, m, &mut vars, &mut form, out, edition);
@@ -188,11 +188,11 @@ pub fn expand_terms(s: &[u32], m: usize, out: &mut [u32], edition: u32) -> Answe
     ensures { λ r. ⌜ Expands edition m (old s) (old out) r (new out) ⌝ }
 {
     let rung = tokens_rung(s.len());
-    if rung == FEW_TOKENS {
+    if rung <= FEW_TOKENS {
         let mut cells = [0u32; TERMS_OF_FEW];
         return expand_with(s, m, &mut cells, out, edition);
     }
-    if rung == SOME_TOKENS {
+    if rung <= SOME_TOKENS {
         let mut cells = [0u32; TERMS_OF_SOME];
         return expand_with(s, m, &mut cells, out, edition);
     }

@@ -191,7 +191,7 @@ fn instance_beside(
     requires { ⌜ RoomForTerms (now form) (now terms) ⌝ }
     ensures { λ r. ⌜ InstancesOf (old form) (old path) m edition (old out) r (new out) ⌝ }
 {
-    if tokens_rung(path.len()) == FEW_TOKENS {
+    if tokens_rung(path.len()) <= FEW_TOKENS {
         let mut cells = [0u32; TERMS_OF_FEW];
         return instance_with(&path[..], &form[..], m, &mut cells, terms, out, edition);
     }
@@ -204,11 +204,11 @@ pub fn instance_path(path: &[u32], form: &[u32], m: usize, out: &mut [u32], edit
     ensures { λ r. ⌜ InstancesOf (old form) (old path) m edition (old out) r (new out) ⌝ }
 {
     let rung = tokens_rung(form.len());
-    if rung == FEW_TOKENS {
+    if rung <= FEW_TOKENS {
         let mut terms = [0u32; TERMS_OF_FEW];
         return instance_beside(&path[..], &form[..], m, &mut terms, out, edition);
     }
-    if rung == SOME_TOKENS {
+    if rung <= SOME_TOKENS {
         let mut terms = [0u32; TERMS_OF_SOME];
         return instance_beside(&path[..], &form[..], m, &mut terms, out, edition);
     }

@@ -121,13 +121,13 @@ fn compact_input(input: &[u8], out: &mut [u8], edition: u32) -> u32
     }
     let n = bytes / 4;
     let rung = cells_rung(n);
-    if rung == FEW_CELLS {
+    if rung <= FEW_CELLS {
         let mut cells = [0u32; FEW_CELLS];
         let mut vars = [0u32; FEW_CELLS];
         let mut form = [0u32; FORM_OF_FEW];
         return compact_with(input, n, &mut cells, &mut vars, &mut form, out, edition);
     }
-    if rung == SOME_CELLS {
+    if rung <= SOME_CELLS {
         let mut cells = [0u32; SOME_CELLS];
         let mut vars = [0u32; SOME_CELLS];
         let mut form = [0u32; FORM_OF_SOME];
@@ -173,17 +173,17 @@ fn expand_input(input: &[u8], out: &mut [u8], edition: u32) -> u32
     }
     let n = bytes / 4;
     let rung = tokens_rung(n);
-    if rung == FEW_TOKENS {
+    if rung <= FEW_TOKENS {
         let mut form = [0u32; FEW_TOKENS];
         let mut cells = [0u32; TERMS_OF_FEW];
         return expand_with(input, n, &mut form, &mut cells, out, edition);
     }
-    if rung == SOME_TOKENS {
+    if rung <= SOME_TOKENS {
         let mut form = [0u32; SOME_TOKENS];
         let mut cells = [0u32; TERMS_OF_SOME];
         return expand_with(input, n, &mut form, &mut cells, out, edition);
     }
-    if rung == MANY_TOKENS {
+    if rung <= MANY_TOKENS {
         let mut form = [0u32; MANY_TOKENS];
         let mut cells = [0u32; TERMS_OF_MANY];
         return expand_with(input, n, &mut form, &mut cells, out, edition);

@@ -83,11 +83,11 @@ fn form_worth(form: &[u32], m: usize, called: bool, edition: u32) -> usize
     ensures { λ r. ⌜ r ≡ formWorth edition m called (old form) ⌝ }
 {
     let rung = tokens_rung(form.len());
-    if rung == FEW_TOKENS {
+    if rung <= FEW_TOKENS {
         let mut cells = [0u32; TERMS_OF_FEW];
         return form_worth_with(form, m, called, &mut cells, edition);
     }
-    if rung == SOME_TOKENS {
+    if rung <= SOME_TOKENS {
         let mut cells = [0u32; TERMS_OF_SOME];
         return form_worth_with(form, m, called, &mut cells, edition);
     }
@@ -108,7 +108,9 @@ fn load_form(form: &[u32], m: usize, out: &mut [u32], edition: u32) -> usize
     }
 }
 
-// A task is done with paths that were begun in few cells, in those of whole paths.
+// A task is done with paths that were begun in few cells, in those of whole paths. Who uses a path is called here and
+// in `use_begun`, and not in a function for both: the compiler would put all three users into that one, and
+// `use_begun` with it would be too long to be copied for each task.
 fn use_long(
     task: u32,
     space: &[u32],
