@@ -28,8 +28,8 @@ ghost use Rattle.path_terms.specs.AlongPaths.{formWorth, worth, LoadsOf,
 ghost use Rattle.path_terms.specs.Tasks.{inFew, BothBegun, DoneTo};
 
 // What paths are gathered for: the terms of an answer, its instance, or what a path is worth, that of an answer or of a
-// subgoal, which is called. A number that each caller gives as a constant: so the compiler makes a copy of `use_begun`
-// for each, without the other tasks.
+// subgoal, which is called. A number that each caller gives as a constant: so the compiler can make a copy of
+// `use_begun` for each, without the other tasks.
 const LOAD: u32 = 0;
 
 const INSTANCE: u32 = 1;
