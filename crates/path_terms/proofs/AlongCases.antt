@@ -5,9 +5,8 @@ use mathlib.Core.Bool.{Bool, true, false}
 use mathlib.Core.List.{List}
 use lib.ListN.{length}
 use lib.Dec.{eqb, leb}
-use borrow.Author.Tests.{leb-true, leb-false, eq-eqb}
+use borrow.Author.Tests.{leb-true, leb-false}
 use Rattle.basis.proofs.Cases.{by-cases}
-use Rattle.basis.proofs.Tests.{true-not-false}
 use Rattle.forms.specs.Cells.{arityOf}
 use Rattle.forms.specs.Compact.{pairForm, legalForm}
 use native.Mathlib.Omega.{arith}
@@ -22,11 +21,10 @@ use Rattle.trie.specs.Paths.{Path, none, tokens}
 use Rattle.store.specs.Views.{View}
 use Rattle.store.specs.Decisions.{Decision, gives, refuses, sound, onPath}
 use Rattle.store.specs.Replies.{saidCells}
-use Rattle.trie.specs.Runs.{levels}
 use Rattle.instances.specs.Leaving.{Leaves, sized, Instances}
 use Rattle.instances.proofs.LeavingLaws.{leaves-says, leaves-same, leaves-said, gives-fits, sized-short, sized-cells, path-behind, subgoalTest}
 use Rattle.path_terms.specs.AlongPaths.{LoadsPath, worth}
-use Rattle.path_terms.specs.Tasks.{inFew, Done}
+use Rattle.path_terms.specs.Tasks.{Done}
 use Rattle.path_terms.proofs.WorthCases.{worth-lost}
 
 module _ (test : Word → Bool) (d : Word → Decision) where
@@ -156,11 +154,3 @@ module _ (edition m : ℕ) (out : List ℕ) where
     done-judged zero r a b e = absurd (a refl)
     done-judged (suc zero) r a b e = absurd (b refl)
     done-judged (suc (suc k)) r a b e = (e, refl)
-
--- what few cells hold
-module _ (task begun above : ℕ) (t : inFew task begun above ≡ true) where
-  pub few-begun : begun ≤ levels
-  few-begun = by-cases (leb begun levels) (λ b. leb-true _ _ b) (λ b. absurd (true-not-false t (simp b)))
-
-  pub few-above : task ≡ 1 → above ≤ levels
-  few-above e = by-cases (leb above levels) (λ b. leb-true _ _ b) (λ b. absurd (true-not-false t (by-cases (leb begun levels) (λ c. simp (c, eq-eqb _ _ e, b)) (λ c. simp c))))

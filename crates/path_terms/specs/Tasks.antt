@@ -1,20 +1,15 @@
 -- What paths are gathered for, as the numbers of the code: 0 a load, 1 an instance, 2 to judge an answer's path, 3 to
 -- judge a subgoal's, which is called. A task with one path has it twice.
 use Prim.Native.Nat.{ℕ, zero, suc}
-use mathlib.Core.Bool.{Bool, true, _&&_}
+use mathlib.Core.Bool.{Bool}
 use mathlib.Core.List.{List}
 use mathlib.Core.Path.{_≡_}
-use lib.Dec.{eqb, leb}
-use Rattle.basis.specs.Choice.{pick}
+use lib.Dec.{eqb}
 use Rattle.trie.specs.Paths.{Path}
-use Rattle.trie.specs.Runs.{levels, Ends, pathTo, Begun}
+use Rattle.trie.specs.Runs.{Ends, pathTo, Begun}
 use Rattle.instances.specs.Leaving.{Instances}
 use Rattle.path_terms.specs.AlongPaths.{LoadsPath, worth}
 use Rattle.path_terms.specs.declared.Paths.{Paths}
-
--- whether few cells hold the paths of a task, by what gathering them there came to
-abbrev pub inFew : (task begun above : ℕ) → Bool
-inFew task begun above = leb begun levels && pick (eqb task 1) (leb above levels) true
 
 -- both paths were begun in few cells
 abbrev pub BothBegun : List ℕ → Paths → List ℕ → List ℕ → Type 0

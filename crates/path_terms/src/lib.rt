@@ -25,7 +25,7 @@ ghost use Rattle.convert.specs.Holds.{RoomForTerms};
 ghost use Rattle.plain.specs.Coding.{predicate};
 ghost use Rattle.trie.specs.Runs.{Ends, pathTo};
 ghost use Rattle.path_terms.specs.AlongPaths.{formWorth, worth, LoadsOf, LoadsTo, InstancesTo};
-ghost use Rattle.path_terms.specs.Tasks.{inFew, BothBegun, DoneTo};
+ghost use Rattle.path_terms.specs.Tasks.{BothBegun, DoneTo};
 
 // What paths are gathered for: the terms of an answer, its instance, or what a path is worth, that of an answer or of a
 // subgoal, which is called. A number that each caller gives as a constant: so the compiler can make a copy of
@@ -141,21 +141,9 @@ fn use_long(
     instance_path(&above[j..], &path[k..], x.m, out, x.edition)
 }
 
-// Do few cells hold the paths of a task?
-fn in_few(task: u32, begun: usize, above: usize) -> bool
-    ensures { λ r. ⌜ r ≡ inFew task begun above ⌝ }
-{
-    if LEVELS < begun {
-        return false;
-    }
-    if task == INSTANCE {
-        return above <= LEVELS;
-    }
-    true
-}
-
 // A task is done with paths that were begun in few cells: in these where they hold them. The choice between few cells
-// and those of a whole path stands here alone.
+// and those of a whole path stands here alone. It calls `use_long` at two places: called at one, that would be copied
+// in, and this function be too long to be copied for each task.
 fn use_begun(
     task: u32,
     space: &[u32],
@@ -167,20 +155,23 @@ fn use_begun(
     requires { ⌜ BothBegun (now space) x (now few) (now called) ⌝ }
     ensures { λ r. ⌜ DoneTo task (old space) x (old out) r (new out) ⌝ }
 {
-    if in_few(task, x.begun, x.above) {
-        let path = &few[..];
-        let k = x.begun;
-        if task == LOAD {
-            return load_form(&path[k..], x.m, out, x.edition);
-        }
-        if task != INSTANCE {
-            return form_worth(&path[k..], x.m, task == CALLED, x.edition);
-        }
-        let above = &called[..];
-        let j = x.above;
-        return instance_path(&above[j..], &path[k..], x.m, out, x.edition);
+    if LEVELS < x.begun {
+        return use_long(task, space, x, few, called, out);
     }
-    use_long(task, space, x, few, called, out)
+    let path = &few[..];
+    let k = x.begun;
+    if task == LOAD {
+        return load_form(&path[k..], x.m, out, x.edition);
+    }
+    if task != INSTANCE {
+        return form_worth(&path[k..], x.m, task == CALLED, x.edition);
+    }
+    if LEVELS < x.above {
+        return use_long(task, space, x, few, called, out);
+    }
+    let above = &called[..];
+    let j = x.above;
+    instance_path(&above[j..], &path[k..], x.m, out, x.edition)
 }
 
 // What a path is worth, from its leaf up; a damaged one is worth 0.
