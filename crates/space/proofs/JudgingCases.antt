@@ -72,10 +72,6 @@ and-all a b c e = rw e refl
 and-first : (a b c : Bool) → a ≡ false → (a && b && c) ≡ false
 and-first a b c e = rw e refl
 
-and-others : (a b c : Bool) → (b && c) ≡ false → (a && b && c) ≡ false
-and-others true b c e = e
-and-others false b c e = refl
-
 module _ (nodes links n : ℕ) (y : Node) where
   abbrev pub nodeRises : Bool
   nodeRises = leb (y .parent) n && leb (y .link) links
@@ -90,10 +86,6 @@ module _ (nodes links n : ℕ) (y : Node) where
   pub node-unsound-below : nodeBranches ≡ false → nodeSound nodes links n y ≡ false
   unfolding nodeSound
   node-unsound-below e = and-first nodeBranches (leb (y .parent) n) (leb (y .link) links) e
-
-  pub node-unsound-above : nodeRises ≡ false → nodeSound nodes links n y ≡ false
-  unfolding nodeSound
-  node-unsound-above e = and-others nodeBranches (leb (y .parent) n) (leb (y .link) links) e
 
 module _ (nodes answers : ℕ) (y : Subgoal) where
   pub subgoal-leaf : nodes ≤ y .leaf → false ≡ subgoalSound nodes answers y

@@ -7,14 +7,14 @@ use Rattle.space.proofs.records.node_in.Tie as tie
 node-place-requires : tie.Need-node-place-requires
 node-place-requires c κs = search needs
 
+field-requires : tie.Need-field-requires
+field-requires c κs = search needs
+
 mul-token : tie.Need-mul-token
 mul-token c = search needs
 
 shared-slice-read-token : tie.Need-shared-slice-read-token
 shared-slice-read-token c = search needs
-
-field-requires : tie.Need-field-requires
-field-requires c κs = search needs
 
 field-requires-2 : tie.Need-field-requires-2
 field-requires-2 c κs = search needs
@@ -33,9 +33,9 @@ node-in-spec =
     tie.close
     (tie.spec
     node-place-requires
+    field-requires
     mul-token
     shared-slice-read-token
-    field-requires
     field-requires-2
     field-requires-3
     field-requires-4
