@@ -293,7 +293,7 @@ enum tables_stack {
     TABLES_STACK_FINISH = 1024,    /* 16 */
     TABLES_STACK_NEXT = 1024,      /* 48 */
     TABLES_STACK_LOAD = 58368,     /* 46,800 */
-    TABLES_STACK_INSTANCE = 62464, /* 50,256 */
+    TABLES_STACK_INSTANCE = 62464, /* 50,304 */
     TABLES_STACK_COUNTS = 1024,    /* 16 */
     TABLES_STACK_JOIN = 72704,     /* 57,632; so too */
     TABLES_STACK_BUILD = 1024,     /* 104 */
