@@ -16,7 +16,7 @@ use Rattle.plain.specs.Coding.{Coding, codingOf}
 use Rattle.plain.specs.CodingLaws.{CodingLaws}
 use Rattle.plain.specs.Requests.{left}
 use Rattle.plain.specs.Table.{Table, fresh, step, after}
-use Rattle.plain.proofs.CompactCoding.{compact-laws}
+use Rattle.plain.proofs.StoredCoding.{coding-laws}
 use Rattle.plain.proofs.Keys.{key, Different}
 use Rattle.plain.proofs.AfterLaws.{after-found}
 use Rattle.space.specs.Judging.{nodeSound}
@@ -140,7 +140,7 @@ module _ (e : ℕ) (known : knownEdition e ≡ true) (t : Table) (cs : List ℕ)
   build-held index =
       let a = header-any e known cs (k .head) (k .sound) in
       let fit : nodesFit (viewOf (sizesOf (k .head .edition)) cs (k .head)) (k .head .nodes) ≡ true =
-      subst (λ (i : ℕ). nodesFit (viewOf (sizesOf i) cs (k .head)) (k .head .nodes) ≡ true) (sym (a .1)) (same-fit (codingOf e) (compact-laws (arityOf e)) t (viewOf (sizesOf e) cs (k .head)) (k .same)) in
+      subst (λ (i : ℕ). nodesFit (viewOf (sizesOf i) cs (k .head)) (k .head .nodes) ≡ true) (sym (a .1)) (same-fit (codingOf e) (coding-laws e) t (viewOf (sizesOf e) cs (k .head)) (k .same)) in
       rw (a .0, fit)
 
   -- the children that a build on these nodes enters
@@ -160,7 +160,7 @@ module _ (e : ℕ) (known : knownEdition e ≡ true) (t : Table) (cs : List ℕ)
       let r : roomy (nodesOf cs) (length index) ≡ true = had-room (nodesOf cs) index n (ap (λ (y : Build). y .reply) (sym is) ∙ b) in
       let all : roomy (nodesOf cs) (length index) ≡ true → Found (nodesOf cs) index =
       subst (λ (u : Trie). roomy u (length index) ≡ true → Found u index) (sym nodes-held)
-      (same-built (codingOf e) (compact-laws (arityOf e)) t (viewOf (sizesOf e) cs (k .head)) (k .same) index) in
+      (same-built (codingOf e) (coding-laws e) t (viewOf (sizesOf e) cs (k .head)) (k .same) index) in
       λ x h m. rw is (all r x h m)
 
 -- ---- on the cells that calls leave of a fresh space

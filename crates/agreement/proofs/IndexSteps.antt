@@ -11,7 +11,7 @@ use Rattle.plain.specs.Coding.{Coding, codingOf}
 use Rattle.plain.specs.CodingLaws.{CodingLaws}
 use Rattle.plain.specs.Requests.{Request, Result, Seen, trace, left}
 use Rattle.plain.specs.Table.{Table, fresh, step}
-use Rattle.plain.proofs.CompactCoding.{compact-laws}
+use Rattle.plain.proofs.StoredCoding.{coding-laws}
 use Rattle.space.specs.Layout.{Sizes, sizesOf}
 use Rattle.space.specs.Heading.{headerOf}
 use Rattle.space.specs.Fresh.{freshAnswer, freshSpace}
@@ -54,10 +54,10 @@ module _ (e : ℕ) (known : knownEdition e ≡ true) where
   step-indexed t cs k index q =
       let a = header-any e known cs (k .head) (k .sound) in
       rw (a .0) (subst (λ (i : ℕ). underBy (searchIndexed index) (sizesOf i) (codingOf i) cs q (header.Sound (k .head)) ≡ under (sizesOf i) (codingOf i) cs q (header.Sound (k .head))) (sym (a .1))
-      (under-alike (sizesOf e) (codingOf e) cells-in (compact-laws (arityOf e)) (searchIndexed index) (indexes-as-chains index) t cs (k .head) (k .sound) (k .same) q))
+      (under-alike (sizesOf e) (codingOf e) cells-in (coding-laws e) (searchIndexed index) (indexes-as-chains index) t cs (k .head) (k .sound) (k .same) q))
 
   pub state-holds : (t : Table) (cs : List ℕ) (q : Request) → Holds (sizesOf e) (codingOf e) t cs → Holds (sizesOf e) (codingOf e) (step (codingOf e) t q .state) (spaceStep cs q .state)
-  state-holds = step-state (sizesOf e) (codingOf e) cells-in (compact-laws (arityOf e)) spaceStep (deciding e known)
+  state-holds = step-state (sizesOf e) (codingOf e) cells-in (coding-laws e) spaceStep (deciding e known)
 
   -- what is seen of a call
   abbrev seen : Result (List ℕ) → Seen
@@ -71,7 +71,7 @@ module _ (e : ℕ) (known : knownEdition e ≡ true) where
       ∙ ap (λ (xs : List Seen). seen (spaceStep cs (q .request)) ∷ xs) (trace-indexed (step (codingOf e) t (q .request) .state) (spaceStep cs (q .request) .state) (state-holds t cs (q .request) k) qs)
 
   pub fresh-held : (n f a : ℕ) (s : List ℕ) → freshAnswer (sizesOf e) n f a s ≡ Done → Holds (sizesOf e) (codingOf e) (fresh n f a) (freshSpace (sizesOf e) n f a s)
-  fresh-held n f a s d = fresh-holds (sizesOf e) (codingOf e) cells-in (compact-laws (arityOf e)) spaceStep (deciding e known) n f a s d
+  fresh-held n f a s d = fresh-holds (sizesOf e) (codingOf e) cells-in (coding-laws e) spaceStep (deciding e known) n f a s d
 
 -- the cells that calls leave of a fresh space hold the table that they leave of a fresh one
 pub calls-held : (e n f a : ℕ) (s : List ℕ) (qs : List Request) → knownEdition e ≡ true → freshAnswer (sizesOf e) n f a s ≡ Done

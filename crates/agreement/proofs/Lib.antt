@@ -43,3 +43,5 @@ pub mod IndexWhole
 pub mod Faults
 pub mod Hollow
 pub mod Histories
+pub mod Alike
+pub mod Bounds

@@ -10,7 +10,7 @@ use Rattle.plain.specs.Requests.{State, Request, answer, next, Counts, Result, 
 use Rattle.plain.specs.Table.{Table, fresh, counted, step, tableTrace}
 use Rattle.plain.specs.Order.{Accepted, Exchangeable, Exchanged, unchanged, exchange, behind, again, unnumbered, heard}
 use Rattle.plain.specs.Order.{HandsOut, SameAnswers, SameButNumbers, OtherOrder, Rearranged, ArrivalOrder}
-use Rattle.plain.proofs.CompactCoding.{compact-laws}
+use Rattle.plain.proofs.StoredCoding.{coding-laws}
 use Rattle.plain.proofs.Exchanges.{other-order, rearranged}
 use Rattle.space.specs.Layout.{Sizes, sizesOf}
 use Rattle.space.specs.Fresh.{freshAnswer, freshSpace}
@@ -138,4 +138,4 @@ pub cells-arrival-order : CellsArrivalOrder
 cells-arrival-order e n f a s d =
     let k = fresh-in e n f a s d in
     subst (λ (cs : List ℕ). ArrivalOrder spaceStep countedCells cs) (sym (k .2))
-    (arrival-order (sizesOf e) (codingOf e) (cells-hold (sizesOf e) (changes.sizes-wide e)) (compact-laws (arityOf e)) spaceStep (deciding e (k .0)) n f a s (k .1))
+    (arrival-order (sizesOf e) (codingOf e) (cells-hold (sizesOf e) (changes.sizes-wide e)) (coding-laws e) spaceStep (deciding e (k .0)) n f a s (k .1))

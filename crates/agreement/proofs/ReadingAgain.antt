@@ -1,38 +1,28 @@
--- Compact form: a called form begins as its term does, and a legal form can be read again from its terms.
+-- A called form begins as its term does, and a legal form can be read again from its terms, in each stored form.
 use Prim.Native.Nat.{ℕ}
 use mathlib.Core.Path.{_≡_, refl, sym, ap, _∙_}
 use mathlib.Core.Bool.{true, false, false≢true}
-use mathlib.Core.List.{List, [], _∷_, _++_, append-assoc}
+use mathlib.Core.List.{List, [], _∷_}
 use native.Mathlib.Omega.{arith}
 use lib.Dec.{eqb}
-use lib.ListN.{length}
+use lib.ListN.{length, getD}
 use borrow.Author.Tests.{eqb-true, ne-eqb, le-ltb}
 use Rattle.basis.proofs.Cases.{by-cases}
-use Rattle.forms.specs.Cells.{kind, variable, callable, shapeOf}
-use Rattle.forms.specs.Terms.{Term, cell, arg, pair, pairs, every, reads}
+use Rattle.forms.specs.Cells.{kind, variable, callable, arityOf}
 use Rattle.forms.specs.Numbering.{met, renamed, numbered}
-use Rattle.forms.specs.Compact.{compact, compactForm, formTerms, pairForm, legalForm}
+use Rattle.forms.specs.Stored.{StoredForm, storedOf}
 use Rattle.forms.specs.Converting.{reading}
-use Rattle.forms.specs.Promises.{Legal}
-use Rattle.forms.proofs.ExactLaws.{terms-pairs, forms-compact}
-use Rattle.forms.proofs.RoundTrip.{numbered-terms, pair-variables, legal-parts}
-use Rattle.forms.proofs.Theorems.{loaded}
+use Rattle.forms.specs.Promises.{Legal, Demand2}
+use Rattle.forms.proofs.StoredLaws.{ExactTerms, StoredLaws, stored-of}
 use Rattle.plain.specs.Words.{Word}
-use Rattle.plain.specs.Coding.{Reading, accepted, judged, handedOn, predicate, compacted, compactCoding}
-use Rattle.plain.proofs.CompactCoding.{called-form}
+use Rattle.plain.specs.Coding.{Reading, accepted, judged, handedOn, predicate, taken, codedAs, codingOf}
+use Rattle.plain.proofs.StoredCoding.{called-form}
 use Rattle.agreement.specs.Whole.{ReadingAgain}
 
--- a term begins with an atom or a functor in either form, or in neither
-first-cell : (t : Term) (r q : List ℕ) → predicate (compact t ++ r) ≡ predicate (pairs t ++ q)
-unfolding compact pairs predicate callable
-first-cell (cell c) r q = refl
-first-cell (arg f a) r q = rw (append-assoc (compact f) (compact a) r, append-assoc (pairs f) (pairs a) q) (first-cell f (compact a ++ r) (pairs a ++ q))
-first-cell (pair h t) r q = refl
-
-first-of-one : (ts : List Term) → length ts ≡ 1 → predicate (every compact ts) ≡ predicate (every pairs ts)
-unfolding every
-first-of-one [] e = absurd (omega arith)
-first-of-one (t ∷ ts) e = first-cell t (every compact ts) (every pairs ts)
+predicate-first : (cs : List ℕ) → predicate cs ≡ callable (getD cs 0 0)
+unfolding predicate callable
+predicate-first [] = refl
+predicate-first (c ∷ cs) = refl
 
 callable-constant : (c : ℕ) → callable c ≡ true → variable c ≡ false
 unfolding callable
@@ -45,35 +35,43 @@ unfolding predicate numbered renamed
 numbered-begins [] e = absurd (false≢true e)
 numbered-begins (c ∷ cs) e = rw (callable-constant c e) e
 
-module _ (arity : ℕ → ℕ) where
-  begins-called : (ks : List ℕ) (w : Word) (m : ℕ) → compactCoding arity .called ks ≡ accepted w m → predicate w ≡ true
-  unfolding compactForm
+module _ (arity : ℕ → ℕ) (s : StoredForm) (laws : StoredLaws arity s) where
+  abbrev demand : Demand2 arity s
+  demand = laws .demand
+
+  -- a legal form of one term begins as its cells do
+  form-begins : (w : Word) → s .legal 1 w ≡ true → predicate w ≡ predicate (s .cells w)
+  form-begins w h = predicate-first w ∙ laws .exact-begins w (laws .legal-exact 1 w h) ∙ sym (predicate-first (s .cells w))
+
+  begins-called : (ks : List ℕ) (w : Word) (m : ℕ) → codedAs arity s .called ks ≡ accepted w m → predicate w ≡ true
   begins-called ks w m e =
-      let f = called-form arity ks w m e in
-      let l = f .0 in
-      let p = terms-pairs arity 1 (numbered ks) (numbered-terms arity 1 ks (l .cells) ∙ l .terms) in
-      let ts : List Term = reads (shapeOf arity) (numbered ks) in
-      ap predicate (sym (f .2)) ∙ first-of-one ts (p .0) ∙ ap predicate (sym (p .1)) ∙ numbered-begins ks (f .1)
+      let f = called-form arity s laws ks w m e in
+      let d = demand .stored 1 ks (f .0) in
+      ap predicate (sym (f .2)) ∙ form-begins (s .form ks) (d .0) ∙ ap predicate (d .1) ∙ numbered-begins ks (f .1)
 
   -- cells that are legal are not refused by the reader
-  judged-passes : (m : ℕ) (cs : List ℕ) (r : Reading) → Legal arity m cs → judged arity m cs r ≡ r
+  judged-passes : (m : ℕ) (cs : List ℕ) (r : Reading) → Legal arity m cs → judged arity s m cs r ≡ r
   unfolding judged handedOn reading
   judged-passes m cs r l = rw (le-ltb 256 (length cs) (l .cells), l .terms, le-ltb 32 (length (met [] cs)) (l .variables))
 
-  compacted-again : (m : ℕ) (w : Word) → legalForm arity m w ≡ true → compacted arity (pairForm arity w) ≡ accepted w (length (met [] w))
-  unfolding compacted
-  compacted-again m w h = rw (loaded arity m w h .2, pair-variables arity m w (legal-parts arity m w h .forms))
+  taken-again : (m : ℕ) (w : Word) → s .legal m w ≡ true → taken s (s .cells w) ≡ accepted w (length (met [] w))
+  unfolding taken
+  taken-again m w h =
+      let x : ExactTerms arity s m w = laws .exact-terms m w (laws .legal-exact m w h) in
+      rw (demand .loaded m w h .2, x .variables)
 
-  called-again : (w : Word) → legalForm arity 1 w ≡ true → predicate w ≡ true → compactCoding arity .called (pairForm arity w) ≡ accepted w (length (met [] w))
+  called-again : (w : Word) → s .legal 1 w ≡ true → predicate w ≡ true → codedAs arity s .called (s .cells w) ≡ accepted w (length (met [] w))
   called-again w h b =
-      let l = loaded arity 1 w h in
-      let f = forms-compact arity 1 w (legal-parts arity 1 w h .forms) in
-      let p : predicate (pairForm arity w) ≡ true = unfold pairForm in sym (first-of-one (formTerms arity w) (f .0)) ∙ ap predicate (sym (f .1)) ∙ b in
-      judged-passes 1 (pairForm arity w) _ (l .0) ∙ rw p (compacted-again 1 w h)
+      let p : predicate (s .cells w) ≡ true = sym (form-begins w h) ∙ b in
+      judged-passes 1 (s .cells w) _ (demand .loaded 1 w h .0) ∙ rw p (taken-again 1 w h)
 
-  pub compact-again : ReadingAgain (compactCoding arity)
-  compact-again = record {
+  pub stored-again : ReadingAgain (codedAs arity s)
+  stored-again = record {
     called-begins = begins-called;
     legal-called = called-again;
-    legal-answered = λ m w h. (length (met [] w), judged-passes m (pairForm arity w) _ (loaded arity m w h .0) ∙ compacted-again m w h);
+    legal-answered = λ m w h. (length (met [] w), judged-passes m (s .cells w) _ (demand .loaded m w h .0) ∙ taken-again m w h);
   }
+
+-- of each edition
+pub coding-again : (e : ℕ) → ReadingAgain (codingOf e)
+coding-again e = stored-again (arityOf e) (storedOf e) (stored-of e)

@@ -12,7 +12,7 @@ use Rattle.forms.specs.Marked.{marked, marked-wide}
 use Rattle.plain.specs.Coding.{Coding, codingOf}
 use Rattle.plain.specs.CodingLaws.{CodingLaws}
 use Rattle.plain.specs.Examples.{examples}
-use Rattle.plain.proofs.CompactCoding.{compact-laws}
+use Rattle.plain.proofs.StoredCoding.{coding-laws}
 use Rattle.space.specs.Layout.{Sizes, sizesOf}
 use Rattle.space.specs.Heading.{headerOf, spaceHeader}
 use Rattle.space.specs.Fresh.{freshAnswer, freshSpace, freshAnswerIn, freshSpaceIn}
@@ -66,20 +66,20 @@ fresh-in e n f a s d = by-cases (knownEdition e)
 pub promise : Promise
 promise e n f a s qs d =
     let k = fresh-in e n f a s d in
-    rw (k .2) (lists.agreement (sizesOf e) (codingOf e) (cells-hold (sizesOf e) (cells.sizes-wide e)) (compact-laws (arityOf e)) spaceStep (deciding e (k .0)) n f a s qs (k .1))
+    rw (k .2) (lists.agreement (sizesOf e) (codingOf e) (cells-hold (sizesOf e) (cells.sizes-wide e)) (coding-laws e) spaceStep (deciding e (k .0)) n f a s qs (k .1))
 
 -- of one edition
 pub promise-of : (e : ℕ) → Agreement (sizesOf e) (codingOf e)
-promise-of e = agreement (sizesOf e) (cells.sizes-wide e) (codingOf e) (compact-laws (arityOf e))
+promise-of e = agreement (sizesOf e) (cells.sizes-wide e) (codingOf e) (coding-laws e)
 
 pub following : (e : ℕ) → knownEdition e ≡ true → Following (sizesOf e) (codingOf e) spaceStep
-following e k = calls.following (sizesOf e) (codingOf e) (cells-hold (sizesOf e) (cells.sizes-wide e)) (compact-laws (arityOf e)) spaceStep (deciding e k)
+following e k = calls.following (sizesOf e) (codingOf e) (cells-hold (sizesOf e) (cells.sizes-wide e)) (coding-laws e) spaceStep (deciding e k)
 
 pub sound-for-ever : (e : ℕ) → knownEdition e ≡ true → SoundForEver (sizesOf e) (codingOf e) spaceStep
-sound-for-ever e k = calls.sound-for-ever (sizesOf e) (codingOf e) (cells-hold (sizesOf e) (cells.sizes-wide e)) (compact-laws (arityOf e)) spaceStep (deciding e k)
+sound-for-ever e k = calls.sound-for-ever (sizesOf e) (codingOf e) (cells-hold (sizesOf e) (cells.sizes-wide e)) (coding-laws e) spaceStep (deciding e k)
 
 pub no-more-for-ever : (e : ℕ) → knownEdition e ≡ true → NoMoreForEver (sizesOf e) (codingOf e) spaceStep
-no-more-for-ever e k = calls.no-more-for-ever (sizesOf e) (codingOf e) (cells-hold (sizesOf e) (cells.sizes-wide e)) (compact-laws (arityOf e)) spaceStep (deciding e k)
+no-more-for-ever e k = calls.no-more-for-ever (sizesOf e) (codingOf e) (cells-hold (sizesOf e) (cells.sizes-wide e)) (coding-laws e) spaceStep (deciding e k)
 
 pub untouched : Untouched spaceStep
 untouched = refusals.untouched

@@ -10,7 +10,7 @@ use Rattle.plain.specs.Coding.{Coding, codingOf}
 use Rattle.plain.specs.CodingLaws.{CodingLaws}
 use Rattle.plain.specs.Requests.{Request, Result, left}
 use Rattle.plain.specs.Table.{Table, fresh, step}
-use Rattle.plain.proofs.CompactCoding.{compact-laws}
+use Rattle.plain.proofs.StoredCoding.{coding-laws}
 use Rattle.space.specs.Layout.{Sizes, sizesOf}
 use Rattle.space.specs.Heading.{headerOf, spaceHeader}
 use Rattle.space.specs.Fresh.{freshSpace}
@@ -27,7 +27,7 @@ use Rattle.agreement.proofs.Holding.{Cells, Holds}
 use Rattle.agreement.proofs.CallLists.{Deciding, cellStep-sound, trace-same}
 use Rattle.agreement.proofs.Following.{left-related, step-state, fresh-holds}
 use Rattle.agreement.proofs.Theorem.{cells-hold, header-any, deciding, fresh-in}
-use Rattle.agreement.proofs.ReadingAgain.{compact-again}
+use Rattle.agreement.proofs.ReadingAgain.{coding-again}
 use Rattle.agreement.proofs.WholeTests.{whole-local, local-whole}
 use Rattle.agreement.proofs.WholeChains.{local-facts}
 use Rattle.agreement.proofs.WholeSame.{whole-same}
@@ -102,19 +102,19 @@ module _ (e : ℕ) (known : knownEdition e ≡ true) where
   held-says : (t : Table) (cs : List ℕ) → HeldIn t cs → (wholeSpace cs ≡ true) × (tableOf cs ≡ t) × (editionOf cs ≡ e)
   held-says t cs k = (
     whole-in cs (k .head) (k .sound)
-        ∙ held-passes (sizesOf e) (codingOf e) cells-in (compact-laws (arityOf e)) (compact-again (arityOf e)) spaceStep (deciding e known) t cs k,
+        ∙ held-passes (sizesOf e) (codingOf e) cells-in (coding-laws e) (coding-again e) spaceStep (deciding e known) t cs k,
     table-in cs (k .head) (k .sound)
-        ∙ held-table (sizesOf e) (codingOf e) cells-in (compact-laws (arityOf e)) (compact-again (arityOf e)) spaceStep (deciding e known) t cs k,
+        ∙ held-table (sizesOf e) (codingOf e) cells-in (coding-laws e) (coding-again e) spaceStep (deciding e known) t cs k,
     edition-in cs (k .head) (k .sound),
   )
 
   pub space-holds : (cs : List ℕ) (h : Head) → headerOf (sizesOf e) cs ≡ header.Sound h → wholeSpace cs ≡ true → Holds (sizesOf e) (codingOf e) (tableOf cs) cs
   space-holds cs h s w =
       subst (λ (t : Table). HeldIn t cs) (sym (table-in cs h s))
-      (whole-holds (sizesOf e) (codingOf e) cells-in (compact-laws (arityOf e)) (compact-again (arityOf e)) spaceStep (deciding e known) cs (sym (whole-in cs h s) ∙ w))
+      (whole-holds (sizesOf e) (codingOf e) cells-in (coding-laws e) (coding-again e) spaceStep (deciding e known) cs (sym (whole-in cs h s) ∙ w))
 
   left-in : (t : Table) (cs : List ℕ) (qs : List Request) → HeldIn t cs → HeldIn (left (step (codingOf e)) t qs) (left spaceStep cs qs)
-  left-in t cs qs k = left-held (sizesOf e) (codingOf e) cells-in (compact-laws (arityOf e)) (compact-again (arityOf e)) spaceStep (deciding e known) t cs qs k
+  left-in t cs qs k = left-held (sizesOf e) (codingOf e) cells-in (coding-laws e) (coding-again e) spaceStep (deciding e known) t cs qs k
 
 -- a space that passes names an edition that there is, and its header is sound in it
 abbrev pub KnownSpace : List ℕ → Type 0
@@ -136,13 +136,13 @@ space-checking = record {
   passing = λ e n f a s qs d.
       let k = fresh-in e n f a s d in
       let o : HeldIn e (k .0) (fresh n f a) (freshSpace (sizesOf e) n f a s) =
-      fresh-holds (sizesOf e) (codingOf e) (cells-in e (k .0)) (compact-laws (arityOf e)) spaceStep (deciding e (k .0)) n f a s (k .1) in
+      fresh-holds (sizesOf e) (codingOf e) (cells-in e (k .0)) (coding-laws e) spaceStep (deciding e (k .0)) n f a s (k .1) in
       rw (k .2) (held-says e (k .0) (left (step (codingOf e)) (fresh n f a) qs) (left spaceStep (freshSpace (sizesOf e) n f a s) qs) (left-in e (k .0) (fresh n f a) (freshSpace (sizesOf e) n f a s) qs o));
   answering = λ cs qs w.
       let k = whole-known cs w in
       let e : ℕ = editionOf cs in
       let o : HeldIn e (k .0) (tableOf cs) cs = space-holds e (k .0) cs (k .1 .0) (k .1 .1) w in
-      trace-same (sizesOf e) (codingOf e) (cells-in e (k .0)) (compact-laws (arityOf e)) spaceStep (deciding e (k .0)) (tableOf cs) cs (o .head) (o .sound) (o .same) qs;
+      trace-same (sizesOf e) (codingOf e) (cells-in e (k .0)) (coding-laws e) spaceStep (deciding e (k .0)) (tableOf cs) cs (o .head) (o .sound) (o .same) qs;
   lasting = λ cs qs w.
       let k = whole-known cs w in
       let e : ℕ = editionOf cs in

@@ -9,3 +9,5 @@ pub mod WholeExamples
 pub mod Hollow
 pub mod RuledOut
 pub mod History
+pub mod Alike
+pub mod Bounds

@@ -12,7 +12,8 @@ use Rattle.forms.specs.Numbering.{rank, seen, met, renamed, numbered}
 use Rattle.forms.specs.Compact.{compact, elements, compactForm, filled, lastOf, tailOf, inside, into, collected}
 use Rattle.forms.specs.Compact.{entered, items, front, formTerms, pairForm, same, areForms, legalForm}
 use Rattle.forms.specs.Converting.{reading}
-use Rattle.plain.specs.Coding.{judged, handedOn, predicate, compacted}
+use Rattle.forms.specs.Stored.{storedOf}
+use Rattle.plain.specs.Coding.{judged, handedOn, predicate, taken}
 use Rattle.plain.specs.Requests.{Request, answer, next, Reply, new, oldAnswer, at, noneYet, noMore, refused, lent}
 use Rattle.plain.specs.Requests.{trace}
 use Rattle.plain.specs.Examples.{var, atom, fun}
@@ -135,7 +136,7 @@ unfolding upTo wholeSpace wholeAny wholeUnder wholeView chains chain answerWhole
     subgoalWidth answerWidth follows nodeSound bothOrNeither subgoalSound answerSound searchSiblings searchChildren
     walkFromBy walkBy gather leadCell appendNode appendPath answeredNew answeredOld answeredAt answeredBy starting
     handed onward decideBy answerEntered changeBy reply outAfter underBy underAnyBy spaceStepBy areForms legalForm
-    judged handedOn reading callable predicate compacted compactForm areTerms pairForm formTerms front symbolic
+    judged handedOn reading callable predicate taken storedOf compactForm areTerms pairForm formTerms front symbolic
     tokenOf items entered filled lastOf tailOf into inside collected reads begun applied paired shapeOf arityOf every
     compact elements pairs numbered renamed met seen rank same whole
 checked = (refl, refl, refl, refl, refl, refl, refl, refl, refl, refl, refl, refl, refl, refl)
@@ -160,7 +161,7 @@ unfolding faultOf faultUnder faultIn firstFailing chained among wholeSpace whole
     counted knownEdition headerOf spaceHeader subgoalWidth answerWidth follows nodeSound bothOrNeither subgoalSound
     answerSound searchSiblings searchChildren walkFromBy walkBy gather leadCell appendNode appendPath answeredNew
     answeredOld answeredAt answeredBy starting handed onward decideBy answerEntered changeBy reply outAfter underBy
-    underAnyBy spaceStepBy areForms legalForm judged handedOn reading callable predicate compacted compactForm
+    underAnyBy spaceStepBy areForms legalForm judged handedOn reading callable predicate taken storedOf compactForm
     areTerms pairForm formTerms front symbolic tokenOf items entered filled lastOf tailOf into inside collected reads
     begun applied paired shapeOf arityOf every compact elements pairs numbered renamed met seen rank same whole
 first-broken = (refl, refl, refl, refl, refl, refl, refl, refl, refl, refl)
@@ -182,7 +183,7 @@ unfolding upTo wholeSpace wholeAny wholeUnder wholeView chains chain answerWhole
     subgoalWidth answerWidth follows nodeSound bothOrNeither subgoalSound answerSound searchSiblings searchChildren
     walkFromBy walkBy gather leadCell appendNode appendPath answeredNew answeredOld answeredAt answeredBy starting
     handed onward decideBy answerEntered changeBy reply outAfter underBy underAnyBy spaceStepBy areForms legalForm
-    judged handedOn reading callable predicate compacted compactForm areTerms pairForm formTerms front symbolic
+    judged handedOn reading callable predicate taken storedOf compactForm areTerms pairForm formTerms front symbolic
     tokenOf items entered filled lastOf tailOf into inside collected reads begun applied paired shapeOf arityOf every
     compact elements pairs numbered renamed met seen rank same whole
 held = (refl, refl, refl, refl, refl, refl)

@@ -4,7 +4,7 @@
 pub const MOST_CELLS: usize = 256;
 // The distinct variables in them.
 pub const MOST_VARIABLES: usize = 32;
-// The tokens of a compact form.
+// The tokens of a stored form: a compact form has as many, a numbered pair form no more than its cells.
 pub const MOST_TOKENS: usize = (3 * MOST_CELLS - 1) / 2;
 // The records of a kind.
 pub const MOST_RECORDS: usize = 1048576;

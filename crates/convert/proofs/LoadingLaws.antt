@@ -17,6 +17,7 @@ use Rattle.forms.specs.Cells.{kind, payload, tag, variable, tokenOf}
 use Rattle.forms.specs.Terms.{Term, pairs, every}
 use Rattle.forms.specs.Numbering.{rank, seen, met, renamed, numbered}
 use Rattle.forms.specs.Compact.{compact, items, front, formTerms, pairForm, same, areForms, legalForm}
+use Rattle.forms.specs.Stored.{compactStored}
 use Rattle.forms.specs.Converting.{loading}
 use Rattle.forms.proofs.CompactLaws.{same-length-empty}
 use Rattle.forms.proofs.FormLaws.{every-compact-short, every-pairs-least, every-pairs-size}
@@ -186,7 +187,7 @@ unordered-numbered cs h e =
 
 module _ (arity : ℕ → ℕ) (m : ℕ) (s : List ℕ) where
   -- what is no legal form
-  none : (LegalParts arity m s → ⊥) → NoForm ≡ loading arity m s
+  none : (LegalParts arity m s → ⊥) → NoForm ≡ loading (compactStored arity) m s
   unfolding loading
   none f = go (legalForm arity m s) refl
     where
@@ -194,7 +195,7 @@ module _ (arity : ℕ → ℕ) (m : ℕ) (s : List ℕ) where
       go true e = absurd (f (legal-parts arity m s e))
       go false e = rw e
 
-  pub loading-long : 383 < length s → NoForm ≡ loading arity m s
+  pub loading-long : 383 < length s → NoForm ≡ loading (compactStored arity) m s
   loading-long h = none (λ p.
       let w = forms-compact arity m s (p .forms) in
       let l : length (every pairs (formTerms arity s)) ≤ 256 = unfold pairForm in p .cells in
@@ -214,10 +215,10 @@ module _ (arity : ℕ → ℕ) (m : ℕ) (s : List ℕ) where
       within false q a l = let e : limit ≡ room = g (leb-false 256 limit q) in omega (arith, leb-false 256 limit q, h (omega (arith, leb-false 256 limit q)))
 
   module _ (limit room : ℕ) (h : room < 256 → 2 * length s ≤ room) (g : limit < 256 → limit ≡ room) where
-    pub loading-many : limit < m → NoForm ≡ loading arity m s
+    pub loading-many : limit < m → NoForm ≡ loading (compactStored arity) m s
     loading-many l = none (λ p. omega (arith, legal-cells limit room h g p))
 
-    pub loading-malformed : (out out′ : List ℕ) → FormsRan arity s limit 0 m 0 out 0 out′ Malformed → NoForm ≡ loading arity m s
+    pub loading-malformed : (out out′ : List ℕ) → FormsRan arity s limit 0 m 0 out 0 out′ Malformed → NoForm ≡ loading (compactStored arity) m s
     unfolding formTerms
     loading-malformed out out′ (inl l) = none (λ p.
         let w = forms-compact arity m s (p .forms) in
@@ -233,7 +234,7 @@ module _ (arity : ℕ → ℕ) (m : ℕ) (s : List ℕ) where
     unfolding formTerms
     the-terms = ap (λ (l : List ℕ). front (items (tokenOf arity) l)) (v .3 .cells) ∙ front-every arity ts (drop next s) (v .1)
 
-    pub loading-left : next < length s → NoForm ≡ loading arity m s
+    pub loading-left : next < length s → NoForm ≡ loading (compactStored arity) m s
     loading-left h = none (λ p.
         let w = forms-compact arity m s (p .forms) in
         let z : formTerms arity (drop next s) ≡ [] = same-length-empty ts (formTerms arity (drop next s)) (sym (ap length the-terms) ∙ w .0 ∙ sym (v .2)) in
@@ -263,10 +264,10 @@ module _ (arity : ℕ → ℕ) (m : ℕ) (s : List ℕ) where
       pub variables : known ≡ length (met [] s)
       variables = v .3 .known ∙ ap (metIn 0) (sym the-form) ∙ ordered-numbered s in-order .1
 
-      pub loading-crowded : 32 < known → NoForm ≡ loading arity m s
+      pub loading-crowded : 32 < known → NoForm ≡ loading (compactStored arity) m s
       loading-crowded h = none (λ p. omega (arith, p .variables, variables))
 
-      pub loading-terms : known ≤ 32 → limit ≤ 256 → limit ≤ length out → (Terms end ≡ loading arity m s) × HoldsTerms arity s out′ (Terms end)
+      pub loading-terms : known ≤ 32 → limit ≤ 256 → limit ≤ length out → (Terms end ≡ loading (compactStored arity) m s) × HoldsTerms (compactStored arity) s out′ (Terms end)
       unfolding loading
       loading-terms h b k =
           let l : legalForm arity m s ≡ true =

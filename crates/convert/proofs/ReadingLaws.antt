@@ -15,6 +15,7 @@ use Rattle.forms.specs.Cells.{variable, shapeOf, tag}
 use Rattle.forms.specs.Terms.{Term, pairs, every, reads, areTerms}
 use Rattle.forms.specs.Numbering.{rank, seen, met, renamed, numbered}
 use Rattle.forms.specs.Compact.{compact, compactForm}
+use Rattle.forms.specs.Stored.{StoredForm, compactStored}
 use Rattle.forms.specs.Converting.{reading}
 use Rattle.forms.proofs.ShapeLaws.{pair-cell-of}
 use Rattle.forms.proofs.ReadLaws.{reads-within}
@@ -35,9 +36,9 @@ refusal-tests r k w false true true e = let z : r ≡ 5 = cc in omega arith
 refusal-tests r k w false true false e = let z : _≡_ {A = ℕ} 0 1 = cc in absurd (omega arith)
 refusal-tests r k w false false c e = let z : r ≡ 3 = cc in omega arith
 
-pub refusal-small : (arity : ℕ → ℕ) (m r : ℕ) (s : List ℕ) → Refusal r ≡ reading arity m s → r ≤ 5
+pub refusal-small : (arity : ℕ → ℕ) (form : StoredForm) (m r : ℕ) (s : List ℕ) → Refusal r ≡ reading arity form m s → r ≤ 5
 unfolding reading
-refusal-small arity m r s e = refusal-tests r (length (compactForm arity s)) (length (met [] s)) (ltb 256 (length s)) (areTerms arity m s) (ltb 32 (length (met [] s))) e
+refusal-small arity form m r s e = refusal-tests r (length (form .form s)) (length (met [] s)) (ltb 256 (length s)) (areTerms arity m s) (ltb 32 (length (met [] s))) e
 
 -- ---- numbering on the way is numbering
 
@@ -81,31 +82,43 @@ sets-taken form form₀ F end q l k =
 
 -- ---- answers
 
-module _ (arity : ℕ → ℕ) (m : ℕ) (s : List ℕ) where
-  pub reading-long : 256 < length s → Refusal 4 ≡ reading arity m s
+-- what is refused, in any stored form
+module _ (arity : ℕ → ℕ) (stored : StoredForm) (m : ℕ) (s : List ℕ) where
+  pub reading-long : 256 < length s → Refusal 4 ≡ reading arity stored m s
   unfolding reading
   reading-long h = rw (lt-ltb 256 (length s) h)
 
   module _ (short : length s ≤ 256) where
     -- what is not m terms is 3
-    malformed : (areTerms arity m s ≡ true → ⊥) → Refusal 3 ≡ reading arity m s
+    pub malformed : (areTerms arity m s ≡ true → ⊥) → Refusal 3 ≡ reading arity stored m s
     unfolding reading
     malformed f = go (areTerms arity m s) refl
       where
         go : (b : Bool) → areTerms arity m s ≡ b
-            → Refusal 3 ≡ pick (ltb 256 (length s)) (Refusal 4) (pick (areTerms arity m s) (pick (ltb 32 (length (met [] s))) (Refusal 5) (Form (length (compactForm arity s)) (length (met [] s)))) (Refusal 3))
+            → Refusal 3 ≡ pick (ltb 256 (length s)) (Refusal 4) (pick (areTerms arity m s) (pick (ltb 32 (length (met [] s))) (Refusal 5) (Form (length (stored .form s)) (length (met [] s)))) (Refusal 3))
         go true e = absurd (f e)
         go false e = rw (le-ltb 256 (length s) short, e)
 
-    pub reading-few : length s < m → Refusal 3 ≡ reading arity m s
+    pub reading-few : length s < m → Refusal 3 ≡ reading arity stored m s
     reading-few h = malformed (λ e. let w = terms-pairs arity m s e in omega (arith, every-pairs-least (reads (shapeOf arity) s), ap length (w .1), w .0))
 
-    pub reading-malformed : length (termsAt arity s 0) < m → Refusal 3 ≡ reading arity m s
-    reading-malformed h = malformed (λ e. let w = terms-pairs arity m s e in omega (arith, w .0))
+    pub crowded : areTerms arity m s ≡ true → 32 < length (met [] s) → Refusal 5 ≡ reading arity stored m s
+    unfolding reading
+    crowded e h = rw (le-ltb 256 (length s) short, e, lt-ltb 32 (length (met [] s)) h)
+
+    pub accepted : areTerms arity m s ≡ true → length (met [] s) ≤ 32 → Form (length (stored .form s)) (length (met [] s)) ≡ reading arity stored m s
+    unfolding reading
+    accepted e h = rw (le-ltb 256 (length s) short, e, le-ltb 32 (length (met [] s)) h)
+
+-- the reader of compact form
+module _ (arity : ℕ → ℕ) (m : ℕ) (s : List ℕ) where
+  module _ (short : length s ≤ 256) where
+    pub reading-malformed : length (termsAt arity s 0) < m → Refusal 3 ≡ reading arity (compactStored arity) m s
+    reading-malformed h = malformed arity (compactStored arity) m s short (λ e. let w = terms-pairs arity m s e in omega (arith, w .0))
 
     module _ (vars form₀ vars′ form : List ℕ) (next end known : ℕ) (v : TermsRan arity s 0 m vars 0 form₀ 0 vars′ form (Done next end known)) where
-      pub reading-left : next < length s → Refusal 3 ≡ reading arity m s
-      reading-left h = malformed (λ e.
+      pub reading-left : next < length s → Refusal 3 ≡ reading arity (compactStored arity) m s
+      reading-left h = malformed arity (compactStored arity) m s short (λ e.
           let w = terms-pairs arity m s e in
           let t : take m (reads (shapeOf arity) s) ≡ reads (shapeOf arity) s = take-all m (reads (shapeOf arity) s) (omega (arith, w .0)) in
           omega (arith, v .1, ap (λ (l : List Term). length (every pairs l)) t, ap length (w .1)))
@@ -139,13 +152,13 @@ module _ (arity : ℕ → ℕ) (m : ℕ) (s : List ℕ) where
         form-end : length (compactForm arity s) ≡ end
         form-end = ap length the-form ∙ numbered-length (every compact (reads (shapeOf arity) s)) [] ∙ (omega (arith, is-stored .end-at))
 
-        pub reading-crowded : 32 < known → Refusal 5 ≡ reading arity m s
+        pub reading-crowded : 32 < known → Refusal 5 ≡ reading arity (compactStored arity) m s
         unfolding reading
         reading-crowded h =
             let g : 32 < length (met [] s) = omega (arith, variables) in
             rw (le-ltb 256 (length s) short, are-terms, lt-ltb 32 (length (met [] s)) g)
 
-        pub reading-form : known ≤ 32 → 3 * length s ≤ 2 * length form₀ → (Form end known ≡ reading arity m s) × HoldsForm arity s form (Form end known)
+        pub reading-form : known ≤ 32 → 3 * length s ≤ 2 * length form₀ → (Form end known ≡ reading arity (compactStored arity) m s) × HoldsForm (compactStored arity) s form (Form end known)
         unfolding reading
         reading-form h k =
             let g : length (met [] s) ≤ 32 = omega (arith, variables) in (

@@ -1,5 +1,6 @@
-// Compacting and expanding: m terms in pair form to their compact form, and back.
+// Reading and loading: m terms in pair form to the form that an edition stores, and back; compacting and expanding.
 pub mod buffers;
+mod cells;
 
 use basis::limits::MOST_CELLS;
 use basis::limits::MOST_VARIABLES;
@@ -28,7 +29,8 @@ ghost use mathlib.Core.List.{_++_};
 ghost use Prim.Native.Nat.{_+_, _≤_, _<_};
 ghost use lib.ListN.{length, take, drop};
 ghost use Rattle.basis.specs.Moments.{old, new};
-ghost use Rattle.convert.specs.Holds.{RoomForForm, RoomForTerms, Reads, Loads, LoadsCounted};
+ghost use Rattle.convert.specs.Holds.{RoomForForm, RoomForTerms, Reads, ReadsLists, Loads};
+ghost use Rattle.convert.specs.Holds.{LoadsCounted, CountsLists};
 ghost use Rattle.convert.specs.Holds.{Compacts, CompactsIn, Expands, ExpandsIn};
 
 // What loading comes to: the cells written and how many variables there are; or that the cells are no legal form.
@@ -37,11 +39,22 @@ pub enum Loaded {
     Nothing,
 }
 
-// Reads the m terms in s, and leaves their compact form at the start of form. vars is for the
+// Reads the m terms in s, and leaves the form of them that the edition stores at the start of form. vars is for the
 // variables that are met.
 pub fn read_terms(s: &[u32], m: usize, vars: &mut [u32], form: &mut [u32], edition: u32) -> Reading
     requires { ⌜ RoomForForm (now s) (now vars) (now form) ⌝ }
     ensures { λ r. ⌜ Reads edition m (old s) (new form) r ⌝ }
+{
+    if forms::stores_pairs(edition) {
+        return cells::read_cells(s, m, vars, form, edition);
+    }
+    read_compact(s, m, vars, form, edition)
+}
+
+// The same in compact form.
+fn read_compact(s: &[u32], m: usize, vars: &mut [u32], form: &mut [u32], edition: u32) -> Reading
+    requires { ⌜ RoomForForm (now s) (now vars) (now form) ⌝ }
+    ensures { λ r. ⌜ ReadsLists edition m (old s) (new form) r ⌝ }
 {
     let n = s.len();
     if MOST_CELLS < n {
@@ -72,10 +85,21 @@ fn limit_of(room: usize) -> usize
     MOST_CELLS
 }
 
-// Loads the m terms whose compact form is s, and leaves their pair form at the start of cells.
+// Loads the m terms whose form in the edition is s, and leaves their pair form at the start of cells.
 pub fn load_counted(s: &[u32], m: usize, cells: &mut [u32], edition: u32) -> Loaded
     requires { ⌜ RoomForTerms (now s) (now cells) ⌝ }
     ensures { λ r. ⌜ LoadsCounted edition m (old s) (new cells) r ⌝ }
+{
+    if forms::stores_pairs(edition) {
+        return cells::load_cells(s, m, cells, edition);
+    }
+    load_compact(s, m, cells, edition)
+}
+
+// The same of compact form.
+fn load_compact(s: &[u32], m: usize, cells: &mut [u32], edition: u32) -> Loaded
+    requires { ⌜ RoomForTerms (now s) (now cells) ⌝ }
+    ensures { λ r. ⌜ CountsLists edition m (old s) (new cells) r ⌝ }
 {
     let limit = limit_of(cells.len());
     if limit < m {

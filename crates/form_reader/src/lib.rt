@@ -10,7 +10,7 @@ ghost use Rattle.basis.specs.Moments.{old, new};
 ghost use Rattle.form_reader.specs.Loading.{metAfter, FormRoom, AtTail, ReadsForms, ReadsRest};
 
 // How many variables are met after token c of a numbered form, where `count` were met before it.
-fn met_after(c: u32, count: usize) -> usize
+pub fn met_after(c: u32, count: usize) -> usize
     requires { ⌜ count + 1 < 2 ^ 64 ⌝ }
     ensures { λ n. ⌜ n ≡ metAfter count c ⌝ }
 {

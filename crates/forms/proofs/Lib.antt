@@ -8,3 +8,5 @@ pub mod DueLaws
 pub mod RoundTrip
 pub mod LongestForms
 pub mod Theorems
+pub mod PairForms
+pub mod StoredLaws

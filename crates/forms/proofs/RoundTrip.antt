@@ -122,7 +122,7 @@ pub record LegalParts (arity : ℕ → ℕ) (m : ℕ) (fs : List ℕ) : Type 0 w
   pub forms : areForms arity m fs ≡ true
   pub cells : length (pairForm arity fs) ≤ 256
 
-four-tests : (x y z w : Bool) → pick x (pick y (pick z w false) false) false ≡ true → (x ≡ true) × (y ≡ true) × (z ≡ true) × (w ≡ true)
+pub four-tests : (x y z w : Bool) → pick x (pick y (pick z w false) false) false ≡ true → (x ≡ true) × (y ≡ true) × (z ≡ true) × (w ≡ true)
 four-tests true true true w e = (refl, refl, refl, e)
 four-tests true true false w e = let z : _≡_ {A = ℕ} 0 1 = cc in absurd (omega arith)
 four-tests true false z w e = let z : _≡_ {A = ℕ} 0 1 = cc in absurd (omega arith)

@@ -13,14 +13,14 @@ use Rattle.forms.specs.declared.Answer.{Answer}
 use Rattle.forms.specs.declared.Answer.the-variants.{Cells, Refused, Short}
 use Rattle.forms.specs.Terms.{areTerms}
 use Rattle.forms.specs.Numbering.{met}
-use Rattle.forms.specs.Compact.{compactForm, pairForm, legalForm}
+use Rattle.forms.specs.Stored.{StoredForm}
 
--- reading m terms: refusals 4, 3 and 5, in this order; else the tokens of their form and their variables
-unfoldable pub reading : (ℕ → ℕ) → ℕ → List ℕ → Reading
-reading arity m cs =
+-- reading m terms: refusals 4, 3 and 5, in this order; else the tokens of their stored form and their variables
+unfoldable pub reading : (ℕ → ℕ) → StoredForm → ℕ → List ℕ → Reading
+reading arity s m cs =
     pick (ltb 256 (length cs)) (Refusal 4)
     (pick (areTerms arity m cs)
-    (pick (ltb 32 (length (met [] cs))) (Refusal 5) (Form (length (compactForm arity cs)) (length (met [] cs))))
+    (pick (ltb 32 (length (met [] cs))) (Refusal 5) (Form (length (s .form cs)) (length (met [] cs))))
     (Refusal 3))
 
 -- the number of a refusal by the reader, which others hand on; 0 for none
@@ -29,8 +29,8 @@ refusalOf (Refusal r) = r
 refusalOf (Form n m) = 0
 
 -- loading the form of m terms: the cells of their pair form, where it is legal
-unfoldable pub loading : (ℕ → ℕ) → ℕ → List ℕ → Loading
-loading arity m cs = pick (legalForm arity m cs) (Terms (length (pairForm arity cs))) NoForm
+unfoldable pub loading : StoredForm → ℕ → List ℕ → Loading
+loading s m fs = pick (s .legal m fs) (Terms (length (s .cells fs))) NoForm
 
 -- what does not fit is refused (12) with the need
 unfoldable pub fitting : ℕ → ℕ → Answer
@@ -47,12 +47,12 @@ fittingTerms (Terms n) room = fitting n room
 fittingTerms NoForm room = Refused 13
 
 -- compacting m terms into an out of `room` cells: refusals 4, 3, 5 and 12, in this order
-unfoldable pub compacting : (ℕ → ℕ) → ℕ → List ℕ → ℕ → Answer
-compacting arity m cs room = fittingForm (reading arity m cs) room
+unfoldable pub compacting : (ℕ → ℕ) → StoredForm → ℕ → List ℕ → ℕ → Answer
+compacting arity s m cs room = fittingForm (reading arity s m cs) room
 
 -- expanding m terms into an out of `room` cells: refusals 13 and 12, in this order
-unfoldable pub expanding : (ℕ → ℕ) → ℕ → List ℕ → ℕ → Answer
-expanding arity m cs room = fittingTerms (loading arity m cs) room
+unfoldable pub expanding : StoredForm → ℕ → List ℕ → ℕ → Answer
+expanding s m fs room = fittingTerms (loading s m fs) room
 
 -- the editions that a converter takes: 1 and 2, whatever editions of a space there are
 unfoldable pub converterEdition : ℕ → Bool

@@ -3,6 +3,7 @@ pub mod Terms
 pub mod Due
 pub mod Numbering
 pub mod Compact
+pub mod Stored
 pub mod Converting
 pub mod Promises
 pub mod Marked

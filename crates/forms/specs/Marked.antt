@@ -11,6 +11,7 @@ use Rattle.forms.specs.Terms.{pairs, every, applied, paired, begun, read
 use Rattle.forms.specs.Numbering.{rank, seen, met, renamed, numbered}
 use Rattle.forms.specs.Compact.{compact, elements, compactForm, filled, lastOf, tailOf, inside, into, collected}
 use Rattle.forms.specs.Compact.{whole, entered, items, front, formTerms, pairForm, same, areForms, legalForm}
+use Rattle.forms.specs.Stored.{compactStored}
 use Rattle.forms.specs.Converting.{reading, loading, fitting, fittingForm, fittingTerms, compacting, expanding}
 use Rattle.forms.specs.Converting.{written}
 
@@ -42,13 +43,13 @@ MarkedTerms =
     ≡ BLIST ∷ int 1 ∷ BLIST ∷ int 2 ∷ ELIST ∷ int 3 ∷ ELIST ∷ nil ∷ [])
     -- M6 [1|2]: four tokens from three cells
     × (compactForm (arityOf 1) (PAIR ∷ int 1 ∷ int 2 ∷ []) ≡ BLIST ∷ int 1 ∷ EPAIR ∷ int 2 ∷ [])
-    × (compacting (arityOf 1) 1 (PAIR ∷ int 1 ∷ int 2 ∷ []) 4 ≡ Cells 4)
+    × (compacting (arityOf 1) (compactStored (arityOf 1)) 1 (PAIR ∷ int 1 ∷ int 2 ∷ []) 4 ≡ Cells 4)
     -- the terms of an answer are numbered together, and a list that ends in a term has that term as its tail
     × (compactForm (arityOf 1) (var 7 ∷ var 9 ∷ []) ≡ var 0 ∷ var 1 ∷ [])
     × (pairForm (arityOf 1) (BLIST ∷ int 1 ∷ int 2 ∷ EPAIR ∷ int 3 ∷ []) ≡ PAIR ∷ int 1 ∷ PAIR ∷ int 2 ∷ int 3 ∷ [])
     -- M7 and M8 are 13
-    × (expanding (arityOf 1) 1 (BLIST ∷ EPAIR ∷ int 1 ∷ []) 256 ≡ Refused 13)
-    × (expanding (arityOf 1) 1 (BLIST ∷ int 1 ∷ EPAIR ∷ nil ∷ []) 256 ≡ Refused 13)
+    × (expanding (compactStored (arityOf 1)) 1 (BLIST ∷ EPAIR ∷ int 1 ∷ []) 256 ≡ Refused 13)
+    × (expanding (compactStored (arityOf 1)) 1 (BLIST ∷ int 1 ∷ EPAIR ∷ nil ∷ []) 256 ≡ Refused 13)
 
 pub marked : MarkedTerms
 unfolding compactForm reading loading fittingForm fittingTerms compacting expanding legalForm areTerms areForms
@@ -66,10 +67,10 @@ wideTerm first second = tag 4 (3 * 256 + 40) ∷ var first ∷ var second ∷ (r
 abbrev pub MarkedWide : Type 0
 MarkedWide =
     (compactForm (arityOf 2) (wideTerm 7 9) ≡ wideTerm 0 1)
-    × (compacting (arityOf 2) 1 (wideTerm 7 9) 41 ≡ Cells 41)
-    × (expanding (arityOf 2) 1 (wideTerm 0 1) 41 ≡ Cells 41)
-    × (compacting (arityOf 1) 1 (wideTerm 7 9) 41 ≡ Refused 3)
-    × (expanding (arityOf 1) 1 (wideTerm 0 1) 41 ≡ Refused 13)
+    × (compacting (arityOf 2) (compactStored (arityOf 2)) 1 (wideTerm 7 9) 41 ≡ Cells 41)
+    × (expanding (compactStored (arityOf 2)) 1 (wideTerm 0 1) 41 ≡ Cells 41)
+    × (compacting (arityOf 1) (compactStored (arityOf 1)) 1 (wideTerm 7 9) 41 ≡ Refused 3)
+    × (expanding (compactStored (arityOf 1)) 1 (wideTerm 0 1) 41 ≡ Refused 13)
 
 pub marked-wide : MarkedWide
 unfolding compactForm reading loading fittingForm fittingTerms compacting expanding legalForm areTerms areForms
@@ -87,10 +88,10 @@ abbrev form12 : List ℕ
 form12 = BLIST ∷ int 1 ∷ EPAIR ∷ int 2 ∷ []
 
 abbrev compactedInto : List ℕ → List ℕ
-compactedInto out = written (compacting (arityOf 1) 1 pair12 (length out)) form12 out
+compactedInto out = written (compacting (arityOf 1) (compactStored (arityOf 1)) 1 pair12 (length out)) form12 out
 
 abbrev expandedInto : List ℕ → List ℕ → List ℕ
-expandedInto form out = written (expanding (arityOf 1) 1 form (length out)) pair12 out
+expandedInto form out = written (expanding (compactStored (arityOf 1)) 1 form (length out)) pair12 out
 
 -- the cell behind those written stays; where the form does not fit, or there is none to expand, all of out does
 abbrev pub MarkedOut : Type 0

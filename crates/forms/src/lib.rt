@@ -3,6 +3,7 @@ ghost use mathlib.Core.Path.{_≡_};
 ghost use Prim.Native.Nat.{_+_, _^_, _≤_, _<_};
 ghost use Rattle.forms.specs.Cells.{shapeOf, arityOf, payload, variable, constant, callable};
 ghost use Rattle.forms.specs.Converting.{converterEdition, refusalOf};
+ghost use Rattle.forms.specs.Stored.{storesPairs};
 ghost use Rattle.forms.specs.Due.{arguments, dueAfter};
 
 // What a cell of pair form stands for: a symbol that takes some arguments (a variable, an atom and
@@ -121,6 +122,13 @@ pub fn is_converter_edition(edition: u32) -> bool
         return true;
     }
     edition == 2
+}
+
+// Whether the edition of this number stores numbered pair form, and not compact form.
+pub fn stores_pairs(edition: u32) -> bool
+    ensures { λ r. ⌜ r ≡ storesPairs edition ⌝ }
+{
+    edition == 4
 }
 
 // The arity in a functor's payload.

@@ -17,18 +17,17 @@ use Rattle.forms.specs.declared.Loading.the-variants.{Terms}
 use Rattle.forms.specs.Cells.{payload, tag, variable, shapeOf}
 use Rattle.forms.specs.Terms.{Term, cell, pairs, every, applied, reads}
 use Rattle.forms.specs.Numbering.{rank, met, renamed, numbered}
-use Rattle.forms.specs.Compact.{formTerms, pairForm, legalForm}
+use Rattle.forms.specs.Stored.{StoredForm}
 use Rattle.forms.specs.Converting.{loading, fitting, written}
 use Rattle.forms.proofs.ShapeLaws.{pair-cell-of}
 use Rattle.forms.proofs.ReadLaws.{AllWellFormed, reads-pairs, reads-within, split}
 use Rattle.forms.proofs.NumberingLaws.{Each, each-met}
-use Rattle.forms.proofs.ExactLaws.{pair-shape, forms-well-formed, forms-compact}
-use Rattle.forms.proofs.RoundTrip.{pair-variables, legal-parts}
-use Rattle.forms.proofs.Theorems.{loaded}
+use Rattle.forms.proofs.ExactLaws.{pair-shape}
+use Rattle.forms.proofs.StoredLaws.{ExactTerms, StoredLaws}
 use Rattle.forms.proofs.DueLaws.{cellsOf}
 use Rattle.pair_reader.specs.Storing.{termsAt}
 use Rattle.convert.proofs.AnswerLaws.{taken-room, loading-length}
-use Rattle.plain.specs.Coding.{compactCoding}
+use Rattle.plain.specs.Coding.{codedAs}
 use Rattle.plain.proofs.Instances.{spread, substituted-every, every-suc}
 use Rattle.instances.specs.Instances.{StartsAt, Placed, AllPlaced, width, needed, Missing, standsFor, instanceCells}
 use Rattle.instances.proofs.InstanceLaws.{stands-variable, stands-other, stands-width, needed-most}
@@ -82,12 +81,12 @@ below-each vs (c ∷ cs) l e f =
     ((λ q. let z : tag 1 (rank vs c) ≡ c = rw q at one in let r : rank vs c < length vs = e .0 q in omega arith), below-each vs cs l (e .1) rest)
 
 -- a legal form numbers its variables below how many they are
-legal-below : (arity : ℕ → ℕ) (w : List ℕ) → legalForm arity 1 w ≡ true → Below (length (met [] w)) (pairForm arity w)
+legal-below : (arity : ℕ → ℕ) (form : StoredForm) → StoredLaws arity form → (w : List ℕ) → form .legal 1 w ≡ true → Below (length (met [] w)) (form .cells w)
 unfolding numbered
-legal-below arity w h =
-    let p = legal-parts arity 1 w h in
-    let e = pair-variables arity 1 w (p .forms) in
-    rw (← e) (below-each (met [] (pairForm arity w)) (pairForm arity w) (rw e (p .variables)) (each-met (pairForm arity w) []) (loaded arity 1 w h .1))
+legal-below arity form laws w h =
+    let d = laws .demand .loaded 1 w h in
+    let e = laws .exact-terms 1 w (laws .legal-exact 1 w h) .variables in
+    rw (← e) (below-each (met [] (form .cells w)) (form .cells w) (d .0 .variables) (each-met (form .cells w) []) (d .1))
 
 -- ---- the instance
 
@@ -137,72 +136,75 @@ module _ (arity : ℕ → ℕ) (terms starts : List ℕ) (m : ℕ) (us more : Li
 -- ---- legal forms
 
 -- what is known of the cells and terms that were loaded, once the starts of the terms are noted
-pub record Ready (arity : ℕ → ℕ) (w v cells terms starts : List ℕ) (n k : ℕ) : Type 0 where
+pub record Ready (arity : ℕ → ℕ) (form : StoredForm) (w v cells terms starts : List ℕ) (n k : ℕ) : Type 0 where
   pub small : n ≤ 256
   pub fits : n ≤ length cells
   pub placed : AllPlaced 256 starts n cells
   pub placed-within : AllPlaced (length terms) starts n cells
   pub placed-before : AllPlaced k starts n cells
-  pub instance-cells : instanceCells terms starts (take n cells) ≡ compactCoding arity .instanceOf w v
-  pub need : needed starts (take n cells) ≡ length (compactCoding arity .instanceOf w v)
+  pub instance-cells : instanceCells terms starts (take n cells) ≡ codedAs arity form .instanceOf w v
+  pub need : needed starts (take n cells) ≡ length (codedAs arity form .instanceOf w v)
 
-module _ (arity : ℕ → ℕ) (w v : List ℕ) (m : ℕ) (legal-w : legalForm arity 1 w ≡ true) (variables : length (met [] w) ≡ m) (legal-v : legalForm arity m v ≡ true) where
+module _ (arity : ℕ → ℕ) (form : StoredForm) (laws : StoredLaws arity form) (w v : List ℕ) (m : ℕ) (legal-w : form .legal 1 w ≡ true) (variables : length (met [] w) ≡ m) (legal-v : form .legal m v ≡ true) where
+  the-term : ExactTerms arity form 1 w
+  the-term = laws .exact-terms 1 w (laws .legal-exact 1 w legal-w)
+
+  its-terms : ExactTerms arity form m v
+  its-terms = laws .exact-terms m v (laws .legal-exact m v legal-v)
+
   pub few : m < 33
-  few = omega (arith, variables, legal-parts arity 1 w legal-w .variables)
+  few = omega (arith, variables, laws .demand .loaded 1 w legal-w .0 .variables, ap length (the-term .variables))
 
   abbrev us : List Term
-  us = formTerms arity v
+  us = form .terms v
 
   as-many : length us ≡ m
-  as-many = forms-compact arity m v (legal-parts arity m v legal-v .forms) .0
+  as-many = its-terms .count
 
-  module _ (terms : List ℕ) (k : ℕ) (held : take k terms ≡ pairForm arity v) where
+  module _ (terms : List ℕ) (k : ℕ) (held : take k terms ≡ form .cells v) where
     first-terms : termsAt arity terms 0 ≡ us ++ reads (shapeOf arity) (drop k terms)
-    unfolding pairForm
     first-terms =
-        ap (reads (shapeOf arity)) (sym (take-append-drop k terms) ∙ ap (λ (l : List ℕ). l ++ drop k terms) held)
-        ∙ reads-behind arity us (drop k terms) (forms-well-formed arity v)
+        ap (reads (shapeOf arity)) (sym (take-append-drop k terms) ∙ ap (λ (l : List ℕ). l ++ drop k terms) (held ∙ its-terms .cells))
+        ∙ reads-behind arity us (drop k terms) (its-terms .well-formed)
 
     pub enough : m ≤ length (termsAt arity terms 0)
     enough = omega (arith, as-many, ap length first-terms, length-append us (reads (shapeOf arity) (drop k terms)))
 
-    all-cells : cellsOf m (termsAt arity terms 0) ≡ length (pairForm arity v)
-    unfolding pairForm
-    all-cells = ap (λ (l : List Term). length (every pairs l)) (ap (take m) first-terms ∙ take-at us (reads (shapeOf arity) (drop k terms)) m as-many)
+    all-cells : cellsOf m (termsAt arity terms 0) ≡ length (form .cells v)
+    all-cells = ap (λ (l : List Term). length (every pairs l)) (ap (take m) first-terms ∙ take-at us (reads (shapeOf arity) (drop k terms)) m as-many) ∙ ap length (sym (its-terms .cells))
 
     last-before : cellsOf m (termsAt arity terms 0) ≤ k
     last-before = omega (arith, all-cells, ap length held, length-take k terms)
 
     pub last-end : cellsOf m (termsAt arity terms 0) ≤ 256
-    last-end = omega (arith, all-cells, legal-parts arity m v legal-v .cells)
+    last-end = omega (arith, all-cells, laws .demand .loaded m v legal-v .0 .cells)
 
     -- where the last term ends, as loading told
-    pub terms-end : Terms k ≡ loading arity m v → k ≡ cellsOf m (termsAt arity terms 0)
-    terms-end got = loading-length arity m v k got ∙ sym all-cells
+    pub terms-end : Terms k ≡ loading form m v → k ≡ cellsOf m (termsAt arity terms 0)
+    terms-end got = loading-length form m v k got ∙ sym all-cells
 
-    module _ (cells starts : List ℕ) (n : ℕ) (got : Terms n ≡ loading arity 1 w) (held-cells : take n cells ≡ pairForm arity w)
+    module _ (cells starts : List ℕ) (n : ℕ) (got : Terms n ≡ loading form 1 w) (held-cells : take n cells ≡ form .cells w)
         (noted : StartsAt (termsAt arity terms 0) m starts) (room : m < length starts) where
-      many : n ≡ length (pairForm arity w)
-      many = loading-length arity 1 w n got
+      many : n ≡ length (form .cells w)
+      many = loading-length form 1 w n got
 
       below : Below m (take n cells)
-      below = rw (held-cells, ← variables) (legal-below arity w legal-w)
+      below = rw (held-cells, ← variables) (legal-below arity form laws w legal-w)
 
       cell-below : (i : ℕ) → i < n → variable (getD cells i 0) ≡ true → payload (getD cells i 0) < m
       cell-below i h q =
           let e : getD (take n cells) i 0 ≡ getD cells i 0 = getD-take n cells i 0 h in
           rw (← e) (below-at m (take n cells) below i (omega (arith, many, ap length held-cells)) (rw e q))
 
-      the-instance : instanceCells terms starts (take n cells) ≡ compactCoding arity .instanceOf w v
-      unfolding pairForm
+      the-instance : instanceCells terms starts (take n cells) ≡ codedAs arity form .instanceOf w v
       the-instance =
           spread-cells arity terms starts m us (reads (shapeOf arity) (drop k terms)) first-terms as-many noted room (take n cells) below
-          ∙ ap (spread us) held-cells ∙ sym (substituted-every us (formTerms arity w))
+          ∙ ap (spread us) (held-cells ∙ the-term .cells) ∙ sym (substituted-every us (form .terms w))
 
-      pub ready : Ready arity w v cells terms starts n k
+      pub ready : Ready arity form w v cells terms starts n k
       ready = record {
-        small = omega (arith, many, legal-parts arity 1 w legal-w .cells);
-        fits = taken-room n cells (pairForm arity w) held-cells many;
+        small = omega (arith, many, laws .demand .loaded 1 w legal-w .0 .cells);
+        fits = taken-room n cells (form .cells w) held-cells many;
         placed = λ i h. placed-cell arity terms starts m us (reads (shapeOf arity) (drop k terms)) first-terms as-many noted room 256 last-end (getD cells i 0) (cell-below i h);
         placed-within = λ i h. placed-cell arity terms starts m us (reads (shapeOf arity) (drop k terms)) first-terms as-many noted room (length terms) (terms-within arity terms starts m us (reads (shapeOf arity) (drop k terms)) first-terms as-many noted room) (getD cells i 0) (cell-below i h);
         placed-before = λ i h. placed-cell arity terms starts m us (reads (shapeOf arity) (drop k terms)) first-terms as-many noted room k last-before (getD cells i 0) (cell-below i h);
@@ -220,7 +222,7 @@ fits-not need room r h g = by-cases (leb need room)
     (λ q. let l : room < need = leb-false need room q in (omega (arith, h .1 l), h .1 l))
 
 -- no instance is longer than a term for each cell
-module _ (arity : ℕ → ℕ) (w v cells terms starts : List ℕ) (n k : ℕ) (y : Ready arity w v cells terms starts n k) where
+module _ (arity : ℕ → ℕ) (form : StoredForm) (w v cells terms starts : List ℕ) (n k : ℕ) (y : Ready arity form w v cells terms starts n k) where
   pub need-bounded : needed starts (take n cells) ≤ 256 * 257
   need-bounded =
       let z : n * 257 ≤ 256 * 257 = mul-le-mul {n₂ = 256} {m₂ = 257} (y .small) (omega arith) in

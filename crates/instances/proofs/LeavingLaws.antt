@@ -11,7 +11,7 @@ use lib.Dec.{eqb, leb}
 use borrow.Author.Tests.{lt-ltb, le-ltb}
 use Rattle.basis.proofs.Cases.{by-cases}
 use Rattle.forms.specs.Numbering.{met}
-use Rattle.forms.specs.Compact.{legalForm}
+use Rattle.forms.specs.Stored.{StoredForm}
 use Rattle.forms.specs.Converting.{loading, fitting, written}
 use Rattle.forms.specs.declared.Answer as converted
 use Rattle.forms.specs.declared.Answer.the-variants.{Cells, Short}
@@ -59,28 +59,28 @@ gives-fits v ks out r out′ e f =
 
 -- ---- a form that is loaded
 
-module _ (arity : ℕ → ℕ) (m : ℕ) (w : List ℕ) where
-  pub form-refused : NoForm ≡ loading arity m w → false ≡ legalForm arity m w
+module _ (form : StoredForm) (m : ℕ) (w : List ℕ) where
+  pub form-refused : NoForm ≡ loading form m w → false ≡ form .legal m w
   unfolding loading
   form-refused e =
-      by-cases (legalForm arity m w)
+      by-cases (form .legal m w)
       (λ t. let d = rw t at e in let z : _≡_ {A = ℕ} 0 1 = cc in absurd (omega arith))
       (λ t. sym t)
 
-  pub form-loaded : (n : ℕ) → Terms n ≡ loading arity m w → true ≡ legalForm arity m w
+  pub form-loaded : (n : ℕ) → Terms n ≡ loading form m w → true ≡ form .legal m w
   unfolding loading
   form-loaded n e =
-      by-cases (legalForm arity m w)
+      by-cases (form .legal m w)
       (λ t. sym t)
       (λ t. let d = rw t at e in let z : _≡_ {A = ℕ} 0 1 = cc in absurd (omega arith))
 
 -- ---- the form of one term with m variables
 
-module _ (arity : ℕ → ℕ) (m : ℕ) (w : List ℕ) where
-  pub subgoal-form : true ≡ legalForm arity 1 w → (n : ℕ) → n ≡ length (met [] w) → eqb n m ≡ (legalForm arity 1 w && eqb (length (met [] w)) m)
+module _ (form : StoredForm) (m : ℕ) (w : List ℕ) where
+  pub subgoal-form : true ≡ form .legal 1 w → (n : ℕ) → n ≡ length (met [] w) → eqb n m ≡ (form .legal 1 w && eqb (length (met [] w)) m)
   subgoal-form t n e = rw e (rw (← t) refl)
 
-  pub no-subgoal-form : false ≡ legalForm arity 1 w → false ≡ (legalForm arity 1 w && eqb (length (met [] w)) m)
+  pub no-subgoal-form : false ≡ form .legal 1 w → false ≡ (form .legal 1 w && eqb (length (met [] w)) m)
   no-subgoal-form t = rw (← t) refl
 
 -- ---- a path that was gathered

@@ -7,7 +7,6 @@ use native.Mathlib.Omega.{arith}
 use lib.Dec.{eqb, leb, ltb}
 use borrow.Author.Tests.{eq-eqb, ne-eqb, lt-ltb, le-ltb, le-leb, lt-leb, ltb-true, leb-true, eqb-true}
 use Rattle.basis.specs.Choice.{pick}
-use Rattle.forms.specs.Cells.{arityOf}
 use Rattle.plain.specs.Coding.{Coding, codingOf}
 use Rattle.space.specs.Sound.{subgoalUnder, answerUnder}
 use Rattle.space.specs.declared.Head.{Head}
@@ -109,7 +108,7 @@ subgoalEnd h g = record { nodes = h .nodes; links = h .subgoals; root = 0; leaf 
 
 module _ (cs : List ℕ) (h : Head) (s : ℕ) (g : Subgoal) (e : g ≡ subgoalUnder cs h s) where
   abbrev subgoalFormed : Bool
-  subgoalFormed = pathPasses (pathTo cs (subgoalEnd h g)) (formWhole (arityOf (h .edition)) true (g .variables))
+  subgoalFormed = pathPasses (pathTo cs (subgoalEnd h g)) (formWhole (codingOf (h .edition)) true (g .variables))
 
   subgoal-is : subgoalTest cs h s ≡ (subgoalStands (viewIn cs h) s && subgoalFormed && endsWhole (codingOf (h .edition)) (viewIn cs h) s)
   unfolding subgoalWhole subgoalStands formWhole calledForm
@@ -186,7 +185,7 @@ answerEnd h g y = record { nodes = h .nodes; links = h .answers; root = g .root;
 module _ (cs : List ℕ) (h : Head) (a : ℕ) (y : Answer) (e : y ≡ answerUnder cs h a) where
   module _ (g : Subgoal) (f : g ≡ subgoalUnder cs h (y .subgoal)) where
     abbrev answerFormed : Bool
-    answerFormed = pathPasses (pathTo cs (answerEnd h g y)) (formWhole (arityOf (h .edition)) false (g .variables))
+    answerFormed = pathPasses (pathTo cs (answerEnd h g y)) (formWhole (codingOf (h .edition)) false (g .variables))
 
     answer-is : answerTest cs h a ≡ (answerStands (viewIn cs h) a && answerFormed && nextWhole (viewIn cs h) a)
     unfolding answerWhole answerStands formWhole nextWhole

@@ -6,10 +6,9 @@ use mathlib.Core.Path.{_≡_}
 use lib.Dec.{eqb, leb, ltb}
 use lib.ListN.{length}
 use Rattle.basis.specs.Choice.{pick}
-use Rattle.forms.specs.Compact.{legalForm}
 use Rattle.forms.specs.Numbering.{met}
 use Rattle.plain.specs.Words.{Word}
-use Rattle.plain.specs.Coding.{predicate, codingOf}
+use Rattle.plain.specs.Coding.{Coding, predicate, codingOf}
 use Rattle.space.specs.Layout.{sizes, nodeIn}
 use Rattle.space.specs.Sound.{Bounds, subgoalUnder, answerUnder}
 use Rattle.space.specs.declared.Head.{Head}
@@ -36,12 +35,12 @@ saidCheck (said.Answer a) = answer a
 -- ---- a form, as a path gives it
 
 -- of a term to call with m variables
-unfoldable pub calledForm : (ℕ → ℕ) → ℕ → Word → Bool
-calledForm arity m w = legalForm arity 1 w && predicate w && eqb (length (met [] w)) m
+unfoldable pub calledForm : Coding → ℕ → Word → Bool
+calledForm c m w = c .legal 1 w && predicate w && eqb (length (met [] w)) m
 
 -- of a subgoal with m variables, or of the m terms of an answer
-unfoldable pub formWhole : (ℕ → ℕ) → Bool → ℕ → Word → Bool
-formWhole arity called m w = pick called (calledForm arity m w) (legalForm arity m w)
+unfoldable pub formWhole : Coding → Bool → ℕ → Word → Bool
+formWhole c called m w = pick called (calledForm c m w) (c .legal m w)
 
 -- ---- a node
 

@@ -10,7 +10,7 @@ use borrow.Author.Tests.{leb-true, leb-false, ltb-true}
 use Rattle.basis.specs.Choice.{pick}
 use Rattle.basis.proofs.Cases.{by-cases}
 use Rattle.basis.proofs.Tests.{at-most, true-not-false}
-use Rattle.forms.specs.Cells.{arityOf}
+use Rattle.forms.specs.Stored.{storedOf}
 use Rattle.plain.specs.Coding.{codingOf}
 use Rattle.plain.specs.Requests.{join, lent, Reply, joined, refused}
 use Rattle.space.specs.Layout.{sizes, nodeIn}
@@ -183,17 +183,17 @@ module _ (cs : List ℕ) (h : Head) (y : Parties) (ps ks : List ℕ) (g : Ground
   may-count = subst (λ (z : Sides). JoinReady cs z ps ks × (y .t .root < z .h .nodes)) (sym i) (ready cs h y ps ks g, root-within cs h y ps ks g)
 
   module _ (find : Finding) (r : Counted) (n : CountsForms find cs x (y .t .root) ps ks r) where
-    counted-of : CountedOf find (viewIn cs h) (y .target) (arityOf (h .edition)) (allForms cs (sidesOf h y) ps ks) r
+    counted-of : CountedOf find (viewIn cs h) (y .target) (storedOf (h .edition)) (allForms cs (sidesOf h y) ps ks) r
     counted-of = subst (λ (z : Sides). CountsForms find cs z (y .t .root) ps ks r) i n (y .target) (target-root cs h y ps ks g)
 
     pub ground-long : r ≡ counted.TooLong → AnswersUnder find cs h (joinAsked y ps ks) (refused 4) cs
     ground-long e =
         too-long find cs h y ps ks g
-        (subst (CountedOf find (viewIn cs h) (y .target) (arityOf (h .edition)) (allForms cs (sidesOf h y) ps ks)) e counted-of)
+        (subst (CountedOf find (viewIn cs h) (y .target) (storedOf (h .edition)) (allForms cs (sidesOf h y) ps ks)) e counted-of)
 
     module _ (sums : Sums) (e : r ≡ counted.Sums sums) where
-      summed-of : CountedOf find (viewIn cs h) (y .target) (arityOf (h .edition)) (allForms cs (sidesOf h y) ps ks) (counted.Sums sums)
-      summed-of = subst (CountedOf find (viewIn cs h) (y .target) (arityOf (h .edition)) (allForms cs (sidesOf h y) ps ks)) e counted-of
+      summed-of : CountedOf find (viewIn cs h) (y .target) (storedOf (h .edition)) (allForms cs (sidesOf h y) ps ks) (counted.Sums sums)
+      summed-of = subst (CountedOf find (viewIn cs h) (y .target) (storedOf (h .edition)) (allForms cs (sidesOf h y) ps ks)) e counted-of
 
       pub ground-unsound : sums .sound ≡ false → AnswersUnder find cs h (joinAsked y ps ks) (refused 9) cs
       ground-unsound d = forms-unsound find cs h y ps ks g (summed-of .0) (sym (summed-of .1) ∙ d)

@@ -6,7 +6,7 @@ use mathlib.Core.List.{List, map}
 use Prim.Native.Nat.{ℕ, _≤_, _<_}
 use native.Mathlib.Omega.{arith}
 use lib.ListN.{length, take}
-use Rattle.forms.specs.Cells.{arityOf}
+use Rattle.forms.specs.Stored.{storedOf}
 use Rattle.plain.specs.Words.{Word}
 use Rattle.plain.specs.Coding.{codingOf}
 use Rattle.space.specs.Layout.{sizesOf}
@@ -92,8 +92,8 @@ module _ (cs : List ℕ) (h : Head) (s : ℕ) (cs′ : List ℕ) (F : Framed (h 
       remains-kept = record {
         within = omega (arith, r .within, seen .answers-grow);
         sound = chain-kept ∙ ap unbroken (sym forms-kept);
-        ground = subst (AllGround (arityOf (h′ .edition)) (y .variables)) (sym forms-kept)
-            (subst (λ (e : ℕ). AllGround (arityOf e) (y .variables) (formsFrom cs h (y .number) a)) (sym edition-kept) (r .ground));
+        ground = subst (AllGround (storedOf (h′ .edition)) (y .variables)) (sym forms-kept)
+            (subst (λ (e : ℕ). AllGround (storedOf e) (y .variables) (formsFrom cs h (y .number) a)) (sym edition-kept) (r .ground));
       }
 
 -- ---- the join
@@ -130,7 +130,7 @@ module _ (cs : List ℕ) (x : Sides) (s : ℕ) (ps ks : List ℕ) (k : Throughou
       outer = remains-kept cs (x .h) s cs′ F h′ is (x .first) (k .first) (t .not-first) (at .outer) (st .outer);
       inner = record {
         rest = remains-kept cs (x .h) s cs′ F h′ is (x .second) (k .second) (t .not-second) (at .inner) (st .inner .rest);
-        held = λ l. subst (λ (e : ℕ). InHand (arityOf e) (x .first .variables) (formIn (x .first .variables) hands) hands) (sym (edition-kept cs (x .h) s cs′ F h′ is)) (st .inner .held l);
+        held = λ l. subst (λ (e : ℕ). InHand (storedOf e) (x .first .variables) (formIn (x .first .variables) hands) hands) (sym (edition-kept cs (x .h) s cs′ F h′ is)) (st .inner .held l);
         hands-room = st .inner .hands-room;
         form-room = st .inner .form-room;
       };
@@ -138,8 +138,8 @@ module _ (cs : List ℕ) (x : Sides) (s : ℕ) (ps ks : List ℕ) (k : Throughou
 
     parts-kept : (y : Source) (i : SourceIn cs (x .h) y) (other : y .number ≡ s → ⊥) (a : ℕ) (r : Remains cs (x .h) y a) → partsFrom cs′ h′ y a ≡ partsFrom cs (x .h) y a
     parts-kept y i other a r =
-        ap (λ (e : ℕ). map (parts (arityOf e)) (formsFrom cs′ h′ (y .number) a)) (edition-kept cs (x .h) s cs′ F h′ is)
-        ∙ ap (λ (ws : List Word). map (parts (arityOf (x .h .edition))) ws) (forms-kept cs (x .h) s cs′ F h′ is y i other a r)
+        ap (λ (e : ℕ). map (parts (storedOf e)) (formsFrom cs′ h′ (y .number) a)) (edition-kept cs (x .h) s cs′ F h′ is)
+        ∙ ap (λ (ws : List Word). map (parts (storedOf (x .h .edition))) ws) (forms-kept cs (x .h) s cs′ F h′ is y i other a r)
 
     pub come-kept : toCome cs′ (underHead x h′) ps ks at hands ≡ toCome cs x ps ks at hands
     come-kept =
@@ -157,7 +157,7 @@ module _ (find : Finding) where
     pub known : Throughout cs x ps ks
     pub target : Target cs x s
     pub stands : Stands cs x at hands form
-    pub fit : allFit (arityOf (x .h .edition)) (toCome cs x ps ks at hands) ≡ true
+    pub fit : allFit (storedOf (x .h .edition)) (toCome cs x ps ks at hands) ≡ true
     pub left : formsGivenBy find (sizesOf (x .h .edition)) cs s (toCome cs x ps ks at hands) ≡ formsGivenBy find (sizesOf (x0 .h .edition)) cs0 s (allForms cs0 x0 ps ks)
 
 module _ {find : Finding} (finds : Finds find) where
@@ -169,7 +169,7 @@ module _ {find : Finding} (finds : Finds find) where
       known = r .known;
       target = t;
       stands = begins cs0 x0 ps ks r hands form lh lf;
-      fit = subst (λ (ws : List Word). allFit (arityOf (x0 .h .edition)) ws ≡ true) (all-come cs0 x0 ps ks hands) f;
+      fit = subst (λ (ws : List Word). allFit (storedOf (x0 .h .edition)) ws ≡ true) (all-come cs0 x0 ps ks hands) f;
       left = ap (formsGivenBy find (sizesOf (x0 .h .edition)) cs0 s) (sym (all-come cs0 x0 ps ks hands));
     }
 
@@ -218,9 +218,9 @@ module _ {find : Finding} (finds : Finds find) where
               known = known-kept cs x s ps ks (n .known) (n .target) cs′ framed h′ is;
               target = target-kept cs x s ps ks (n .known) (n .target) cs′ framed h′ is;
               stands = stands-kept cs x s ps ks (n .known) (n .target) cs′ framed h′ is next hands′ form′ (a .0);
-              fit = subst (λ (ws : List Word). allFit (arityOf (h′ .edition)) ws ≡ true) (sym come)
-                  (subst (λ (d : ℕ). allFit (arityOf d) (toCome cs x ps ks next hands′) ≡ true) (sym ed)
-                  (sym (fit-cons (arityOf (x .h .edition)) (take m form′) (toCome cs x ps ks next hands′) (a .1 .2)) ∙ ap (allFit (arityOf (x .h .edition))) (sym (a .1 .1)) ∙ n .fit));
+              fit = subst (λ (ws : List Word). allFit (storedOf (h′ .edition)) ws ≡ true) (sym come)
+                  (subst (λ (d : ℕ). allFit (storedOf d) (toCome cs x ps ks next hands′) ≡ true) (sym ed)
+                  (sym (fit-cons (storedOf (x .h .edition)) (take m form′) (toCome cs x ps ks next hands′) (a .1 .2)) ∙ ap (allFit (storedOf (x .h .edition))) (sym (a .1 .1)) ∙ n .fit));
               left = ap (λ (d : ℕ). formsGivenBy find (sizesOf d) cs′ s (toCome cs′ (underHead x h′) ps ks next hands′)) ed
                   ∙ ap (formsGivenBy find (sizesOf (x .h .edition)) cs′ s) come
                   ∙ sym given

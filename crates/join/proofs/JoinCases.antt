@@ -9,7 +9,7 @@ use lib.ListN.{length}
 use borrow.Author.Tests.{eq-eqb, ne-eqb, lt-ltb, le-leb, eqb-true, eqb-false}
 use Rattle.basis.specs.Choice.{pick}
 use Rattle.basis.proofs.Cases.{by-cases}
-use Rattle.forms.specs.Cells.{arityOf}
+use Rattle.forms.specs.Stored.{storedOf}
 use Rattle.forms.specs.Numbering.{met}
 use Rattle.plain.specs.Words.{Word}
 use Rattle.plain.specs.Coding.{Coding, codingOf}
@@ -28,6 +28,7 @@ use Rattle.store.specs.Calls.{usedAnswers, reply}
 use Rattle.store.specs.Contracts.{viewIn, Held, AnswersUnder}
 use Rattle.store.proofs.CallsCases.{decided-says, comes}
 use Rattle.parts.specs.Parts.{AllGround, fitted}
+use Rattle.parts.proofs.Rules as rules
 use Rattle.parts.proofs.JoinedForms.{joined-forms}
 use Rattle.join.specs.declared.Parties.{Parties}
 use Rattle.pairing.specs.Pairing.{formsFrom, SourceIn, Remains}
@@ -291,7 +292,7 @@ ground-cons w ws e = by-cases (eqb (length (met [] w)) 0)
     (λ q. absurd (false≢true (rw q at e)))
 
 -- the forms of a sound chain without variables
-ground-all : (e : ℕ) (v : View) (s k a : ℕ) (ws : List Word) → chainFrom (codingOf e) v s k a ≡ unbroken ws → ground ws ≡ true → AllGround (arityOf e) (v .subgoal s .variables) ws
+ground-all : (e : ℕ) (v : View) (s k a : ℕ) (ws : List Word) → chainFrom (codingOf e) v s k a ≡ unbroken ws → ground ws ≡ true → AllGround (storedOf e) (v .subgoal s .variables) ws
 ground-all e v s k a [] c g = tt
 ground-all e v s k a (w ∷ ws) c g =
     by-cases (eqb a 0)
@@ -301,7 +302,7 @@ ground-all e v s k a (w ∷ ws) c g =
     let h : w ≡ b .form = head-is (b .is) in
     let t : ws ≡ b .rest = tail-is (b .is) in
     let q = ground-cons w ws g in (
-      record { legal = subst (λ (u : Word). codingOf e .legal (v .subgoal s .variables) u ≡ true) (sym h) (b .legal); ground = q .0 },
+      rules.ground-form (rules.ruleOf e) (v .subgoal s .variables) w (subst (λ (u : Word). codingOf e .legal (v .subgoal s .variables) u ≡ true) (sym h) (b .legal)) (q .0),
       ground-all e v s k (v .answer a .next) ws (b .later ∙ ap unbroken (sym t)) (q .1),
     ))
 
@@ -332,7 +333,7 @@ module _ (cs : List ℕ) (h : Head) (y : Parties) (ps ks : List ℕ) (g : Ground
       record {
         within = subgoal-bounds (h .nodes) (h .answers) q e .first-most;
         sound = c;
-        ground = subst (λ (r : Subgoal). AllGround (arityOf (h .edition)) (r .variables) (formsFrom cs h s (q .first))) (sym (d .3)) (ground-all (h .edition) (viewIn cs h) s (h .answers) (q .first) (formsFrom cs h s (q .first)) c (a .free));
+        ground = subst (λ (r : Subgoal). AllGround (storedOf (h .edition)) (r .variables) (formsFrom cs h s (q .first))) (sym (d .3)) (ground-all (h .edition) (viewIn cs h) s (h .answers) (q .first) (formsFrom cs h s (q .first)) c (a .free));
       }
 
   pub ready : JoinReady cs (sidesOf h y) ps ks
@@ -374,7 +375,7 @@ module _ (cs : List ℕ) (h : Head) (y : Parties) (ps ks : List ℕ) (g : Ground
   abbrev forms : List Word
   forms = allForms cs (sidesOf h y) ps ks
 
-  pub decides : (find : Finding) → decideBy find (codingOf (h .edition)) (viewIn cs h) (joinAsked y ps ks) ≡ joiningBy find (viewIn cs h) (y .target) (fitted (arityOf (h .edition)) (allForms cs (sidesOf h y) ps ks))
+  pub decides : (find : Finding) → decideBy find (codingOf (h .edition)) (viewIn cs h) (joinAsked y ps ks) ≡ joiningBy find (viewIn cs h) (y .target) (fitted (storedOf (h .edition)) (allForms cs (sidesOf h y) ps ks))
   decides find =
       let p = g .parties in
       let us : List Word = formsFrom cs h (y .first) (y .f .first) in
@@ -383,5 +384,5 @@ module _ (cs : List ℕ) (h : Head) (y : Parties) (ps ks : List ℕ) (g : Ground
       ∙ both-read cs h y ps ks p us (g .first-ground .sound) vs (g .second-ground .sound) find
       ∙ ap (joiningBy find (viewIn cs h) (y .target))
       (rule-read (codingOf (h .edition)) (y .f) (formsFrom cs h (y .first) (y .f .first)) (y .g) (formsFrom cs h (y .second) (y .g .first)) ps (y .t) ks (g .is-open) (g .first-finished) (g .second-finished) (g .first-ground .free) (g .second-ground .free) (g .names)
-      ∙ joined-forms (arityOf (h .edition)) (y .f .variables) (y .g .variables) (y .t .variables) ps ks (formsFrom cs h (y .first) (y .f .first)) (formsFrom cs h (y .second) (y .g .first))
+      ∙ joined-forms (rules.ruleOf (h .edition)) (y .f .variables) (y .g .variables) (y .t .variables) ps ks (formsFrom cs h (y .first) (y .f .first)) (formsFrom cs h (y .second) (y .g .first))
       (ready .firsts .ground) (ready .known .all .ground) (g .names))

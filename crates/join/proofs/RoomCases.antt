@@ -10,7 +10,7 @@ use borrow.Author.Tests.{eq-eqb, ne-eqb, le-leb, lt-leb}
 use Rattle.trie.proofs.WalkLaws.{both-true}
 use Rattle.basis.specs.Choice.{pick}
 use Rattle.basis.proofs.Cases.{by-cases}
-use Rattle.forms.specs.Cells.{arityOf}
+use Rattle.forms.specs.Stored.{StoredForm, storedOf}
 use Rattle.plain.specs.Words.{Word}
 use Rattle.plain.specs.Joins.{declined, formed}
 use Rattle.plain.specs.Requests.{Reply, joined, refused, oldAnswer}
@@ -118,26 +118,26 @@ module _ (find : Finding) where
 
   -- ---- as the code comes to it
 
-  fitted-long : (arity : ℕ → ℕ) (ws : List Word) → allFit arity ws ≡ false → fitted arity ws ≡ declined 4
-  fitted-long arity ws e = rw e
+  fitted-long : (stored : StoredForm) (ws : List Word) → allFit stored ws ≡ false → fitted stored ws ≡ declined 4
+  fitted-long stored ws e = rw e
 
-  fitted-all : (arity : ℕ → ℕ) (ws : List Word) → allFit arity ws ≡ true → fitted arity ws ≡ formed ws
-  fitted-all arity ws e = rw e
+  fitted-all : (stored : StoredForm) (ws : List Word) → allFit stored ws ≡ true → fitted stored ws ≡ formed ws
+  fitted-all stored ws e = rw e
 
   module _ (cs : List ℕ) (h : Head) (y : Parties) (ps ks : List ℕ) (g : Grounded cs h y ps ks) where
     abbrev ws : List Word
     ws = allForms cs (sidesOf h y) ps ks
 
-    refuses-by : (r : ℕ) → joiningBy find (viewIn cs h) (y .target) (fitted (arityOf (h .edition)) (allForms cs (sidesOf h y) ps ks)) ≡ refuses r → AnswersUnder find cs h (joinAsked y ps ks) (refused r) cs
+    refuses-by : (r : ℕ) → joiningBy find (viewIn cs h) (y .target) (fitted (storedOf (h .edition)) (allForms cs (sidesOf h y) ps ks)) ≡ refuses r → AnswersUnder find cs h (joinAsked y ps ks) (refused r) cs
     refuses-by r e = join-refused find cs h (y .first) (y .second) ps (y .target) ks r (decides cs h y ps ks g find ∙ e)
 
-    pub too-long : allFit (arityOf (h .edition)) (allForms cs (sidesOf h y) ps ks) ≡ false → AnswersUnder find cs h (joinAsked y ps ks) (refused 4) cs
+    pub too-long : allFit (storedOf (h .edition)) (allForms cs (sidesOf h y) ps ks) ≡ false → AnswersUnder find cs h (joinAsked y ps ks) (refused 4) cs
     unfolding joiningBy
-    too-long e = refuses-by 4 (ap (joiningBy find (viewIn cs h) (y .target)) (fitted-long (arityOf (h .edition)) ws e))
+    too-long e = refuses-by 4 (ap (joiningBy find (viewIn cs h) (y .target)) (fitted-long (storedOf (h .edition)) ws e))
 
-    module _ (fit : allFit (arityOf (h .edition)) (allForms cs (sidesOf h y) ps ks) ≡ true) where
-      on-forms : (d : Decision) → joiningBy find (viewIn cs h) (y .target) (formed (allForms cs (sidesOf h y) ps ks)) ≡ d → joiningBy find (viewIn cs h) (y .target) (fitted (arityOf (h .edition)) (allForms cs (sidesOf h y) ps ks)) ≡ d
-      on-forms d e = ap (joiningBy find (viewIn cs h) (y .target)) (fitted-all (arityOf (h .edition)) ws fit) ∙ e
+    module _ (fit : allFit (storedOf (h .edition)) (allForms cs (sidesOf h y) ps ks) ≡ true) where
+      on-forms : (d : Decision) → joiningBy find (viewIn cs h) (y .target) (formed (allForms cs (sidesOf h y) ps ks)) ≡ d → joiningBy find (viewIn cs h) (y .target) (fitted (storedOf (h .edition)) (allForms cs (sidesOf h y) ps ks)) ≡ d
+      on-forms d e = ap (joiningBy find (viewIn cs h) (y .target)) (fitted-all (storedOf (h .edition)) ws fit) ∙ e
 
       pub forms-unsound : allSoundBy find (viewIn cs h) (y .target) (allForms cs (sidesOf h y) ps ks) ≡ false → AnswersUnder find cs h (joinAsked y ps ks) (refused 9) cs
       forms-unsound e = refuses-by 9 (on-forms (refuses 9) (joining-unsound (viewIn cs h) (y .target) ws e))

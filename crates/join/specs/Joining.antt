@@ -6,7 +6,7 @@ use mathlib.Core.List.{List, []}
 use mathlib.Core.Path.{_≡_}
 use lib.Dec.{leb, ltb}
 use Rattle.basis.specs.Choice.{pick}
-use Rattle.forms.specs.Cells.{arityOf}
+use Rattle.forms.specs.Stored.{storedOf}
 use Rattle.plain.specs.Coding.{codingOf}
 use Rattle.plain.specs.Joins.{ground, named}
 use Rattle.plain.specs.Requests as request
@@ -127,7 +127,7 @@ JoinsUnder find cs h y ps ks r cs′ = AnswersUnder find cs h (joinAsked y ps ks
 -- the sums of all forms, which fit
 abbrev pub Summed : Finding → List ℕ → Head → Parties → List ℕ → List ℕ → Sums → Type 0
 Summed find cs h y ps ks sums =
-    CountedOf find (viewIn cs h) (y .target) (arityOf (h .edition)) (allForms cs (sidesOf h y) ps ks)
+    CountedOf find (viewIn cs h) (y .target) (storedOf (h .edition)) (allForms cs (sidesOf h y) ps ks)
     (counted.Sums sums)
 
 -- there is room by the sums alone

@@ -8,6 +8,7 @@ use Rattle.forms.specs.Numbering.{rank, seen, met, renamed, numbered}
 use Rattle.forms.specs.Compact.{compact, elements, compactForm, filled, lastOf, tailOf, inside, into, collected}
 use Rattle.forms.specs.Compact.{whole, entered, items, front, formTerms, pairForm, same, areForms, legalForm}
 use Rattle.forms.specs.Converting.{reading, loading, fitting, fittingForm, fittingTerms, compacting, expanding}
+use Rattle.forms.specs.Stored.{compactStored}
 use Rattle.marshalling.specs.Bytes.{cellsOf, bytesOf}
 use Rattle.marshalling.specs.Export.{outcome, returned, writtenBytes, outcomeOf, exported}
 use Rattle.marshalling.specs.Export.{compactBytes, expandBytes}
@@ -28,14 +29,15 @@ lent15 = 9 ∷ 9 ∷ 9 ∷ 9 ∷ 9 ∷ 9 ∷ 9 ∷ 9 ∷ 9 ∷ 9 ∷ 9 ∷ 9 ∷
 
 pub exports :
     -- twelve bytes become sixteen, and the one behind them stays
-    (compactBytes (arityOf 1) pair12 lent17 ≡ outcome 4 (form12 ++ (7 ∷ [])))
+    (compactBytes (arityOf 1) (compactStored (arityOf 1)) pair12 lent17 ≡ outcome 4 (form12 ++ (7 ∷ [])))
     -- sixteen become twelve, and the three behind them stay
-    × (expandBytes (arityOf 1) form12 lent15 ≡ outcome 3 (pair12 ++ (9 ∷ 9 ∷ 9 ∷ [])))
+    × (expandBytes (compactStored (arityOf 1)) form12 lent15 ≡ outcome 3 (pair12 ++ (9 ∷ 9 ∷ 9 ∷ [])))
     -- fifteen bytes are room for three cells
-    × (compactBytes (arityOf 1) pair12 lent15 ≡ outcome (2 ^ 31 + 12) lent15)
+    × (compactBytes (arityOf 1) (compactStored (arityOf 1)) pair12 lent15 ≡ outcome (2 ^ 31 + 12) lent15)
     -- a byte count of 5 is 3
-    × (compactBytes (arityOf 1) (0 ∷ 0 ∷ 0 ∷ 80 ∷ 1 ∷ []) lent15 ≡ outcome (2 ^ 31 + 3) lent15)
-    × (expandBytes (arityOf 1) (0 ∷ 0 ∷ 0 ∷ 80 ∷ 1 ∷ []) lent15 ≡ outcome (2 ^ 31 + 3) lent15)
+    × (compactBytes (arityOf 1) (compactStored (arityOf 1)) (0 ∷ 0 ∷ 0 ∷ 80 ∷ 1 ∷ []) lent15
+    ≡ outcome (2 ^ 31 + 3) lent15)
+    × (expandBytes (compactStored (arityOf 1)) (0 ∷ 0 ∷ 0 ∷ 80 ∷ 1 ∷ []) lent15 ≡ outcome (2 ^ 31 + 3) lent15)
 unfolding cellsOf bytesOf returned writtenBytes outcomeOf exported compactBytes expandBytes compactForm reading loading
     fittingForm fittingTerms compacting expanding legalForm areTerms areForms fitting pairForm formTerms front
     symbolic tokenOf items entered filled lastOf tailOf into inside collected whole reads begun applied paired shapeOf

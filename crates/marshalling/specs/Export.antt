@@ -8,7 +8,7 @@ use Rattle.basis.specs.Choice.{pick}
 use Rattle.forms.specs.declared.Answer.{Answer}
 use Rattle.forms.specs.declared.Answer.the-variants.{Cells, Refused, Short}
 use Rattle.forms.specs.Cells.{arityOf}
-use Rattle.forms.specs.Compact.{compactForm, pairForm}
+use Rattle.forms.specs.Stored.{StoredForm, compactStored, storedOf}
 use Rattle.forms.specs.Converting.{fitting, compacting, expanding, converterEdition}
 use Rattle.marshalling.specs.Bytes.{cellsOf, bytesOf}
 
@@ -38,14 +38,14 @@ unfoldable pub exported : (List ℕ → ℕ → Answer) → List ℕ → List �
 exported converter input out = pick (eqb (length input % 4) 0) (converter (cellsOf input) (length out / 4)) (Refused 3)
 
 -- `compact_bytes` of one term
-unfoldable pub compactBytes : (ℕ → ℕ) → List ℕ → List ℕ → Outcome
-compactBytes arity input out =
-    outcomeOf (exported (compacting arity 1) input out) (compactForm arity (cellsOf input)) out
+unfoldable pub compactBytes : (ℕ → ℕ) → StoredForm → List ℕ → List ℕ → Outcome
+compactBytes arity s input out =
+    outcomeOf (exported (compacting arity s 1) input out) (s .form (cellsOf input)) out
 
 -- `expand_bytes` of the form of one term
-unfoldable pub expandBytes : (ℕ → ℕ) → List ℕ → List ℕ → Outcome
-expandBytes arity input out =
-    outcomeOf (exported (expanding arity 1) input out) (pairForm arity (cellsOf input)) out
+unfoldable pub expandBytes : StoredForm → List ℕ → List ℕ → Outcome
+expandBytes s input out =
+    outcomeOf (exported (expanding s 1) input out) (s .cells (cellsOf input)) out
 
 -- in the edition of this number; another is refused (1), before all else
 unfoldable pub outcomeIn : ℕ → Outcome → List ℕ → Outcome
@@ -73,14 +73,16 @@ Delivers cells n out r out′ = outcome r out′ ≡ outcomeOf (fitting n (lengt
 
 -- one term was compacted; in the edition of any number: if there is one
 abbrev pub CompactsBytes : (e : ℕ) (input out : List ℕ) (r : ℕ) (out′ : List ℕ) → Type 0
-CompactsBytes e input out r out′ = outcome r out′ ≡ compactBytes (arityOf e) input out
+CompactsBytes e input out r out′ = outcome r out′ ≡ compactBytes (arityOf e) (storedOf e) input out
 
 abbrev pub CompactsBytesIn : (e : ℕ) (input out : List ℕ) (r : ℕ) (out′ : List ℕ) → Type 0
-CompactsBytesIn e input out r out′ = outcome r out′ ≡ outcomeIn e (compactBytes (arityOf e) input out) out
+CompactsBytesIn e input out r out′ =
+    outcome r out′ ≡ outcomeIn e (compactBytes (arityOf e) (compactStored (arityOf e)) input out) out
 
 -- the form of one term was expanded; in the edition of any number: if there is one
 abbrev pub ExpandsBytes : (e : ℕ) (input out : List ℕ) (r : ℕ) (out′ : List ℕ) → Type 0
-ExpandsBytes e input out r out′ = outcome r out′ ≡ expandBytes (arityOf e) input out
+ExpandsBytes e input out r out′ = outcome r out′ ≡ expandBytes (storedOf e) input out
 
 abbrev pub ExpandsBytesIn : (e : ℕ) (input out : List ℕ) (r : ℕ) (out′ : List ℕ) → Type 0
-ExpandsBytesIn e input out r out′ = outcome r out′ ≡ outcomeIn e (expandBytes (arityOf e) input out) out
+ExpandsBytesIn e input out r out′ =
+    outcome r out′ ≡ outcomeIn e (expandBytes (compactStored (arityOf e)) input out) out

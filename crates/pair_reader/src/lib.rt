@@ -52,7 +52,7 @@ fn insert(out: &mut [u32], to: usize, end: usize, x: u32)
 }
 
 // Writes the cell c at `to`, or the number of the variable c, and gives how many variables are known then.
-fn store(c: u32, vars: &mut [u32], count: usize, out: &mut [u32], to: usize) -> usize
+pub fn store(c: u32, vars: &mut [u32], count: usize, out: &mut [u32], to: usize) -> usize
     requires { ⌜ (count < 256) × (count < length (now vars)) × (to < length (now out)) ⌝ }
     ensures { λ n. ⌜ Stores c (old vars) count (old out) to (new vars) n (new out) ⌝ }
 {

@@ -4,7 +4,7 @@ use mathlib.Core.List.{List, [], _∷_, _++_, map}
 use Prim.Native.Nat.{ℕ, _+_, _-_, _<_}
 use native.Mathlib.Omega.{arith}
 use lib.ListN.{length}
-use Rattle.forms.specs.Cells.{arityOf}
+use Rattle.forms.specs.Stored.{storedOf}
 use Rattle.plain.specs.Words.{Word}
 use Rattle.plain.specs.Joins.{Terms, along, combined}
 use Rattle.space.specs.Sound.{answerUnder}
@@ -70,7 +70,7 @@ module _ (cs : List ℕ) (x : Sides) (ps ks : List ℕ) (k : Throughout cs x ps 
         pub advanced-end : outer ≡ 0 → Advances cs x ps ks from hands0 hands′ form′ match.End
         advanced-end z =
             only-behind
-            ∙ ap (λ (ws : List Word). combined ps ks (map (parts (arityOf (x .h .edition))) ws) (partsFrom cs (x .h) (x .second) (x .second .first))) (forms-none cs (x .h) (x .first .number) outer z)
+            ∙ ap (λ (ws : List Word). combined ps ks (map (parts (storedOf (x .h .edition))) ws) (partsFrom cs (x .h) (x .second) (x .second .first))) (forms-none cs (x .h) (x .first .number) outer z)
             ∙ combined-nil ps ks (partsFrom cs (x .h) (x .second) (x .second .first))
 
         module _ (z : outer ≡ 0 → ⊥) (y : Answer) (e : y ≡ answerUnder cs (x .h) outer) where
@@ -87,19 +87,19 @@ module _ (cs : List ℕ) (x : Sides) (ps ks : List ℕ) (k : Throughout cs x ps 
           -- the next answer of the first in hand
           pub advancing-on : (hands″ form″ : List ℕ) → TakesFirst cs x (y .leaf) hands′ hands″ → length form″ ≡ length form′ → Advancing cs x ps ks from hands0 (y .next) (x .second .first) hands″ form″
           advancing-on hands″ form″ t s =
-              let i : InHand (arityOf (x .h .edition)) (x .first .variables) (stop .form) hands″ = t .0 (stop .form) (stop .path) in
-              let w : formIn (x .first .variables) hands″ ≡ stop .form = form-in (arityOf (x .h .edition)) (x .first .variables) (stop .form) hands″ i in
+              let i : InHand (storedOf (x .h .edition)) (x .first .variables) (stop .form) hands″ = t .0 (stop .form) (stop .path) in
+              let w : formIn (x .first .variables) hands″ ≡ stop .form = form-in (storedOf (x .h .edition)) (x .first .variables) (stop .form) hands″ i in
               let all : List Terms = partsFrom cs (x .h) (x .second) (x .second .first) in
               let rest : List Word = combined ps ks (partsFrom cs (x .h) (x .first) (y .next)) all in
               record {
                 stands = record {
                   outer = stop .behind;
-                  inner = record { rest = k .all; held = λ l. hand-said (arityOf (x .h .edition)) (x .first .variables) (stop .form) hands″ i; hands-room = t .1 ∙ f .1; form-room = s ∙ f .2 };
+                  inner = record { rest = k .all; held = λ l. hand-said (storedOf (x .h .edition)) (x .first .variables) (stop .form) hands″ i; hands-room = t .1 ∙ f .1; form-room = s ∙ f .2 };
                 };
                 passed = only-behind
-                    ∙ ap (λ (ws : List Word). combined ps ks (map (parts (arityOf (x .h .edition))) ws) (partsFrom cs (x .h) (x .second) (x .second .first))) (stop .are)
-                    ∙ combined-cons ps ks (parts (arityOf (x .h .edition)) (stop .form)) (partsFrom cs (x .h) (x .first) (y .next)) (partsFrom cs (x .h) (x .second) (x .second .first))
-                    ∙ ap (λ (u : Word). along ps ks (parts (arityOf (x .h .edition)) u) (partsFrom cs (x .h) (x .second) (x .second .first)) ++ combined ps ks (partsFrom cs (x .h) (x .first) (y .next)) (partsFrom cs (x .h) (x .second) (x .second .first))) (sym w);
+                    ∙ ap (λ (ws : List Word). combined ps ks (map (parts (storedOf (x .h .edition))) ws) (partsFrom cs (x .h) (x .second) (x .second .first))) (stop .are)
+                    ∙ combined-cons ps ks (parts (storedOf (x .h .edition)) (stop .form)) (partsFrom cs (x .h) (x .first) (y .next)) (partsFrom cs (x .h) (x .second) (x .second .first))
+                    ∙ ap (λ (u : Word). along ps ks (parts (storedOf (x .h .edition)) u) (partsFrom cs (x .h) (x .second) (x .second .first)) ++ combined ps ks (partsFrom cs (x .h) (x .first) (y .next)) (partsFrom cs (x .h) (x .second) (x .second .first))) (sym w);
               }
 
 -- ---- what was found, as a match

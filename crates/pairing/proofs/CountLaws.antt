@@ -7,8 +7,7 @@ use native.Mathlib.Omega.{arith}
 use lib.ListN.{length, take}
 use borrow.Author.Tests.{le-leb, lt-leb}
 use Rattle.basis.specs.Choice.{pick}
-use Rattle.forms.specs.Cells.{arityOf}
-use Rattle.forms.specs.Compact.{pairForm}
+use Rattle.forms.specs.Stored.{StoredForm, storedOf}
 use Rattle.plain.specs.Words.{Word}
 use Rattle.plain.specs.Coding.{codingOf}
 use Rattle.space.specs.Sound.{Bounds, subgoalUnder}
@@ -48,7 +47,7 @@ module _ (cs : List ℕ) (x : Sides) (ps ks : List ℕ) where
       rest = record {
         within = omega arith;
         sound = chain-ends (codingOf (x .h .edition)) (viewIn cs (x .h)) (x .second .number) (x .h .answers) ∙ ap unbroken (sym (forms-none cs (x .h) (x .second .number) 0 refl));
-        ground = subst (AllGround (arityOf (x .h .edition)) (x .second .variables)) (sym (forms-none cs (x .h) (x .second .number) 0 refl)) tt;
+        ground = subst (AllGround (storedOf (x .h .edition)) (x .second .variables)) (sym (forms-none cs (x .h) (x .second .number) 0 refl)) tt;
       };
       held = λ l. absurd (omega arith);
       hands-room = lh;
@@ -61,16 +60,16 @@ module _ (cs : List ℕ) (x : Sides) (ps ks : List ℕ) where
 
 -- ---- one form more
 
-pub fit-cons : (arity : ℕ → ℕ) (w : Word) (ws : List Word) → length (pairForm arity w) ≤ 256 → allFit arity (w ∷ ws) ≡ allFit arity ws
+pub fit-cons : (stored : StoredForm) (w : Word) (ws : List Word) → length (stored .cells w) ≤ 256 → allFit stored (w ∷ ws) ≡ allFit stored ws
 unfolding allFit
-fit-cons arity w ws l = ap (λ (b : Bool). pick b (allFit arity ws) false) (le-leb (length (pairForm arity w)) 256 l)
+fit-cons stored w ws l = ap (λ (b : Bool). pick b (allFit stored ws) false) (le-leb (length (stored .cells w)) 256 l)
 
-unfit-cons : (arity : ℕ → ℕ) (w : Word) (ws : List Word) → 256 < length (pairForm arity w) → allFit arity (w ∷ ws) ≡ false
+unfit-cons : (stored : StoredForm) (w : Word) (ws : List Word) → 256 < length (stored .cells w) → allFit stored (w ∷ ws) ≡ false
 unfolding allFit
-unfit-cons arity w ws l = ap (λ (b : Bool). pick b (allFit arity ws) false) (lt-leb (length (pairForm arity w)) 256 l)
+unfit-cons stored w ws l = ap (λ (b : Bool). pick b (allFit stored ws) false) (lt-leb (length (stored .cells w)) 256 l)
 
-pub not-long : (edition : ℕ) (ws : List Word) → allFit (arityOf edition) ws ≡ true → FirstTooLong edition ws → ⊥
-not-long edition ws f t = true≢false (sym f ∙ ap (allFit (arityOf edition)) (t .2) ∙ unfit-cons (arityOf edition) (t .0) (t .1) (t .3))
+pub not-long : (edition : ℕ) (ws : List Word) → allFit (storedOf edition) ws ≡ true → FirstTooLong edition ws → ⊥
+not-long edition ws f t = true≢false (sym f ∙ ap (allFit (storedOf edition)) (t .2) ∙ unfit-cons (storedOf edition) (t .0) (t .1) (t .3))
 
 abbrev pub noSums : Sums
 noSums = record { sound = true; missing = 0; lacking = 0 }
@@ -113,7 +112,7 @@ module _ (find : Finding) where
   -- the sums so far, with those of the forms to come, are those of all
   pub record Counting (cs : List ℕ) (x : Sides) (root : ℕ) (ps ks : List ℕ) (at : Cursor) (hands form : List ℕ) (y : Sums) : Type 0 where
     pub stands : Stands cs x at hands form
-    pub fit : allFit (arityOf (x .h .edition)) (allForms cs x ps ks) ≡ allFit (arityOf (x .h .edition)) (toCome cs x ps ks at hands)
+    pub fit : allFit (storedOf (x .h .edition)) (allForms cs x ps ks) ≡ allFit (storedOf (x .h .edition)) (toCome cs x ps ks at hands)
     pub sound : (s : ℕ) → root ≡ subgoalUnder cs (x .h) s .root
         → (y .sound && allSoundBy find (viewIn cs (x .h)) s (toCome cs x ps ks at hands)) ≡ allSoundBy find (viewIn cs (x .h)) s (allForms cs x ps ks)
     pub missing : (s : ℕ) → root ≡ subgoalUnder cs (x .h) s .root
@@ -129,7 +128,7 @@ module _ (find : Finding) where
         let e = all-come cs x ps ks hands in
         record {
           stands = begins cs x ps ks r hands form lh lf;
-          fit = ap (allFit (arityOf (x .h .edition))) e;
+          fit = ap (allFit (storedOf (x .h .edition))) e;
           sound = λ s p. sym (ap (allSoundBy find (viewIn cs (x .h)) s) e);
           missing = λ s p. omega (arith, ap (sumMissing find (viewIn cs (x .h)) s) e);
           lacking = λ s p. omega (arith, ap (sumLacking find (viewIn cs (x .h)) s) e);
@@ -141,7 +140,7 @@ module _ (find : Finding) where
       pub counted-end : Advances cs x ps ks at hands hands′ form′ match.End → CountsForms find cs x root ps ks (counted.Sums y)
       unfolding allFit allSoundBy sumMissing sumLacking
       counted-end e s p = (
-        c .fit ∙ ap (allFit (arityOf (x .h .edition))) e,
+        c .fit ∙ ap (allFit (storedOf (x .h .edition))) e,
         sym (and-true (y .sound)) ∙ ap (λ (ws : List Word). y .sound && allSoundBy find (viewIn cs (x .h)) s ws) (sym e) ∙ c .sound s p,
         omega (arith, c .missing s p, ap (sumMissing find (viewIn cs (x .h)) s) e),
         omega (arith, c .lacking s p, ap (sumLacking find (viewIn cs (x .h)) s) e),
@@ -152,7 +151,7 @@ module _ (find : Finding) where
           and-true false = refl
 
       pub counted-long : Advances cs x ps ks at hands hands′ form′ match.TooLong → CountsForms find cs x root ps ks counted.TooLong
-      counted-long e s p = c .fit ∙ ap (allFit (arityOf (x .h .edition))) (e .2) ∙ unfit-cons (arityOf (x .h .edition)) (e .0) (e .1) (e .3)
+      counted-long e s p = c .fit ∙ ap (allFit (storedOf (x .h .edition))) (e .2) ∙ unfit-cons (storedOf (x .h .edition)) (e .0) (e .1) (e .3)
 
       module _ (next : Cursor) (n : ℕ) (a : Advances cs x ps ks at hands hands′ form′ (match.At next n)) (m : Met) (q : Searched find cs (x .h) root (take n form′) m) where
         abbrev w : Word
@@ -174,7 +173,7 @@ module _ (find : Finding) where
             let rest : List Word = toCome cs x ps ks next hands′ in
             record {
               stands = a .0;
-              fit = c .fit ∙ ap (allFit (arityOf (x .h .edition))) (a .1 .1) ∙ fit-cons (arityOf (x .h .edition)) (take n form′) (toCome cs x ps ks next hands′) (a .1 .2);
+              fit = c .fit ∙ ap (allFit (storedOf (x .h .edition))) (a .1 .1) ∙ fit-cons (storedOf (x .h .edition)) (take n form′) (toCome cs x ps ks next hands′) (a .1 .2);
               sound = λ s p.
                   and-assoc (y .sound) (m .sound) (allSoundBy find (viewIn cs (x .h)) s (toCome cs x ps ks next hands′))
                   ∙ ap (λ (b : Bool). y .sound && (b && allSoundBy find (viewIn cs (x .h)) s (toCome cs x ps ks next hands′))) (met-walk cs x root (take n form′) m q s p .0)
@@ -202,14 +201,14 @@ module _ {find : Finding} (finds : Finds find) where
   pub missing-most : (cs : List ℕ) (x : Sides) (root : ℕ) (w : Word) (m : Met) → root < x .h .nodes → Searched find cs (x .h) root w m → m .missing ≤ length w
   missing-most cs x root w m l q = omega (arith, q .2, missing-of (answerTrie (viewIn cs (x .h))) root w (walkBy find (answerTrie (viewIn cs (x .h))) root w) l refl)
 
-parts-length : (arity : ℕ → ℕ) (ws : List Word) → length (map (parts arity) ws) ≡ length ws
-parts-length arity [] = refl
-parts-length arity (w ∷ ws) = ap suc (parts-length arity ws)
+parts-length : (stored : StoredForm) (ws : List Word) → length (map (parts stored) ws) ≡ length ws
+parts-length stored [] = refl
+parts-length stored (w ∷ ws) = ap suc (parts-length stored ws)
 
 -- a source has at most 2^20 answers
 few-answers : (cs : List ℕ) (h : Head) (y : Source) (a : ℕ) → Bounds cs h → Remains cs h y a → length (partsFrom cs h y a) ≤ 2 ^ 20
 few-answers cs h y a b r =
-    omega (arith, parts-length (arityOf (h .edition)) (formsFrom cs h (y .number) a), chain-length (codingOf (h .edition)) (viewIn cs h) (y .number) (h .answers) a (formsFrom cs h (y .number) a) (r .sound), b .answers-within, b .answers-most)
+    omega (arith, parts-length (storedOf (h .edition)) (formsFrom cs h (y .number) a), chain-length (codingOf (h .edition)) (viewIn cs h) (y .number) (h .answers) a (formsFrom cs h (y .number) a) (r .sound), b .answers-within, b .answers-most)
 
 square : (m n : ℕ) → m ≤ 2 ^ 20 → n ≤ 2 ^ 20 → m * n ≤ 2 ^ 40
 square m n h k = omega (arith, mul-le-mul-left m k)

@@ -7,8 +7,7 @@ use Prim.Native.Nat.{ℕ, _-_, _≤_, _<_}
 use native.Mathlib.Omega.{arith}
 use lib.ListN.{length, take, drop, length-drop, length-take}
 use Rattle.basis.specs.Choice.{pick}
-use Rattle.forms.specs.Cells.{arityOf}
-use Rattle.forms.specs.Compact.{pairForm}
+use Rattle.forms.specs.Stored.{StoredForm, storedOf}
 use Rattle.plain.specs.Words.{Word}
 use Rattle.plain.specs.Joins.{Terms, matching, copied, along}
 use Rattle.space.specs.Sound.{answerUnder}
@@ -35,28 +34,28 @@ unfolding along
 along-nil ps ks us = refl
 
 module _ (cs : List ℕ) (x : Sides) (ps ks : List ℕ) where
-  abbrev arity : ℕ → ℕ
-  arity = arityOf (x .h .edition)
+  abbrev stored : StoredForm
+  stored = storedOf (x .h .edition)
 
   abbrev m : ℕ
   m = x .first .variables
 
   pub along-end : (b : ℕ) (hands : List ℕ) → b ≡ 0 → alongHand cs x ps ks b hands ≡ []
   along-end b hands z =
-      ap (λ (ws : List Word). along ps ks (parts (arityOf (x .h .edition)) (formIn (x .first .variables) hands)) (map (parts (arityOf (x .h .edition))) ws)) (forms-none cs (x .h) (x .second .number) b z)
-      ∙ along-nil ps ks (parts (arityOf (x .h .edition)) (formIn (x .first .variables) hands))
+      ap (λ (ws : List Word). along ps ks (parts (storedOf (x .h .edition)) (formIn (x .first .variables) hands)) (map (parts (storedOf (x .h .edition))) ws)) (forms-none cs (x .h) (x .second .number) b z)
+      ∙ along-nil ps ks (parts (storedOf (x .h .edition)) (formIn (x .first .variables) hands))
 
   along-step : (b : ℕ) (hands : List ℕ) (y : Answer) (s : Stop cs (x .h) (x .second) b y) →
-      (let us = parts (arityOf (x .h .edition)) (formIn (x .first .variables) hands) in
-      let vs = parts (arityOf (x .h .edition)) (s .form) in
+      (let us = parts (storedOf (x .h .edition)) (formIn (x .first .variables) hands) in
+      let vs = parts (storedOf (x .h .edition)) (s .form) in
       alongHand cs x ps ks b hands ≡ pick (matching ps us vs) (copied ks us vs ∷ alongHand cs x ps ks (y .next) hands) (alongHand cs x ps ks (y .next) hands))
   along-step b hands y s =
-      ap (λ (ws : List Word). along ps ks (parts (arityOf (x .h .edition)) (formIn (x .first .variables) hands)) (map (parts (arityOf (x .h .edition))) ws)) (s .are)
-      ∙ along-cons ps ks (parts (arityOf (x .h .edition)) (formIn (x .first .variables) hands)) (parts (arityOf (x .h .edition)) (s .form)) (partsFrom cs (x .h) (x .second) (y .next))
+      ap (λ (ws : List Word). along ps ks (parts (storedOf (x .h .edition)) (formIn (x .first .variables) hands)) (map (parts (storedOf (x .h .edition))) ws)) (s .are)
+      ∙ along-cons ps ks (parts (storedOf (x .h .edition)) (formIn (x .first .variables) hands)) (parts (storedOf (x .h .edition)) (s .form)) (partsFrom cs (x .h) (x .second) (y .next))
 
   -- only the form in hand matters
   along-same : (b : ℕ) (hands hands′ : List ℕ) → formIn (x .first .variables) hands′ ≡ formIn (x .first .variables) hands → alongHand cs x ps ks b hands ≡ alongHand cs x ps ks b hands′
-  along-same b hands hands′ e = ap (λ (w : Word). along ps ks (parts (arityOf (x .h .edition)) w) (partsFrom cs (x .h) (x .second) b)) (sym e)
+  along-same b hands hands′ e = ap (λ (w : Word). along ps ks (parts (storedOf (x .h .edition)) w) (partsFrom cs (x .h) (x .second) b)) (sym e)
 
 -- ---- the loop
 
@@ -107,20 +106,20 @@ module _ (cs : List ℕ) (x : Sides) (ps ks : List ℕ) (k : Throughout cs x ps 
       low : 0 < from
       low = f .began (omega arith)
 
-      stays : (formIn (x .first .variables) hands′ ≡ formIn (x .first .variables) hands0) × InHand (arityOf (x .h .edition)) (x .first .variables) (formIn (x .first .variables) hands′) hands′
-      stays = hand-stays (arityOf (x .h .edition)) (x .first .variables) hands0 hands′ (o .held low) kept (omega (arith, size))
+      stays : (formIn (x .first .variables) hands′ ≡ formIn (x .first .variables) hands0) × InHand (storedOf (x .h .edition)) (x .first .variables) (formIn (x .first .variables) hands′) hands′
+      stays = hand-stays (x .h .edition) (x .first .variables) hands0 hands′ (o .held low) kept (omega (arith, size))
 
-      first-held : InHand (arityOf (x .h .edition)) (x .first .variables) (formIn (x .first .variables) hands0) hands′
-      first-held = subst (λ (w : Word). InHand (arityOf (x .h .edition)) (x .first .variables) w hands′) (stays .0) (stays .1)
+      first-held : InHand (storedOf (x .h .edition)) (x .first .variables) (formIn (x .first .variables) hands0) hands′
+      first-held = subst (λ (w : Word). InHand (storedOf (x .h .edition)) (x .first .variables) w hands′) (stays .0) (stays .1)
 
-      second-held : InHand (arityOf (x .h .edition)) (x .second .variables) (stop .form) (drop hand hands′)
+      second-held : InHand (storedOf (x .h .edition)) (x .second .variables) (stop .form) (drop hand hands′)
       second-held = t .0 .0 (stop .form) (stop .path)
 
       pub comparable : HandsComparable ps hands′
       comparable = (
         omega (arith, size),
         record {
-          arity = arityOf (x .h .edition);
+          stored = storedOf (x .h .edition);
           m = x .first .variables;
           n = x .second .variables;
           u = formIn (x .first .variables) hands0;
@@ -132,13 +131,13 @@ module _ (cs : List ℕ) (x : Sides) (ps ks : List ℕ) (k : Throughout cs x ps 
       )
 
       abbrev us : Terms
-      us = parts (arityOf (x .h .edition)) (formIn (x .first .variables) hands0)
+      us = parts (storedOf (x .h .edition)) (formIn (x .first .variables) hands0)
 
       abbrev vs : Terms
-      vs = parts (arityOf (x .h .edition)) (stop .form)
+      vs = parts (storedOf (x .h .edition)) (stop .form)
 
       matched : (r : Bool) → HandsCompare ps hands′ r → r ≡ matching ps us vs
-      matched r c = c (arityOf (x .h .edition)) (x .first .variables) (x .second .variables) (formIn (x .first .variables) hands0) (stop .form) first-held second-held (k .paired)
+      matched r c = c (storedOf (x .h .edition)) (x .first .variables) (x .second .variables) (formIn (x .first .variables) hands0) (stop .form) first-held second-held (k .paired)
 
       -- the answer does not match
       pub finding-on : (r : Bool) → HandsCompare ps hands′ r → r ≡ false → Finding cs x ps ks from hands0 (y .next) hands′ used
@@ -172,15 +171,15 @@ module _ (cs : List ℕ) (x : Sides) (ps ks : List ℕ) (k : Throughout cs x ps 
         first-is = f .passed ∙ along-step cs x ps ks b hands0 y stop ∙ ap (λ (t : Bool). pick t (copied ks us vs ∷ alongHand cs x ps ks (y .next) hands0) (alongHand cs x ps ks (y .next) hands0)) (sym (matched r c) ∙ q)
 
         module _ (form′ : List ℕ) (w : Together) (p : HandsCopied (x .h .edition) ks hands′ used form′ w) where
-          put : Holds (arityOf (x .h .edition)) (copied ks us vs) form′ w
+          put : Holds (storedOf (x .h .edition)) (copied ks us vs) form′ w
           put = p .holds (x .first .variables) (x .second .variables) (formIn (x .first .variables) hands0) (stop .form) first-held second-held (k .copied)
 
           pub finding-long : w ≡ TooLong → Finds cs x ps ks from hands0 hands′ form′ found.TooLong
-          finding-long e = (copied ks us vs, alongHand cs x ps ks (y .next) hands0, first-is, subst (Holds (arityOf (x .h .edition)) (copied ks us vs) form′) e put)
+          finding-long e = (copied ks us vs, alongHand cs x ps ks (y .next) hands0, first-is, subst (Holds (storedOf (x .h .edition)) (copied ks us vs) form′) e put)
 
           pub finding-at : (n : ℕ) → w ≡ Form n → Finds cs x ps ks from hands0 hands′ form′ (found.At (y .next) n)
           finding-at n e =
-              let h : Holds (arityOf (x .h .edition)) (copied ks us vs) form′ (Form n) = subst (Holds (arityOf (x .h .edition)) (copied ks us vs) form′) e put in
+              let h : Holds (storedOf (x .h .edition)) (copied ks us vs) form′ (Form n) = subst (Holds (storedOf (x .h .edition)) (copied ks us vs) form′) e put in
               let l : length (take n form′) ≡ n = ap length (h .1) ∙ sym (h .0) in (
                 record {
                   rest = stop .behind;
@@ -191,6 +190,6 @@ module _ (cs : List ℕ) (x : Sides) (ps ks : List ℕ) (k : Throughout cs x ps 
                 (
                   omega (arith, l, length-take n form′),
                   first-is ∙ ap (λ (u : Word). u ∷ alongHand cs x ps ks (y .next) hands0) (sym (h .1)) ∙ ap (λ (r : List Word). take n form′ ∷ r) (along-same cs x ps ks (y .next) hands0 hands′ (stays .0)),
-                  subst (λ (u : Word). length (pairForm (arityOf (x .h .edition)) u) ≤ 256) (sym (h .1)) (h .2),
+                  subst (λ (u : Word). length (storedOf (x .h .edition) .cells u) ≤ 256) (sym (h .1)) (h .2),
                 ),
               )

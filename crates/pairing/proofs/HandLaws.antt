@@ -8,34 +8,30 @@ use lib.ListN.{length, take, drop, getD, length-drop}
 use borrow.Rule.Slice.PartMut.{putMid, post-is, take-put}
 use lib.Seq.{drop-at, take-all, take-take, getD-take, length-take-le}
 use Rattle.forms.specs.Terms.{Term, every}
-use Rattle.forms.specs.Compact.{compact, formTerms}
-use Rattle.forms.proofs.ExactLaws.{forms-compact}
-use Rattle.forms.proofs.RoundTrip.{legal-parts}
 use Rattle.plain.specs.Words.{Word}
-use Rattle.plain.proofs.CompactCoding.{compact-laws}
+use Rattle.plain.proofs.StoredCoding.{coding-laws}
 use Rattle.trie.specs.Paths.{Path, none, tokens}
 use Rattle.trie.specs.Runs.{pathTo}
 use Rattle.trie.specs.declared.End.{End}
 use Rattle.parts.specs.Parts.{startOf, GroundForm, tokensStart, InHand}
 use Rattle.parts.specs.Hands as hands
 use Rattle.parts.specs.declared.Together.{Together}
-use Rattle.forms.specs.Cells.{arityOf}
+use Rattle.forms.specs.Stored.{StoredForm, storedOf}
 use Rattle.pairing.specs.declared.Sides.{Sides}
 use Rattle.pairing.specs.Pairing.{Gatherable, hand, formIn, twoHands, PathTakeable, Takes, endOf, TakesSecond, HandsComparable, HandsCompare, HandsCopyable, HandsCopied}
 
-pub ground-short : (arity : ℕ → ℕ) (m : ℕ) (w : Word) → GroundForm arity m w → length w ≤ 383
-ground-short arity m w g = compact-laws arity .legal-short m w (g .legal)
+pub ground-short : (e m : ℕ) (w : Word) → GroundForm (storedOf e) m w → length w ≤ 383
+ground-short e m w g = coding-laws e .legal-short m w (g .legal)
 
 -- ---- the form that is in a hand
 
-start-end : (arity : ℕ → ℕ) (m : ℕ) (w : Word) → GroundForm arity m w → startOf arity w m ≡ length w
-start-end arity m w g =
-    let p = forms-compact arity m w (legal-parts arity m w (g .legal) .forms) in
-    ap (λ (ts : List Term). length (every compact ts)) (take-all m (formTerms arity w) (omega (arith, p .0))) ∙ ap length (sym (p .1))
+start-end : (stored : StoredForm) (m : ℕ) (w : Word) → GroundForm stored m w → startOf stored w m ≡ length w
+start-end stored m w g =
+    ap (λ (ts : List Term). length (every (stored .tokens) ts)) (take-all m (stored .terms w) (omega (arith, g .count))) ∙ ap length (sym (g .tokens))
 
-pub form-in : (arity : ℕ → ℕ) (m : ℕ) (w held : List ℕ) → InHand arity m w held → formIn m held ≡ w
-form-in arity m w held i =
-    let e : getD held m 0 - tokensStart ≡ length w = omega (arith, i .starts m (omega arith), start-end arity m w (i .form)) in
+pub form-in : (stored : StoredForm) (m : ℕ) (w held : List ℕ) → InHand stored m w held → formIn m held ≡ w
+form-in stored m w held i =
+    let e : getD held m 0 - tokensStart ≡ length w = omega (arith, i .starts m (omega arith), start-end stored m w (i .form)) in
     ap (λ (n : ℕ). take n (drop tokensStart held)) e ∙ i .tokens
 
 -- ---- only the cells of the hand matter
@@ -46,9 +42,9 @@ take-within (suc k) n h [] e = ap (λ (x : List ℕ). take n (drop (suc k) x)) (
 take-within (suc k) n zero (x ∷ l) e = absurd (omega arith)
 take-within (suc k) n (suc h) (x ∷ l) e = take-within k n h l (omega arith)
 
-pub hand-kept : (arity : ℕ → ℕ) (m : ℕ) (w held held′ : List ℕ) → InHand arity m w held → take hand held′ ≡ take hand held → hand ≤ length held′ → InHand arity m w held′
-hand-kept arity m w held held′ i e l =
-    let s = ground-short arity m w (i .form) in
+pub hand-kept : (edition m : ℕ) (w held held′ : List ℕ) → InHand (storedOf edition) m w held → take hand held′ ≡ take hand held → hand ≤ length held′ → InHand (storedOf edition) m w held′
+hand-kept edition m w held held′ i e l =
+    let s = ground-short edition m w (i .form) in
     record {
       form = i .form;
       few = i .few;
@@ -61,14 +57,14 @@ hand-kept arity m w held held′ i e l =
     }
 
 -- the form in hand as the cells say it
-pub hand-said : (arity : ℕ → ℕ) (m : ℕ) (w held : List ℕ) → InHand arity m w held → InHand arity m (formIn m held) held
-hand-said arity m w held i = subst (λ (u : Word). InHand arity m u held) (sym (form-in arity m w held i)) i
+pub hand-said : (stored : StoredForm) (m : ℕ) (w held : List ℕ) → InHand stored m w held → InHand stored m (formIn m held) held
+hand-said stored m w held i = subst (λ (u : Word). InHand stored m u held) (sym (form-in stored m w held i)) i
 
-pub hand-stays : (arity : ℕ → ℕ) (m : ℕ) (held held′ : List ℕ) → InHand arity m (formIn m held) held → take hand held′ ≡ take hand held → hand ≤ length held′
-    → (formIn m held′ ≡ formIn m held) × InHand arity m (formIn m held′) held′
-hand-stays arity m held held′ i e l =
-    let j = hand-kept arity m (formIn m held) held held′ i e l in
-    (form-in arity m (formIn m held) held′ j, hand-said arity m (formIn m held) held′ j)
+pub hand-stays : (edition m : ℕ) (held held′ : List ℕ) → InHand (storedOf edition) m (formIn m held) held → take hand held′ ≡ take hand held → hand ≤ length held′
+    → (formIn m held′ ≡ formIn m held) × InHand (storedOf edition) m (formIn m held′) held′
+hand-stays edition m held held′ i e l =
+    let j = hand-kept edition m (formIn m held) held held′ i e l in
+    (form-in (storedOf edition) m (formIn m held) held′ j, hand-said (storedOf edition) m (formIn m held) held′ j)
 
 -- ---- a path taken in hand
 
@@ -85,17 +81,17 @@ path-there p ks n k l e =
 module _ (cs : List ℕ) (e : End) (m : ℕ) (held cells : List ℕ) (edition : ℕ) where
   -- the cells suffice for it
   pub path-gatherable : PathTakeable cs e m held cells edition → Gatherable cs e cells
-  path-gatherable k = (k .0, (k .1 .0, k .1 .1, omega (arith, ground-short (arityOf edition) m (k .1 .0) (k .1 .2), k .4)))
+  path-gatherable k = (k .0, (k .1 .0, k .1 .1, omega (arith, ground-short edition m (k .1 .0) (k .1 .2), k .4)))
 
   pub path-takeable : (form : List ℕ) → PathTakeable cs e m held cells edition → pathTo cs e ≡ tokens form → hands.Takeable edition m form held
   path-takeable form k p =
       let q : k .1 .0 ≡ form = ap tokensOf (sym (k .1 .1) ∙ p) in
-      let g : GroundForm (arityOf edition) m form = subst (GroundForm (arityOf edition) m) q (k .1 .2) in
-      record { ground = g; few = omega (arith, k .2); room = omega (arith, ground-short (arityOf edition) m form g, k .3) }
+      let g : GroundForm (storedOf edition) m form = subst (GroundForm (storedOf edition) m) q (k .1 .2) in
+      record { ground = g; few = omega (arith, k .2); room = omega (arith, ground-short edition m form g, k .3) }
 
   pub path-takes : (form held′ : List ℕ) → pathTo cs e ≡ tokens form → hands.Taken edition m form held held′ → Takes cs e m held held′ edition
   path-takes form held′ p t =
-      (λ w q. subst (λ (v : Word). InHand (arityOf edition) m v held′) (ap tokensOf (sym p ∙ q)) (t .hand), t .size)
+      (λ w q. subst (λ (v : Word). InHand (storedOf edition) m v held′) (ap tokensOf (sym p ∙ q)) (t .hand), t .size)
 
 -- ---- the second hand, as a part of the cells
 
@@ -135,6 +131,6 @@ module _ (cs : List ℕ) (x : Sides) (leaf : ℕ) (held new : List ℕ) (l : two
 
   pub second-taken : Takes cs (endOf (x .h) (x .second) leaf) (x .second .variables) (take (length held - hand) (drop hand held)) new (x .h .edition) → TakesSecond cs x leaf held (putMid hand (length held - hand) held new)
   second-taken t = (
-    (λ w p. subst (InHand (arityOf (x .h .edition)) (x .second .variables) w) (sym put-second) (t .0 w p), ap length put-second ∙ t .1 ∙ ap length (second-hand held)),
+    (λ w p. subst (InHand (storedOf (x .h .edition)) (x .second .variables) w) (sym put-second) (t .0 w p), ap length put-second ∙ t .1 ∙ ap length (second-hand held)),
     take-put hand (length held - hand) held new (omega arith),
   )

@@ -12,7 +12,7 @@ use Rattle.basis.proofs.Tests.{strictly}
 use Rattle.plain.proofs.LongestShared.{most-le}
 use Rattle.basis.specs.Choice.{pick}
 use Rattle.basis.proofs.Cases.{by-cases}
-use Rattle.forms.specs.Cells.{arityOf}
+use Rattle.forms.specs.Stored.{storedOf}
 use Rattle.forms.specs.Compact.{same}
 use Rattle.plain.specs.Words.{Word, common, most, has}
 use Rattle.space.specs.Sound.{subgoalUnder}
@@ -112,7 +112,7 @@ meets e v w b s q p h = λ before a d. (
 -- the first i forms are passed, and what is shared with them is known
 pub record Comparing (cs : List ℕ) (x : Sides) (ps ks : List ℕ) (w : Word) (at : Cursor) (hands form : List ℕ) (i : ℕ) (e : Earlier) : Type 0 where
   pub stands : Stands cs x at hands form
-  pub fit : allFit (arityOf (x .h .edition)) (toCome cs x ps ks at hands) ≡ true
+  pub fit : allFit (storedOf (x .h .edition)) (toCome cs x ps ks at hands) ≡ true
   pub done : List Word
   pub are : allForms cs x ps ks ≡ done ++ toCome cs x ps ks at hands
   pub passed : length done ≡ i
@@ -128,7 +128,7 @@ module _ (cs : List ℕ) (x : Sides) (ps ks : List ℕ) (w : Word) where
   unfolding backwards most has
   comparing-begun r f hands form lh lf = record {
     stands = begins cs x ps ks r hands form lh lf;
-    fit = subst (λ (ws : List Word). allFit (arityOf (x .h .edition)) ws ≡ true) (all-come cs x ps ks hands) f;
+    fit = subst (λ (ws : List Word). allFit (storedOf (x .h .edition)) ws ≡ true) (all-come cs x ps ks hands) f;
     done = [];
     are = all-come cs x ps ks hands;
     passed = refl;
@@ -153,7 +153,7 @@ module _ (cs : List ℕ) (x : Sides) (ps ks : List ℕ) (w : Word) where
         let j = m (backwards (c .done) []) (c .shared) (c .held) in
         record {
           stands = a .0;
-          fit = sym (fit-cons (arityOf (x .h .edition)) (take n form′) (toCome cs x ps ks next hands′) (a .1 .2)) ∙ ap (allFit (arityOf (x .h .edition))) (sym (a .1 .1)) ∙ c .fit;
+          fit = sym (fit-cons (storedOf (x .h .edition)) (take n form′) (toCome cs x ps ks next hands′) (a .1 .2)) ∙ ap (allFit (storedOf (x .h .edition))) (sym (a .1 .1)) ∙ c .fit;
           done = c .done ++ (take n form′ ∷ []);
           are = c .are ∙ ap (λ (ws : List Word). c .done ++ ws) (a .1 .1) ∙ sym (append-one (c .done) (take n form′) (toCome cs x ps ks next hands′));
           passed = length-append (c .done) (take n form′ ∷ []) ∙ ap (λ (k : ℕ). k + 1) (c .passed);
@@ -191,7 +191,7 @@ module _ (find : Finding) where
 
   pub record Needing (cs : List ℕ) (x : Sides) (root : ℕ) (ps ks : List ℕ) (at : Cursor) (hands form : List ℕ) (i : ℕ) (y : Needs) : Type 0 where
     pub stands : Stands cs x at hands form
-    pub fit : allFit (arityOf (x .h .edition)) (toCome cs x ps ks at hands) ≡ true
+    pub fit : allFit (storedOf (x .h .edition)) (toCome cs x ps ks at hands) ≡ true
     pub done : List Word
     pub are : allForms cs x ps ks ≡ done ++ toCome cs x ps ks at hands
     pub passed : length done ≡ i
@@ -210,7 +210,7 @@ module _ (find : Finding) where
         let e = all-come cs x ps ks hands in
         record {
           stands = begins cs x ps ks r hands form lh lf;
-          fit = subst (λ (ws : List Word). allFit (arityOf (x .h .edition)) ws ≡ true) e f;
+          fit = subst (λ (ws : List Word). allFit (storedOf (x .h .edition)) ws ≡ true) e f;
           done = [];
           are = e;
           passed = refl;
@@ -255,7 +255,7 @@ module _ (find : Finding) where
           needing-on =
               record {
                 stands = a .0;
-                fit = sym (fit-cons (arityOf (x .h .edition)) (take n form′) (toCome cs x ps ks next hands′) (a .1 .2)) ∙ ap (allFit (arityOf (x .h .edition))) (sym (a .1 .1)) ∙ c .fit;
+                fit = sym (fit-cons (storedOf (x .h .edition)) (take n form′) (toCome cs x ps ks next hands′) (a .1 .2)) ∙ ap (allFit (storedOf (x .h .edition))) (sym (a .1 .1)) ∙ c .fit;
                 done = c .done ++ (take n form′ ∷ []);
                 are = c .are ∙ ap (λ (ws : List Word). c .done ++ ws) (a .1 .1) ∙ sym (append-one (c .done) (take n form′) (toCome cs x ps ks next hands′));
                 passed = length-append (c .done) (take n form′ ∷ []) ∙ ap (λ (k : ℕ). k + 1) (c .passed);

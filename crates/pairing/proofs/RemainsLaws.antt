@@ -5,7 +5,7 @@ use Prim.Native.Nat.{ℕ, zero, suc, _+_, _≤_, _<_}
 use native.Mathlib.Omega.{arith}
 use lib.Dec.{eqb}
 use Rattle.trie.proofs.WalkLaws.{both-true}
-use Rattle.forms.specs.Cells.{arityOf}
+use Rattle.forms.specs.Stored.{storedOf}
 use Rattle.plain.specs.Words.{Word}
 use Rattle.plain.specs.Coding.{Coding, codingOf}
 use Rattle.space.specs.Sound.{answerUnder}
@@ -44,7 +44,7 @@ pub record Stop (cs : List ℕ) (h : Head) (x : Source) (a : ℕ) (y : Answer) :
   pub form : Word
   pub are : formsFrom cs h (x .number) a ≡ form ∷ formsFrom cs h (x .number) (y .next)
   pub path : pathTo cs (endOf h x (y .leaf)) ≡ tokens form
-  pub ground : GroundForm (arityOf (h .edition)) (x .variables) form
+  pub ground : GroundForm (storedOf (h .edition)) (x .variables) form
   pub leaf-in : y .leaf < h .nodes
   pub rises : (y .next ≡ 0 → ⊥) → a < y .next
   pub behind : Remains cs h x (y .next)
@@ -63,8 +63,8 @@ remains-some cs h x a y i r z e =
     subst (λ (k : ℕ). chainFrom c v (x .number) (h .answers) k ≡ unbroken (l .rest)) (sym n)
     (chain-longer c v (x .number) (t .0) (h .answers) (answerUnder cs h a .next) (l .rest) (omega (arith, t .1)) (l .later)) in
     let rest : formsFrom cs h (x .number) (y .next) ≡ l .rest = forms-are cs h (x .number) (y .next) (l .rest) on in
-    let g : AllGround (arityOf (h .edition)) (x .variables) (l .form ∷ l .rest) =
-    subst (AllGround (arityOf (h .edition)) (x .variables)) (l .is) (r .ground) in
+    let g : AllGround (storedOf (h .edition)) (x .variables) (l .form ∷ l .rest) =
+    subst (AllGround (storedOf (h .edition)) (x .variables)) (l .is) (r .ground) in
     record {
       form = l .form;
       are = l .is ∙ ap (λ (ws : List Word). l .form ∷ ws) (sym rest);
@@ -75,6 +75,6 @@ remains-some cs h x a y i r z e =
       behind = record {
         within = omega (arith, follows-within (h .answers + 1) a (answerUnder cs h a .next) (omega arith) (b .next-follows));
         sound = on ∙ ap unbroken (sym rest);
-        ground = subst (AllGround (arityOf (h .edition)) (x .variables)) (sym rest) (g .1);
+        ground = subst (AllGround (storedOf (h .edition)) (x .variables)) (sym rest) (g .1);
       };
     }

@@ -6,7 +6,7 @@ use mathlib.Core.Path.{_≡_}
 use lib.Dec.{eqb}
 use lib.ListN.{take}
 use Rattle.basis.specs.Choice.{pick}
-use Rattle.forms.specs.Cells.{arityOf}
+use Rattle.forms.specs.Stored.{StoredForm, storedOf}
 use Rattle.plain.specs.Words.{Word, most, has}
 use Rattle.plain.specs.Joins.{combined}
 use Rattle.space.specs.Sound.{subgoalUnder}
@@ -45,7 +45,7 @@ pub record JoinReady (cs : List ℕ) (x : Sides) (ps ks : List ℕ) : Type 0 whe
 
 -- each form fits
 abbrev pub Fitting : List ℕ → Sides → List ℕ → List ℕ → Type 0
-Fitting cs x ps ks = allFit (arityOf (x .h .edition)) (allForms cs x ps ks) ≡ true
+Fitting cs x ps ks = allFit (storedOf (x .h .edition)) (allForms cs x ps ks) ≡ true
 
 -- both: the nodes and answers that the forms need can be counted
 abbrev pub ReadyToCount : List ℕ → Sides → List ℕ → List ℕ → Type 0
@@ -66,17 +66,17 @@ added y m = record {
 }
 
 -- the sums of the forms, unless one does not fit
-abbrev pub CountedOf : Finding → View → ℕ → (ℕ → ℕ) → List Word → Counted → Type 0
-CountedOf find v s arity ws (counted.Sums y) =
-    (allFit arity ws ≡ true) × (y .sound ≡ allSoundBy find v s ws) × (y .missing ≡ sumMissing find v s ws)
+abbrev pub CountedOf : Finding → View → ℕ → StoredForm → List Word → Counted → Type 0
+CountedOf find v s stored ws (counted.Sums y) =
+    (allFit stored ws ≡ true) × (y .sound ≡ allSoundBy find v s ws) × (y .missing ≡ sumMissing find v s ws)
     × (y .lacking ≡ sumLacking find v s ws)
-CountedOf find v s arity ws counted.TooLong = allFit arity ws ≡ false
+CountedOf find v s stored ws counted.TooLong = allFit stored ws ≡ false
 
 -- for whichever target has this answer root
 abbrev pub CountsForms : Finding → List ℕ → Sides → ℕ → List ℕ → List ℕ → Counted → Type 0
 CountsForms find cs x root ps ks r =
     (s : ℕ) → root ≡ subgoalUnder cs (x .h) s .root
-    → CountedOf find (viewIn cs (x .h)) s (arityOf (x .h .edition)) (allForms cs x ps ks) r
+    → CountedOf find (viewIn cs (x .h)) s (storedOf (x .h .edition)) (allForms cs x ps ks) r
 
 -- ---- exactly
 

@@ -5,8 +5,7 @@ use mathlib.Core.Bool.{Bool, true}
 use mathlib.Core.List.{List, [], _∷_, _++_, map}
 use mathlib.Core.Path.{_≡_}
 use lib.ListN.{length, take, drop, getD}
-use Rattle.forms.specs.Cells.{arityOf}
-use Rattle.forms.specs.Compact.{pairForm}
+use Rattle.forms.specs.Stored.{storedOf}
 use Rattle.plain.specs.Words.{Word}
 use Rattle.plain.specs.Coding.{codingOf}
 use Rattle.plain.specs.Joins.{pairsNamed, copiesNamed, along, combined}
@@ -51,7 +50,7 @@ pub record Remains (cs : List ℕ) (h : Head) (x : Source) (a : ℕ) : Type 0 wh
   pub within : a ≤ h .answers
   pub sound : chainFrom (codingOf (h .edition)) (viewIn cs h) (x .number) (h .answers) a
       ≡ unbroken (formsFrom cs h (x .number) a)
-  pub ground : AllGround (arityOf (h .edition)) (x .variables) (formsFrom cs h (x .number) a)
+  pub ground : AllGround (storedOf (h .edition)) (x .variables) (formsFrom cs h (x .number) a)
 
 -- ---- answers in hand
 
@@ -82,13 +81,13 @@ Gathers cs e cells cells′ k =
 -- the path to an end is the form of m terms without variables, and there is room for it, and cells to gather it in
 abbrev pub PathTakeable : List ℕ → End → ℕ → List ℕ → List ℕ → ℕ → Type 0
 PathTakeable cs e m held form edition =
-    Ends cs e × ((w : Word) × (pathTo cs e ≡ tokens w) × GroundForm (arityOf edition) m w) × (m ≤ 32)
+    Ends cs e × ((w : Word) × (pathTo cs e ≡ tokens w) × GroundForm (storedOf edition) m w) × (m ≤ 32)
     × (hand ≤ length held) × (length form ≡ mostTokens)
 
 -- it is in hand afterwards
 abbrev pub Takes : List ℕ → End → ℕ → List ℕ → List ℕ → ℕ → Type 0
 Takes cs e m held held′ edition =
-    ((w : Word) → pathTo cs e ≡ tokens w → InHand (arityOf edition) m w held′) × (length held′ ≡ length held)
+    ((w : Word) → pathTo cs e ≡ tokens w → InHand (storedOf edition) m w held′) × (length held′ ≡ length held)
 
 -- the end of an answer's path in a source
 abbrev pub endOf : Head → Source → ℕ → End
@@ -141,7 +140,7 @@ pub record Throughout (cs : List ℕ) (x : Sides) (ps ks : List ℕ) : Type 0 wh
 -- the first's answer is in hand where one of the second is to be compared with it
 pub record Compared (cs : List ℕ) (x : Sides) (inner : ℕ) (hands form : List ℕ) : Type 0 where
   pub rest : Remains cs (x .h) (x .second) inner
-  pub held : 0 < inner → InHand (arityOf (x .h .edition)) (x .first .variables)
+  pub held : 0 < inner → InHand (storedOf (x .h .edition)) (x .first .variables)
       (formIn (x .first .variables) hands) hands
   pub hands-room : length hands ≡ twoHands
   pub form-room : length form ≡ mostTokens
@@ -154,12 +153,12 @@ pub record Stands (cs : List ℕ) (x : Sides) (at : Cursor) (hands form : List �
 
 -- of a source's answers from one on, term by term
 abbrev pub partsFrom : List ℕ → Head → Source → ℕ → List (List Word)
-partsFrom cs h x a = map (parts (arityOf (h .edition))) (formsFrom cs h (x .number) a)
+partsFrom cs h x a = map (parts (storedOf (h .edition))) (formsFrom cs h (x .number) a)
 
 -- with the answer in hand
 abbrev pub alongHand : List ℕ → Sides → List ℕ → List ℕ → ℕ → List ℕ → List Word
 alongHand cs x ps ks inner hands =
-    along ps ks (parts (arityOf (x .h .edition)) (formIn (x .first .variables) hands))
+    along ps ks (parts (storedOf (x .h .edition)) (formIn (x .first .variables) hands))
     (partsFrom cs (x .h) (x .second) inner)
 
 -- and with the first's answers behind it
@@ -170,7 +169,7 @@ toCome cs x ps ks at hands =
 
 -- the terms of a form are at most 256 cells
 abbrev pub FitsCells : ℕ → Word → Type 0
-FitsCells edition w = length (pairForm (arityOf edition) w) ≤ 256
+FitsCells edition w = length (storedOf edition .cells w) ≤ 256
 
 -- the first of the forms ws is in the cells of form, n tokens long, and the others are rest
 abbrev pub FormLeft : ℕ → List ℕ → ℕ → List Word → List Word → Type 0
@@ -179,7 +178,7 @@ FormLeft edition form n ws rest = (n ≤ length form) × (ws ≡ take n form ∷
 -- the first of the forms is over 256 cells
 abbrev pub FirstTooLong : ℕ → List Word → Type 0
 FirstTooLong edition ws = (w : Word) × (rest : List Word) × (ws ≡ w ∷ rest)
-    × (256 < length (pairForm (arityOf edition) w))
+    × (256 < length (storedOf edition .cells w))
 
 -- what the search for a match with the answer in hand answers and leaves
 abbrev pub Finds : List ℕ → Sides → List ℕ → List ℕ → ℕ → List ℕ → List ℕ → List ℕ → Found → Type 0

@@ -11,7 +11,7 @@ use Rattle.basis.specs.Choice.{pick}
 use Rattle.basis.proofs.Cases.{by-cases}
 use Rattle.forms.specs.declared.Shape.{Shape}
 use Rattle.forms.specs.declared.Shape.the-variants.{Symbol}
-use Rattle.forms.specs.Cells.{nil, BLIST, ELIST, EPAIR, shapeOf}
+use Rattle.forms.specs.Cells.{nil, PAIR, BLIST, ELIST, EPAIR, shapeOf}
 use Rattle.forms.specs.Due.{arguments}
 use Rattle.forms.specs.Terms.{Term, cell, arg, pair, pairs, every}
 use Rattle.forms.specs.Compact.{compact, elements}
@@ -50,6 +50,11 @@ module _ (arity : ℕ → ℕ) where
   unfolding arguments
   symbol-takes c k e = rw e
 
+  -- what stands for cells of its own
+  pub solid-weight : (c : ℕ) (s : Shape) → shapeOf arity c ≡ s → solid s ≡ true → weight arity c ≡ 2
+  unfolding weight
+  solid-weight c s e f = by-cases (eqb c ELIST) (λ p. rw p) (λ p. rw (p, e, f))
+
   -- what is none
   pub other-weight : (c : ℕ) (s : Shape) → (c ≡ ELIST → ⊥) → shapeOf arity c ≡ s → solid s ≡ false → weight arity c ≡ 0
   unfolding weight
@@ -58,7 +63,7 @@ module _ (arity : ℕ → ℕ) where
   -- ---- a term
 
   -- the tokens of a term that waits for k arguments count for this many cells
-  abbrev Counted : List ℕ → ℕ → ℕ → Type 0
+  abbrev pub Counted : List ℕ → ℕ → ℕ → Type 0
   Counted w k cells = cells + allTake arity w + 1 ≡ weights arity w + k
 
   counted-cell : (c k : ℕ) → shapeOf arity c ≡ Symbol k → Counted (c ∷ []) k 1
@@ -103,20 +108,33 @@ module _ (arity : ℕ → ℕ) where
     listed (arg f a) e h = rw (length-append (pairs f) (pairs a)) (listed-tail e (compact f ++ compact a) (length (pairs f) + length (pairs a)) (counted-both (compact f) (compact a) 0 (length (pairs f)) (length (pairs a)) (counted f 1 (h .0)) (counted a 0 (h .1))))
     listed (pair h t) e l = rw (length-append (pairs h) (pairs t)) (listed-more e (compact h) (elements (compact h) t) (length (pairs h)) (length (pairs t)) (counted h 0 (l .1)) (listed t (compact h) (l .2)))
 
+  -- ---- pair form
+
+  counted-pair : (x y : List ℕ) (k cells others : ℕ) → k ≡ 0 → Counted x 0 cells → Counted y 0 others → Counted (PAIR ∷ (x ++ y)) k (suc (cells + others))
+  unfolding weights allTake weight shapeOf arguments solid
+  counted-pair x y k cells others z p q = omega (arith, weights-append x y, take-append x y)
+
+  pub counted-cells : (t : Term) (k : ℕ) → WellFormed (shapeOf arity) t k → Counted (pairs t) k (length (pairs t))
+  unfolding pairs
+  counted-cells (cell c) k h = counted-cell c k h
+  counted-cells (arg f a) k h = rw (length-append (pairs f) (pairs a)) (counted-both (pairs f) (pairs a) k (length (pairs f)) (length (pairs a)) (counted-cells f (suc k) (h .0)) (counted-cells a 0 (h .1)))
+  counted-cells (pair h t) k l = rw (length-append (pairs h) (pairs t)) (counted-pair (pairs h) (pairs t) k (length (pairs h)) (length (pairs t)) (l .0) (counted-cells h 0 (l .1)) (counted-cells t 0 (l .2)))
+
   -- ---- several
 
-  pub every-counted : (ts : List Term) → AllWellFormed (shapeOf arity) ts
-      → length (every pairs ts) + (allTake arity (every compact ts) + length ts) ≡ weights arity (every compact ts)
+  pub every-counted : (tokens : Term → List ℕ) → ((t : Term) → WellFormed (shapeOf arity) t 0 → Counted (tokens t) 0 (length (pairs t)))
+      → (ts : List Term) → AllWellFormed (shapeOf arity) ts
+      → length (every pairs ts) + (allTake arity (every tokens ts) + length ts) ≡ weights arity (every tokens ts)
   unfolding every
-  every-counted [] h = unfold weights in unfold allTake in refl
-  every-counted (t ∷ ts) h =
+  every-counted tokens one [] h = unfold weights in unfold allTake in refl
+  every-counted tokens one (t ∷ ts) h =
       omega (
         arith,
         length-append (pairs t) (every pairs ts),
-        weights-append (compact t) (every compact ts),
-        take-append (compact t) (every compact ts),
-        counted t 0 (h .0),
-        every-counted ts (h .1),
+        weights-append (tokens t) (every tokens ts),
+        take-append (tokens t) (every tokens ts),
+        one t (h .0),
+        every-counted tokens one ts (h .1),
       )
 
   -- both sums over all tokens

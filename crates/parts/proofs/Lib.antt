@@ -1,12 +1,14 @@
+pub mod Scanning
+pub mod Counting
+pub mod Rules
 pub mod GroundForms
+pub mod Passing
 pub mod JoinedForms
 pub mod SegmentLaws
 pub mod EqualTokens
 pub mod CopyTokens
-pub mod Counting
 pub mod NamedTerms
 pub mod Matching
 pub mod Gathering
 pub mod HandLaws
-pub mod Scanning
 pub mod Taking

@@ -12,16 +12,12 @@ use borrow.Author.Tests.{eqb-true}
 use Rattle.basis.specs.Choice.{pick}
 use Rattle.basis.proofs.Cases.{by-cases}
 use Rattle.forms.specs.declared.Shape.the-variants.{Symbol, Illegal}
-use Rattle.forms.specs.Cells.{nil, BLIST, ELIST, EPAIR, shapeOf}
+use Rattle.forms.specs.Cells.{nil, PAIR, BLIST, ELIST, EPAIR, shapeOf}
 use Rattle.forms.specs.Due.{arguments, dueAfter}
-use Rattle.forms.specs.Terms.{Term, cell, arg, pair, every}
-use Rattle.forms.specs.Compact.{compact, elements, formTerms}
-use Rattle.forms.proofs.ReadLaws.{WellFormed, AllWellFormed}
-use Rattle.forms.proofs.FormLaws.{pairs-size}
-use Rattle.plain.specs.Words.{Word}
-use Rattle.parts.specs.Parts.{startOf, GroundForm}
+use Rattle.forms.specs.Terms.{Term, cell, arg, pair, pairs}
+use Rattle.forms.specs.Compact.{compact, elements}
+use Rattle.forms.proofs.ReadLaws.{WellFormed}
 use Rattle.parts.specs.Segments.{closing, takes}
-use Rattle.parts.proofs.GroundForms.{all-well, form-ground, form-count, form-tokens}
 
 -- ---- the pass
 
@@ -85,7 +81,7 @@ module _ (arity : ℕ → ℕ) where
   -- ---- a term
 
   -- the pass over the tokens of a term that waits for k arguments
-  abbrev Passes : List ℕ → ℕ → Type 0
+  abbrev pub Passes : List ℕ → ℕ → Type 0
   Passes w k = (at due depth : ℕ) (r : List ℕ)
       → begins (w ++ r) at (suc due) depth ≡ begins r (at + length w) (passed k due depth) depth
 
@@ -133,7 +129,7 @@ module _ (arity : ℕ → ℕ) where
   mutual
     unfolding compact
 
-    passes-term : (t : Term) (k : ℕ) → WellFormed (shapeOf arity) t k → Passes (compact t) k
+    pub passes-term : (t : Term) (k : ℕ) → WellFormed (shapeOf arity) t k → Passes (compact t) k
     passes-term (cell c) k h = passes-cell c k h
     passes-term (arg f a) k h = passes-both (compact f) (compact a) k (passes-term f (suc k) (h .0)) (passes-term a 0 (h .1))
     passes-term (pair h t) k l = passes-list (elements (compact h) t) k (l .0) (closes-elements t (compact h) (l .2) (passes-term h 0 (l .1)))
@@ -143,37 +139,44 @@ module _ (arity : ℕ → ℕ) where
     closes-elements (arg f a) e h p = closes-tail e (compact f ++ compact a) p (passes-both (compact f) (compact a) 0 (passes-term f 1 (h .0)) (passes-term a 0 (h .1)))
     closes-elements (pair h t) e l p = closes-more e (elements (compact h) t) p (closes-elements t (compact h) (l .2) (passes-term h 0 (l .1)))
 
-  -- ---- all terms of a form
-
-  abbrev places : ℕ → List Term → List ℕ
-  places at [] = []
-  places at (t ∷ ts) = at ∷ places (at + length (compact t)) ts
-
+  -- a term begins where nothing is due
   pub begins-here : (w : List ℕ) (at depth : ℕ) → 0 < length w → begins w at 0 depth ≡ at ∷ begins w at 1 depth
   unfolding begins
   begins-here [] at depth h = absurd (omega arith)
   begins-here (c ∷ w) at depth h = refl
 
-  begins-every : (ts : List Term) (at : ℕ) → AllWellFormed (shapeOf arity) ts → begins (every compact ts) at 0 0 ≡ places at ts
-  unfolding every
-  begins-every [] at h = unfold begins in refl
-  begins-every (t ∷ ts) at h =
-      begins-here (compact t ++ every compact ts) at 0 (omega (arith, length-append (compact t) (every compact ts), pairs-size t))
-      ∙ ap (λ (l : List ℕ). at ∷ l) (passes-term t 0 (h .0) at 0 0 (every compact ts) ∙ rw zero-add (begins-every ts (at + length (compact t)) (h .1)))
+  -- ---- pair form
 
-  places-length : (ts : List Term) (at : ℕ) → length (places at ts) ≡ length ts
-  places-length [] at = refl
-  places-length (t ∷ ts) at = ap suc (places-length ts (at + length (compact t)))
+  pair-due : (due : ℕ) → dueAfterToken PAIR (suc due) 0 ≡ suc (suc due)
+  unfolding dueAfterToken closing arguments shapeOf
+  pair-due due = omega arith
 
-  places-at : (ts : List Term) (at i : ℕ) → i < length ts → getD (places at ts) i 0 ≡ at + length (every compact (take i ts))
-  unfolding every
-  places-at [] at i h = absurd (omega arith)
-  places-at (t ∷ ts) at zero h = sym (add-zero at)
-  places-at (t ∷ ts) at (suc i) h = places-at ts (at + length (compact t)) i (omega arith) ∙ rw (length-append (compact t) (every compact (take i ts)), add-assoc)
+  pair-within : (due depth : ℕ) → dueAfterToken PAIR (suc due) (suc depth) ≡ suc due
+  unfolding dueAfterToken closing
+  pair-within due depth = refl
+
+  pair-depth : (depth : ℕ) → depthAfter PAIR depth ≡ depth
+  unfolding depthAfter closing
+  pair-depth depth = refl
+
+  passes-pair : (x y : List ℕ) (k : ℕ) → k ≡ 0 → Passes x 0 → Passes y 0 → Passes (PAIR ∷ (x ++ y)) k
+  unfolding begins
+  passes-pair x y k z p q at due zero r =
+      rw (z, pair-due due, pair-depth 0, append-assoc x y r, p (suc at) (suc due) 0 (y ++ r), zero-add (suc due), q (suc at + length x) due 0 r, length-append x y)
+      (ap (λ (i : ℕ). begins r i (0 + due) 0) (omega arith))
+  passes-pair x y k z p q at due (suc depth) r =
+      rw (pair-within due depth, pair-depth (suc depth), append-assoc x y r, p (suc at) due (suc depth) (y ++ r), q (suc at + length x) due (suc depth) r, length-append x y)
+      (ap (λ (i : ℕ). begins r i (suc due) (suc depth)) (omega arith))
+
+  pub passes-cells : (t : Term) (k : ℕ) → WellFormed (shapeOf arity) t k → Passes (pairs t) k
+  unfolding pairs
+  passes-cells (cell c) k h = passes-cell c k h
+  passes-cells (arg f a) k h = passes-both (pairs f) (pairs a) k (passes-cells f (suc k) (h .0)) (passes-cells a 0 (h .1))
+  passes-cells (pair h t) k l = passes-pair (pairs h) (pairs t) k (l .0) (passes-cells h 0 (l .1)) (passes-cells t 0 (l .2))
 
 -- ---- lists are closed where they are open
 
-abbrev Keeps : List ℕ → Type 0
+abbrev pub Keeps : List ℕ → Type 0
 Keeps w = (depth : ℕ) (r : List ℕ) → Sound r depth → Sound (w ++ r) depth
 
 abbrev Shuts : List ℕ → Type 0
@@ -210,7 +213,7 @@ module _ (arity : ℕ → ℕ) where
   mutual
     unfolding compact
 
-    keeps-term : (t : Term) (k : ℕ) → WellFormed (shapeOf arity) t k → Keeps (compact t)
+    pub keeps-term : (t : Term) (k : ℕ) → WellFormed (shapeOf arity) t k → Keeps (compact t)
     keeps-term (cell c) k h = keeps-cell c k h
     keeps-term (arg f a) k h = keeps-both (compact f) (compact a) (keeps-term f (suc k) (h .0)) (keeps-term a 0 (h .1))
     keeps-term (pair h t) k l = keeps-list (elements (compact h) t) (shuts-elements t (compact h) (l .2) (keeps-term h 0 (l .1)))
@@ -220,30 +223,12 @@ module _ (arity : ℕ → ℕ) where
     shuts-elements (arg f a) e h p = shuts-tail e (compact f ++ compact a) p (keeps-both (compact f) (compact a) (keeps-term f 1 (h .0)) (keeps-term a 0 (h .1)))
     shuts-elements (pair h t) e l p = shuts-more e (elements (compact h) t) p (shuts-elements t (compact h) (l .2) (keeps-term h 0 (l .1)))
 
-  sound-every : (ts : List Term) → AllWellFormed (shapeOf arity) ts → Sound (every compact ts) 0
-  unfolding every
-  sound-every [] h = unfold Sound in tt
-  sound-every (t ∷ ts) h = keeps-term t 0 (h .0) 0 (every compact ts) (sound-every ts (h .1))
+  keeps-pair : (x y : List ℕ) → Keeps x → Keeps y → Keeps (PAIR ∷ (x ++ y))
+  unfolding Sound depthAfter closing
+  keeps-pair x y p q depth r s = ((λ e. absurd (false≢true e)), rw (append-assoc x y r) (p depth (y ++ r) (q depth r s)))
 
-  -- ---- a form
-
-  module _ (m : ℕ) (w : Word) (g : GroundForm arity m w) where
-    abbrev ts : List Term
-    ts = formTerms arity w
-
-    pub form-begins : begins arity w 0 0 0 ≡ places arity 0 ts
-    form-begins = ap (λ (l : List ℕ). begins arity l 0 0 0) (form-tokens arity m w g) ∙ begins-every arity ts 0 (all-well arity ts (form-ground arity m w g))
-
-    pub begins-count : length (begins arity w 0 0 0) ≡ m
-    begins-count = ap length form-begins ∙ places-length arity ts 0 ∙ form-count arity m w g
-
-    pub begins-at : (i : ℕ) → i < m → getD (begins arity w 0 0 0) i 0 ≡ startOf arity w i
-    begins-at i h =
-        ap (λ (l : List ℕ). getD l i 0) form-begins ∙ places-at arity ts 0 i (omega (arith, form-count arity m w g)) ∙ zero-add (startOf arity w i)
-
-    pub form-sound : Sound w 0
-    form-sound = rw (form-tokens arity m w g) (sound-every ts (all-well arity ts (form-ground arity m w g)))
-
-    pub start-last : startOf arity w m ≡ length w
-    start-last =
-        ap (λ (l : List Term). length (every compact l)) (take-all m ts (omega (arith, form-count arity m w g))) ∙ sym (ap length (form-tokens arity m w g))
+  pub keeps-cells : (t : Term) (k : ℕ) → WellFormed (shapeOf arity) t k → Keeps (pairs t)
+  unfolding pairs
+  keeps-cells (cell c) k h = keeps-cell c k h
+  keeps-cells (arg f a) k h = keeps-both (pairs f) (pairs a) (keeps-cells f (suc k) (h .0)) (keeps-cells a 0 (h .1))
+  keeps-cells (pair h t) k l = keeps-pair (pairs h) (pairs t) (keeps-cells h 0 (l .1)) (keeps-cells t 0 (l .2))

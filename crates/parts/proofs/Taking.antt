@@ -12,12 +12,15 @@ use borrow.Author.Tests.{ltb-true, ltb-false, eq-eqb, ne-eqb}
 use Rattle.basis.specs.Choice.{pick}
 use Rattle.basis.proofs.Cases.{by-cases}
 use Rattle.forms.specs.Cells.{BLIST, arityOf}
+use Rattle.forms.specs.Stored.{storedOf}
 use Rattle.forms.specs.Due.{dueAfter}
-use Rattle.plain.proofs.CompactCoding.{compact-laws}
+use Rattle.plain.proofs.StoredCoding.{coding-laws}
 use Rattle.parts.specs.Parts.{startOf, GroundForm}
 use Rattle.parts.specs.Segments.{closing, takes}
 use Rattle.parts.specs.Hands.{Takeable, Taken}
-use Rattle.parts.proofs.Scanning.{isNone, less, depthAfter, Sound, dueAfterToken, begins, begins-here, begins-count, begins-at, form-sound, start-last}
+use Rattle.parts.proofs.Scanning.{isNone, less, depthAfter, Sound, dueAfterToken, begins, begins-here}
+use Rattle.parts.proofs.Rules.{ruleOf}
+use Rattle.parts.proofs.Passing.{begins-count, begins-at, form-sound, start-last}
 
 less-sub : (n : ℕ) → less n ≡ n - 1
 less-sub zero = refl
@@ -83,18 +86,18 @@ pub record Taking (e m : ℕ) (form held₀ held : List ℕ) (at begun due depth
 pub taking-none : (e m : ℕ) (form held : List ℕ) → Takeable e m form held → Taking e m form held held 0 0 0 0
 taking-none e m form held t = record {
   low = omega arith;
-  short = compact-laws (arityOf e) .legal-short m form (t .ground .legal);
+  short = coding-laws e .legal-short m form (t .ground .legal);
   few = t .few;
   room = t .room;
   size = refl;
-  count = begins-count (arityOf e) m form (t .ground);
+  count = begins-count (ruleOf e) m form (t .ground);
   noted = omega arith;
   small = omega arith;
   shallow = omega arith;
   tokens = refl;
   places = λ i h. absurd (omega arith);
   rest = refl;
-  sound = form-sound (arityOf e) m form (t .ground);
+  sound = form-sound (ruleOf e) m form (t .ground);
 }
 
 module _ (e m : ℕ) (form held₀ held : List ℕ) (at begun due depth : ℕ) (t : Taking e m form held₀ held at begun due depth) where
@@ -183,7 +186,7 @@ module _ (e m : ℕ) (form held₀ held : List ℕ) (at begun due depth : ℕ) (
     }
 
   -- the end
-  module _ (g : GroundForm (arityOf e) m form) (h : length form ≤ at) where
+  module _ (g : GroundForm (storedOf e) m form) (h : length form ≤ at) where
     all-noted : begun ≡ m
     unfolding begins
     all-noted =
@@ -193,13 +196,13 @@ module _ (e m : ℕ) (form held₀ held : List ℕ) (at begun due depth : ℕ) (
     at-end : at ≡ length form
     at-end = omega (arith, t .low)
 
-    found : (i : ℕ) → i ≤ m → getD (set held m (33 + at)) i 0 ≡ 33 + startOf (arityOf e) form i
+    found : (i : ℕ) → i ≤ m → getD (set held m (33 + at)) i 0 ≡ 33 + startOf (storedOf e) form i
     found i k = by-cases (ltb i m)
         (λ p. getD-set-other held m i (33 + at) 0 (λ z. omega (arith, ltb-true i m p)) ∙ t .places i (omega (arith, ltb-true i m p, all-noted))
-        ∙ ap (λ (j : ℕ). 33 + j) (begins-at (arityOf e) m form g i (ltb-true i m p)))
+        ∙ ap (λ (j : ℕ). 33 + j) (begins-at (ruleOf e) m form g i (ltb-true i m p)))
         (λ p. let z : i ≡ m = omega (arith, ltb-false i m p) in
         ap (λ (j : ℕ). getD (set held m (33 + at)) j 0) z ∙ getD-set-same held m (33 + at) 0 (omega (arith, t .noted, t .few, t .room))
-        ∙ ap (λ (j : ℕ). 33 + j) (at-end ∙ sym (start-last (arityOf e) m form g) ∙ ap (startOf (arityOf e) form) (sym z)))
+        ∙ ap (λ (j : ℕ). 33 + j) (at-end ∙ sym (start-last (ruleOf e) m form g) ∙ ap (startOf (storedOf e) form) (sym z)))
 
     pub taking-end : Taken e m form held₀ (set held m (33 + at))
     taking-end = record {

@@ -9,6 +9,7 @@ use Rattle.forms.specs.Due.{arguments}
 use Rattle.forms.specs.Terms.{pairs, every}
 use Rattle.forms.specs.Compact.{compact, elements, filled, lastOf, tailOf, inside, into, collected, whole, entered}
 use Rattle.forms.specs.Compact.{items, front, formTerms, pairForm, same}
+use Rattle.forms.specs.Stored.{storedOf}
 use Rattle.plain.specs.Words.{Word}
 use Rattle.plain.specs.Joins.{Terms, declined, formed, matching, copied}
 use Rattle.parts.specs.Parts.{parts, startOf, allFit, fitted}
@@ -39,12 +40,12 @@ terms = nest ∷ plain ∷ tailed ∷ []
 -- the terms and where they begin
 abbrev pub Parted : Type 0
 Parted =
-    (parts (arityOf 1) form ≡ terms)
-    × (map (startOf (arityOf 1) form) (0 ∷ 1 ∷ 2 ∷ 3 ∷ []) ≡ 0 ∷ 9 ∷ 11 ∷ 16 ∷ [])
+    (parts (storedOf 1) form ≡ terms)
+    × (map (startOf (storedOf 1) form) (0 ∷ 1 ∷ 2 ∷ 3 ∷ []) ≡ 0 ∷ 9 ∷ 11 ∷ 16 ∷ [])
 
 pub parted : Parted
-unfolding arityOf shapeOf symbolic tokenOf every compact elements filled lastOf tailOf inside into collected whole
-    entered items front formTerms
+unfolding storedOf arityOf shapeOf symbolic tokenOf every compact elements filled lastOf tailOf inside into collected
+    whole entered items front formTerms
 parted = (refl, refl)
 
 -- in hand
@@ -63,10 +64,10 @@ abbrev pub Counted : Type 0
 Counted =
     (weights (arityOf 1) form ≡ 18 + (allTake (arityOf 1) form + 3))
     × (allTake (arityOf 1) form ≡ 3)
-    × (length (pairForm (arityOf 1) form) ≡ 18)
+    × (length (storedOf 1 .cells form) ≡ 18)
 
 pub counted : Counted
-unfolding weights allTake weight arguments solid arityOf shapeOf symbolic tokenOf every pairs compact elements
+unfolding weights allTake weight arguments solid storedOf arityOf shapeOf symbolic tokenOf every pairs compact elements
     filled lastOf tailOf inside into collected whole entered items front formTerms pairForm
 counted = (refl, refl, refl)
 
@@ -80,10 +81,10 @@ Joined =
     (matching (0 ∷ 0 ∷ 2 ∷ 2 ∷ []) terms terms ≡ true)
     × (matching (0 ∷ 0 ∷ 1 ∷ 2 ∷ []) terms terms ≡ false)
     × (copied (1 ∷ 2 ∷ 0 ∷ 1 ∷ []) terms terms ≡ tailed ++ plain)
-    × (fitted (arityOf 1) (form ∷ ones 126 ∷ []) ≡ formed (form ∷ ones 126 ∷ []))
-    × (fitted (arityOf 1) (form ∷ ones 127 ∷ []) ≡ declined 4)
+    × (fitted (storedOf 1) (form ∷ ones 126 ∷ []) ≡ formed (form ∷ ones 126 ∷ []))
+    × (fitted (storedOf 1) (form ∷ ones 127 ∷ []) ≡ declined 4)
 
 pub joined : Joined
-unfolding matching same copied allFit arityOf shapeOf symbolic tokenOf every pairs filled lastOf tailOf inside into
-    collected whole entered items front formTerms pairForm
+unfolding matching same copied allFit storedOf arityOf shapeOf symbolic tokenOf every pairs filled lastOf tailOf inside
+    into collected whole entered items front formTerms pairForm
 joined = (refl, refl, refl, refl, refl)

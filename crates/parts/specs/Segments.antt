@@ -37,15 +37,15 @@ segment held i = slice (from held i) (until held i) held
 unfoldable pub closing : ℕ → Bool
 closing c = pick (eqb c ELIST) true (eqb c EPAIR)
 
--- the arguments that a symbol takes; a mark takes none, and there is no pair among tokens
+-- the arguments that a symbol takes, and a pair of pair form; a mark takes none
 abbrev pub takes : (ℕ → ℕ) → ℕ → ℕ
 takes arity c = arguments (shapeOf arity c)
 
--- whether a token stands for cells of its own: a symbol for itself and for the pair before it, ELIST for [] and the
--- pair before the last element
+-- whether a token stands for cells of its own: a symbol for itself and, in compact form, for the pair before it; ELIST
+-- for [] and the pair before the last element; a pair of pair form for itself
 unfoldable pub solid : Shape → Bool
 solid (Symbol k) = true
-solid Pair = false
+solid Pair = true
 solid Illegal = false
 
 unfoldable pub weight : (ℕ → ℕ) → ℕ → ℕ

@@ -16,7 +16,7 @@ pub fn closes(c: u32) -> bool
     c == forms::EPAIR
 }
 
-// Twice one for a symbol and for ELIST.
+// Twice one for a symbol, for ELIST and for a pair of pair form.
 fn weight_of(c: u32, edition: u32) -> usize
     ensures { λ r. ⌜ (r ≡ weight (arityOf edition) c) × (r ≤ 2) ⌝ }
 {
@@ -25,7 +25,7 @@ fn weight_of(c: u32, edition: u32) -> usize
     }
     match forms::shape_of(c, edition) {
         forms::Shape::Symbol(_) => return 2,
-        forms::Shape::Pair => return 0,
+        forms::Shape::Pair => return 2,
         forms::Shape::Illegal => return 0,
     }
 }

@@ -7,15 +7,14 @@ use lib.ListN.{length}
 use lib.Dec.{eqb, leb}
 use borrow.Author.Tests.{leb-true, leb-false}
 use Rattle.basis.proofs.Cases.{by-cases}
-use Rattle.forms.specs.Cells.{arityOf}
-use Rattle.forms.specs.Compact.{pairForm, legalForm}
+use Rattle.forms.specs.Stored.{StoredForm, storedOf}
 use native.Mathlib.Omega.{arith}
-use Rattle.forms.proofs.RoundTrip.{legal-parts}
+use Rattle.forms.proofs.StoredLaws.{stored-of}
 use Rattle.forms.specs.Converting.{loading, fitting, fittingTerms, expanding, written}
 use Rattle.forms.specs.declared.Answer as converted
 use Rattle.forms.specs.declared.Answer.the-variants.{Cells, Refused, Short}
 use Rattle.plain.specs.Words.{Word}
-use Rattle.plain.specs.Coding.{compactCoding}
+use Rattle.plain.specs.Coding.{codingOf}
 use Rattle.plain.specs.Requests.{Reply, cells, refused, short}
 use Rattle.trie.specs.Paths.{Path, none, tokens}
 use Rattle.store.specs.Views.{View}
@@ -40,7 +39,7 @@ module _ (test : Word → Bool) (d : Word → Decision) where
 -- ---- load
 
 pub load-lost : (edition : ℕ) (p : Path) (m : ℕ) (out : List ℕ) → p ≡ none → LoadsPath edition p m out 0 out
-load-lost edition p m out e v = leaves-says v _ out (refused 9) (path-lost (legalForm (arityOf edition) m) (λ w. gives (pairForm (arityOf edition) w)) p e)
+load-lost edition p m out e v = leaves-says v _ out (refused 9) (path-lost (storedOf edition .legal m) (λ w. gives (storedOf edition .cells w)) p e)
 
 -- expanding says 13 where loading says 9
 abbrev pub saidLoaded : converted.Answer → Reply
@@ -69,63 +68,66 @@ fitting-said need room r e =
     (λ t. let i : r ≡ Cells need = rw t at e in rw i refl)
     (λ t. let i : r ≡ Short need = rw t at e in rw i refl)
 
-module _ (arity : ℕ → ℕ) (m : ℕ) (w : Word) (out : List ℕ) where
+module _ (form : StoredForm) (m : ℕ) (w : Word) (out : List ℕ) where
   abbrev the-path : Decision
-  the-path = onPath (tokens w) (legalForm arity m) (λ u. gives (pairForm arity u))
+  the-path = onPath (tokens w) (form .legal m) (λ u. gives (form .cells u))
 
-  expanded-illegal : legalForm arity m w ≡ false → (expanding arity m w (length out) ≡ Refused 13) × (the-path ≡ refuses 9)
+  expanded-illegal : form .legal m w ≡ false → (expanding form m w (length out) ≡ Refused 13) × (the-path ≡ refuses 9)
   unfolding expanding fittingTerms loading onPath
   expanded-illegal t = (simp t, simp t)
 
-  expanded-legal : legalForm arity m w ≡ true → (expanding arity m w (length out) ≡ fitting (length (pairForm arity w)) (length out)) × (the-path ≡ gives (pairForm arity w))
+  expanded-legal : form .legal m w ≡ true → (expanding form m w (length out) ≡ fitting (length (form .cells w)) (length out)) × (the-path ≡ gives (form .cells w))
   unfolding expanding fittingTerms loading onPath
   expanded-legal t = (simp t, simp t)
 
-  expanded-fits : (v : View) (r : converted.Answer) (out′ : List ℕ) → r ≡ fitting (length (pairForm arity w)) (length out) → out′ ≡ written r (pairForm arity w) out
-      → Leaves v (gives (pairForm arity w)) out (saidLoaded r) out′
-  expanded-fits v r out′ e f = rw (← (fitting-said (length (pairForm arity w)) (length out) r e)) (gives-fits v (pairForm arity w) out r out′ e f)
+  expanded-fits : (v : View) (r : converted.Answer) (out′ : List ℕ) → r ≡ fitting (length (form .cells w)) (length out) → out′ ≡ written r (form .cells w) out
+      → Leaves v (gives (form .cells w)) out (saidLoaded r) out′
+  expanded-fits v r out′ e f = rw (← (fitting-said (length (form .cells w)) (length out) r e)) (gives-fits v (form .cells w) out r out′ e f)
 
-  pub expanded-path : (r : converted.Answer) (out′ : List ℕ) → r ≡ expanding arity m w (length out) → out′ ≡ written r (pairForm arity w) out → (v : View) → Leaves v the-path out (saidLoaded r) out′
+  pub expanded-path : (r : converted.Answer) (out′ : List ℕ) → r ≡ expanding form m w (length out) → out′ ≡ written r (form .cells w) out → (v : View) → Leaves v the-path out (saidLoaded r) out′
   unfolding written
   expanded-path r out′ e f v =
-      by-cases (legalForm arity m w) (λ t.
+      by-cases (form .legal m w) (λ t.
       let x = expanded-legal t in
-      leaves-same v (gives (pairForm arity w)) the-path out (saidLoaded r) out′ (sym (x .1)) (expanded-fits v r out′ (e ∙ x .0) f)) (λ t.
+      leaves-same v (gives (form .cells w)) the-path out (saidLoaded r) out′ (sym (x .1)) (expanded-fits v r out′ (e ∙ x .0) f)) (λ t.
       let x = expanded-illegal t in
       let i : r ≡ Refused 13 = e ∙ x .0 in
       let j : out′ ≡ out = rw i at f in
       leaves-same v (refuses 9) the-path out (saidLoaded r) out′ (sym (x .1)) (rw (i, j) (leaves-says v (refuses 9) out (refused 9) refl)))
 
-  expanding-numbered : (r : converted.Answer) → r ≡ expanding arity m w (length out) → saidLoaded r ≡ sized (length out) (numbered r)
+  expanding-numbered : (r : converted.Answer) → r ≡ expanding form m w (length out) → saidLoaded r ≡ sized (length out) (numbered r)
   expanding-numbered r e =
-      by-cases (legalForm arity m w)
-      (λ t. fitting-numbered (length (pairForm arity w)) (length out) r (e ∙ expanded-legal t .0))
+      by-cases (form .legal m w)
+      (λ t. fitting-numbered (length (form .cells w)) (length out) r (e ∙ expanded-legal t .0))
       (λ t. let i : r ≡ Refused 13 = e ∙ expanded-illegal t .0 in rw i refl)
 
-  pub numbered-few : (r : converted.Answer) → r ≡ expanding arity m w (length out) → numbered r ≤ 257
+  numbered-few : (form .legal m w ≡ true → length (form .cells w) ≤ 256) → (r : converted.Answer) → r ≡ expanding form m w (length out) → numbered r ≤ 257
   unfolding fitting
-  numbered-few r e =
-      by-cases (legalForm arity m w) (λ t.
-      let l = legal-parts arity m w t .cells in
-      by-cases (leb (length (pairForm arity w)) (length out))
-      (λ b. let i : r ≡ Cells (length (pairForm arity w)) = e ∙ expanded-legal t .0 ∙ simp b in rw i (omega arith))
-      (λ b. let i : r ≡ Short (length (pairForm arity w)) = e ∙ expanded-legal t .0 ∙ simp b in rw i (omega arith)))
+  numbered-few small r e =
+      by-cases (form .legal m w) (λ t.
+      let l = small t in
+      by-cases (leb (length (form .cells w)) (length out))
+      (λ b. let i : r ≡ Cells (length (form .cells w)) = e ∙ expanded-legal t .0 ∙ simp b in rw i (omega arith))
+      (λ b. let i : r ≡ Short (length (form .cells w)) = e ∙ expanded-legal t .0 ∙ simp b in rw i (omega arith)))
       (λ t. let i : r ≡ Refused 13 = e ∙ expanded-illegal t .0 in rw i (omega arith))
 
-pub loaded-numbered : (edition m : ℕ) (w : Word) (out : List ℕ) (r : converted.Answer) (out′ : List ℕ) → r ≡ expanding (arityOf edition) m w (length out) → out′ ≡ written r (pairForm (arityOf edition) w) out
+pub few-loaded : (edition m : ℕ) (w : Word) (out : List ℕ) (r : converted.Answer) → r ≡ expanding (storedOf edition) m w (length out) → numbered r ≤ 257
+few-loaded edition m w out r e = numbered-few (storedOf edition) m w out (λ h. stored-of edition .demand .loaded m w h .0 .cells) r e
+
+pub loaded-numbered : (edition m : ℕ) (w : Word) (out : List ℕ) (r : converted.Answer) (out′ : List ℕ) → r ≡ expanding (storedOf edition) m w (length out) → out′ ≡ written r (storedOf edition .cells w) out
     → LoadsPath edition (tokens w) m out (numbered r) out′
 loaded-numbered edition m w out r out′ e f v =
-    leaves-said v _ out _ _ out′ (expanding-numbered (arityOf edition) m w out r e) (expanded-path (arityOf edition) m w out r out′ e f v)
+    leaves-said v _ out _ _ out′ (expanding-numbered (storedOf edition) m w out r e) (expanded-path (storedOf edition) m w out r out′ e f v)
 
 -- ---- instance
 
 pub instance-lost : (edition : ℕ) (p q : Path) (m : ℕ) (out : List ℕ) → p ≡ none → Instances edition p q m out 0 out
-instance-lost edition p q m out e v = leaves-says v _ out (refused 9) (path-lost (legalForm (arityOf edition) m) (λ w. onPath q (subgoalTest (compactCoding (arityOf edition)) m) (λ u. gives ((compactCoding (arityOf edition)) .instanceOf u w))) p e)
+instance-lost edition p q m out e v = leaves-says v _ out (refused 9) (path-lost (storedOf edition .legal m) (λ w. onPath q (subgoalTest (codingOf edition) m) (λ u. gives ((codingOf edition) .instanceOf u w))) p e)
 
 pub instance-under-lost : (edition : ℕ) (p q : Path) (m : ℕ) (out : List ℕ) → q ≡ none → Instances edition p q m out 0 out
 instance-under-lost edition p q m out e v =
-    leaves-says v _ out (refused 9) (path-behind (legalForm (arityOf edition) m) (λ w. onPath q (subgoalTest (compactCoding (arityOf edition)) m) (λ u. gives ((compactCoding (arityOf edition)) .instanceOf u w))) p
-    (λ w. path-lost (subgoalTest (compactCoding (arityOf edition)) m) (λ u. gives ((compactCoding (arityOf edition)) .instanceOf u w)) q e))
+    leaves-says v _ out (refused 9) (path-behind (storedOf edition .legal m) (λ w. onPath q (subgoalTest (codingOf edition) m) (λ u. gives ((codingOf edition) .instanceOf u w))) p
+    (λ w. path-lost (subgoalTest (codingOf edition) m) (λ u. gives ((codingOf edition) .instanceOf u w)) q e))
 
 -- ---- a task
 

@@ -1,11 +1,11 @@
 -- Whether a path is a legal form, and how many variables it has.
 use Prim.Native.Nat.{ℕ, _+_, _≤_}
-use mathlib.Core.Path.{_≡_, refl, sym}
+use mathlib.Core.Path.{_≡_, refl, sym, ap}
 use mathlib.Core.Bool.{Bool, true, false}
 use mathlib.Core.List.{[], _∷_}
 use native.Mathlib.Omega.{arith}
 use lib.ListN.{length, getD}
-use Rattle.forms.specs.Cells.{arityOf}
+use Rattle.forms.specs.Stored.{storedOf}
 use Rattle.forms.specs.Numbering.{met}
 use Rattle.forms.specs.Converting.{loading}
 use Rattle.forms.specs.declared.Loading.the-variants.{Terms, NoForm}
@@ -13,7 +13,7 @@ use Rattle.plain.specs.Words.{Word}
 use Rattle.trie.specs.Paths.{Path, none}
 use Rattle.plain.specs.Coding.{predicate}
 use Rattle.forms.specs.Cells.{callable}
-use Rattle.forms.proofs.RoundTrip.{legal-parts}
+use Rattle.forms.proofs.StoredLaws.{stored-of}
 use Rattle.instances.proofs.LeavingLaws.{form-refused, form-loaded}
 use Rattle.path_terms.specs.AlongPaths.{formWorth, worth}
 
@@ -30,21 +30,24 @@ begins-first [] r n e = absurd (n refl)
 begins-first (c ∷ w) r n e = e
 
 module _ (edition m : ℕ) (called : Bool) (w : Word) where
-  pub worth-none : NoForm ≡ loading (arityOf edition) m w → 0 ≡ formWorth edition m called w
-  worth-none e = rw (← form-refused (arityOf edition) m w e) refl
+  pub worth-none : NoForm ≡ loading (storedOf edition) m w → 0 ≡ formWorth edition m called w
+  worth-none e = rw (← form-refused (storedOf edition) m w e) refl
 
-  module _ (n variables : ℕ) (e : Terms n ≡ loading (arityOf edition) m w) where
+  module _ (n variables : ℕ) (e : Terms n ≡ loading (storedOf edition) m w) where
     pub few-variables : variables ≡ length (met [] w) → variables ≤ 32
-    few-variables v = omega (arith, v, legal-parts (arityOf edition) m w (sym (form-loaded (arityOf edition) m w n e)) .variables)
+    few-variables v =
+        let h : storedOf edition .legal m w ≡ true = sym (form-loaded (storedOf edition) m w n e) in
+        let laws = stored-of edition in
+        omega (arith, v, laws .demand .loaded m w h .0 .variables, ap length (laws .exact-terms m w (laws .legal-exact m w h) .variables))
 
     pub worth-begun : called ≡ true → predicate w ≡ true → variables ≡ length (met [] w) → variables + 1 ≡ formWorth edition m called w
-    worth-begun c p v = rw (← form-loaded (arityOf edition) m w n e) (rw (c, p, v) refl)
+    worth-begun c p v = rw (← form-loaded (storedOf edition) m w n e) (rw (c, p, v) refl)
 
     pub worth-unbegun : called ≡ true → predicate w ≡ false → 0 ≡ formWorth edition m called w
-    worth-unbegun c p = rw (← form-loaded (arityOf edition) m w n e) (rw (c, p) refl)
+    worth-unbegun c p = rw (← form-loaded (storedOf edition) m w n e) (rw (c, p) refl)
 
     pub worth-answered : called ≡ false → variables ≡ length (met [] w) → variables + 1 ≡ formWorth edition m called w
-    worth-answered c v = rw (← form-loaded (arityOf edition) m w n e) (rw (c, v) refl)
+    worth-answered c v = rw (← form-loaded (storedOf edition) m w n e) (rw (c, v) refl)
 
 pub worth-lost : (edition m : ℕ) (called : Bool) (p : Path) → p ≡ none → 0 ≡ worth edition m called p
 worth-lost edition m called p e = rw e refl

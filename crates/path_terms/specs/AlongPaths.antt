@@ -5,11 +5,9 @@ use mathlib.Core.Bool.{Bool, true, _&&_}
 use mathlib.Core.List.{List, []}
 use lib.ListN.{length}
 use Rattle.basis.specs.Choice.{pick}
-use Rattle.forms.specs.Cells.{arityOf}
-use Rattle.forms.specs.Compact.{pairForm, legalForm}
 use Rattle.forms.specs.Numbering.{met}
 use Rattle.plain.specs.Words.{Word}
-use Rattle.plain.specs.Coding.{predicate}
+use Rattle.plain.specs.Coding.{Coding, predicate, codingOf}
 use Rattle.trie.specs.Paths.{Path, none, tokens}
 use Rattle.trie.specs.Runs.{pathTo}
 use Rattle.trie.specs.declared.End.{End}
@@ -18,13 +16,13 @@ use Rattle.store.specs.Decisions.{Decision, gives, onPath}
 use Rattle.instances.specs.Leaving.{Leaves, sized, Instances}
 
 -- the m terms of an answer's path
-abbrev pub loadedFrom : (ℕ → ℕ) → Path → ℕ → Decision
-loadedFrom arity p m = onPath p (legalForm arity m) (λ w. gives (pairForm arity w))
+abbrev pub loadedFrom : Coding → Path → ℕ → Decision
+loadedFrom c p m = onPath p (c .legal m) (λ w. gives (c .expand w))
 
 -- the terms of a path were written to out, as a number says
 abbrev pub LoadsPath : ℕ → Path → ℕ → List ℕ → ℕ → List ℕ → Type 0
 LoadsPath edition p m out r out′ =
-    (v : View) → Leaves v (loadedFrom (arityOf edition) p m) out (sized (length out) r) out′
+    (v : View) → Leaves v (loadedFrom (codingOf edition) p m) out (sized (length out) r) out′
 
 -- those of a form, or of the path to an end
 abbrev pub LoadsOf : List ℕ → ℕ → ℕ → List ℕ → ℕ → List ℕ → Type 0
@@ -37,7 +35,7 @@ LoadsTo cs e m edition out r out′ = LoadsPath edition (pathTo cs e) m out r ou
 -- to be called and begins with neither an atom nor a functor
 abbrev pub formWorth : (edition m : ℕ) → Bool → Word → ℕ
 formWorth edition m called w =
-    pick (legalForm (arityOf edition) m w && pick called (predicate w) true) (length (met [] w) + 1) 0
+    pick (codingOf edition .legal m w && pick called (predicate w) true) (length (met [] w) + 1) 0
 
 -- the same of a path, which may be damaged
 abbrev pub worth : (edition m : ℕ) → Bool → Path → ℕ

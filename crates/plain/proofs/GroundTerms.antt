@@ -1,4 +1,4 @@
--- Ground terms of stored forms, put together: in compact form they are terms again, and hold no variable.
+-- Ground terms of stored forms, put together: they are terms again, and hold no variable.
 use Prim.Native.Nat.{ℕ, zero, suc, _≤_, _<_}
 use mathlib.Core.Bool.{true}
 use mathlib.Core.List.{List, [], _∷_, _++_, map}
@@ -10,12 +10,12 @@ use Rattle.basis.proofs.Cases.{by-cases}
 use Rattle.forms.specs.Cells.{variable, shapeOf}
 use Rattle.forms.specs.Terms.{Term, pairs, every, areTerms}
 use Rattle.forms.specs.Numbering.{rank, seen, met}
-use Rattle.forms.specs.Compact.{formTerms, pairForm}
+use Rattle.forms.specs.Stored.{StoredForm}
 use Rattle.forms.proofs.ReadLaws.{WellFormed, AllWellFormed}
 use Rattle.forms.proofs.NumberingLaws.{met-append}
-use Rattle.forms.proofs.ExactLaws.{pairs-terms, forms-well-formed, forms-compact}
-use Rattle.forms.proofs.RoundTrip.{pair-variables, legal-parts}
-use Rattle.plain.specs.Coding.{compactCoding}
+use Rattle.forms.proofs.ExactLaws.{pairs-terms}
+use Rattle.forms.proofs.StoredLaws.{ExactTerms, StoredLaws}
+use Rattle.plain.specs.Coding.{codedAs}
 use Rattle.plain.specs.CodingLaws.{GroundTerm, GroundTerms, none, one}
 
 -- ---- cells without variables
@@ -47,7 +47,7 @@ ground-both xs ys e f = ap length (met-append xs ys []) ∙ subst (λ (vs : List
 
 -- ---- terms
 
-module _ (arity : ℕ → ℕ) where
+module _ (arity : ℕ → ℕ) (s : StoredForm) (laws : StoredLaws arity s) where
   -- a term without variables whose pair form these cells are
   abbrev TermOf : List ℕ → Type 0
   TermOf ks = (t : Term) × WellFormed (shapeOf arity) t 0 × (length (met [] ks) ≡ 0) × (ks ≡ pairs t)
@@ -58,19 +58,17 @@ module _ (arity : ℕ → ℕ) where
   term-at (t ∷ ts) zero a g h = (t, a .0, ground-parts (pairs t) (every pairs ts) g .0, refl)
   term-at (t ∷ ts) (suc i) a g h = term-at ts i (a .1) (ground-parts (pairs t) (every pairs ts) g .1) (omega arith)
 
-  term-of : {ks : List ℕ} → GroundTerm (compactCoding arity) ks → TermOf ks
-  unfolding pairForm
+  term-of : {ks : List ℕ} → GroundTerm (codedAs arity s) ks → TermOf ks
   term-of g =
-      let p = legal-parts arity (g .m) (g .form) (g .legal) .forms in
-      let n = forms-compact arity (g .m) (g .form) p .0 in
-      rw (g .is) (term-at (formTerms arity (g .form)) (g .place) (forms-well-formed arity (g .form))
-      (ap length (pair-variables arity (g .m) (g .form) p) ∙ g .ground) (omega (arith, g .inside)))
+      let x : ExactTerms arity s (g .m) (g .form) = laws .exact-terms (g .m) (g .form) (laws .legal-exact (g .m) (g .form) (g .legal)) in
+      rw (g .is) (term-at (s .terms (g .form)) (g .place) (x .well-formed)
+      (ap (λ (l : List ℕ). length (met [] l)) (sym (x .cells)) ∙ ap length (x .variables) ∙ g .ground) (omega (arith, g .inside, x .count)))
 
   -- several
   abbrev ReadTerms : ℕ → List ℕ → Type 0
   ReadTerms m ks = (ts : List Term) × AllWellFormed (shapeOf arity) ts × (length ts ≡ m) × (length (met [] ks) ≡ 0) × (ks ≡ every pairs ts)
 
-  terms-of : {m : ℕ} {ks : List ℕ} → GroundTerms (compactCoding arity) m ks → ReadTerms m ks
+  terms-of : {m : ℕ} {ks : List ℕ} → GroundTerms (codedAs arity s) m ks → ReadTerms m ks
   unfolding every met
   terms-of none = ([], tt, refl, refl, refl)
   terms-of (one {ks = ks} {rest = rest} g more) =
@@ -78,5 +76,5 @@ module _ (arity : ℕ → ℕ) where
       let r = terms-of more in
       (t .0 ∷ r .0, (t .1, r .1), ap suc (r .2), ground-both ks rest (t .2) (r .3), ap (λ (x : List ℕ). x ++ rest) (t .3) ∙ ap (λ (x : List ℕ). pairs (t .0) ++ x) (r .4))
 
-  pub ground-read : {m : ℕ} {ks : List ℕ} → GroundTerms (compactCoding arity) m ks → (areTerms arity m ks ≡ true) × (length (met [] ks) ≡ 0)
+  pub ground-read : {m : ℕ} {ks : List ℕ} → GroundTerms (codedAs arity s) m ks → (areTerms arity m ks ≡ true) × (length (met [] ks) ≡ 0)
   ground-read {m} g = let r = terms-of g in (rw (r .4) (pairs-terms arity m (r .0) (r .1) (r .2)), r .3)

@@ -13,22 +13,20 @@ use Rattle.basis.proofs.Cases.{by-cases}
 use Rattle.forms.specs.Cells.{kind, payload, tag, PAIR, variable, shapeOf}
 use Rattle.forms.specs.Terms.{Term, cell, arg, pair, pairs, every, reads}
 use Rattle.forms.specs.Numbering.{rank, met, renamed, numbered}
-use Rattle.forms.specs.Compact.{compactForm, formTerms, pairForm}
+use Rattle.forms.specs.Stored.{StoredForm}
 use Rattle.forms.specs.Promises.{Legal}
-use Rattle.forms.proofs.ReadLaws.{reads-well-formed}
 use Rattle.forms.proofs.NumberingLaws.{mapped, rank-le, met-length, numbered-reads, numbered-renamed, In, Each, each-met}
-use Rattle.forms.proofs.ExactLaws.{terms-pairs, forms-every}
-use Rattle.forms.proofs.RoundTrip.{form-variables}
-use Rattle.forms.proofs.Theorems.{stored}
+use Rattle.forms.proofs.ExactLaws.{terms-pairs}
+use Rattle.forms.proofs.StoredLaws.{ExactTerms, StoredLaws}
 use Rattle.plain.specs.Words.{Word}
-use Rattle.plain.specs.Coding.{Coding, Reading, refused, accepted, substituted, compactCoding}
+use Rattle.plain.specs.Coding.{Coding, Reading, refused, accepted, substituted, codedAs}
 use Rattle.plain.specs.CodingLaws.{CodingLaws}
 use Rattle.plain.specs.Requests.{Request, call, answer, instance, Result, left}
 use Rattle.plain.specs.Table.{Table, Subgoal, Answer, fresh, subgoalAt, answerAt, subgoalOfAnswer, withSubgoal, withAnswer, withEntry, called, answered, writes, step}
 use Rattle.plain.specs.Consequences.{Gives, reached}
 use Rattle.plain.specs.InstanceMeaning.{replaced, termCells, instantiated, Got, Instancing}
 use Rattle.plain.proofs.Instances.{spread, substituted-every}
-use Rattle.plain.proofs.CompactCoding.{called-form, answered-form, compact-laws}
+use Rattle.plain.proofs.StoredCoding.{called-form, answered-form, form-variables, form-terms, stored-laws}
 use Rattle.plain.proofs.NumberLaws.{Called, Given}
 use Rattle.plain.proofs.RecordLaws.{subgoalAt-new, subgoals-count, answerAt-new, settled-answerAt, entry-count, entry-subgoals, entry-lasts}
 use Rattle.plain.proofs.Changes.{known-cases, appended-cases, called-cases, answered-cases}
@@ -102,7 +100,7 @@ module _ (vs ws : List ℕ) (us : List Term) (few : length vs ≤ 32) (as-many :
 
 -- ---- instances of forms
 
-module _ (arity : ℕ → ℕ) (term terms : List ℕ) (m : ℕ) (one : Legal arity 1 term) (many : Legal arity m terms) (count : length (met [] term) ≡ m) where
+module _ (arity : ℕ → ℕ) (form : StoredForm) (laws : StoredLaws arity form) (term terms : List ℕ) (m : ℕ) (one : Legal arity 1 term) (many : Legal arity m terms) (count : length (met [] term) ≡ m) where
   abbrev vs : List ℕ
   vs = met [] term
 
@@ -113,24 +111,25 @@ module _ (arity : ℕ → ℕ) (term terms : List ℕ) (m : ℕ) (one : Legal ar
   abbrev us : List Term
   us = reads (shapeOf arity) terms
 
-  form-instance : compactCoding arity .instanceOf (compactForm arity term) (compactForm arity terms) ≡ map (renamed ws) (replaced vs (map pairs us) term)
+  form-instance : codedAs arity form .instanceOf (form .form term) (form .form terms) ≡ map (renamed ws) (replaced vs (map pairs us) term)
   form-instance =
-      let stored-terms : formTerms arity (compactForm arity terms) ≡ map (mapped (renamed ws)) us =
-      unfold compactForm in forms-every arity (reads (shapeOf arity) (numbered terms)) (reads-well-formed (shapeOf arity) (numbered terms)) ∙ numbered-reads arity terms (many .cells) in
-      let stored-term : every pairs (formTerms arity (compactForm arity term)) ≡ map (renamed vs) term =
-      unfold pairForm numbered in stored arity 1 term one .1 in
-      substituted-every (formTerms arity (compactForm arity terms)) (formTerms arity (compactForm arity term))
-      ∙ ap (spread (formTerms arity (compactForm arity terms))) stored-term
+      let stored-terms : form .terms (form .form terms) ≡ map (mapped (renamed ws)) us =
+      form-terms arity form laws m terms many ∙ numbered-reads arity terms (many .cells) in
+      let f = laws .demand .stored 1 term one in
+      let x : ExactTerms arity form 1 (form .form term) = laws .exact-terms 1 (form .form term) (laws .legal-exact 1 (form .form term) (f .0)) in
+      let stored-term : every pairs (form .terms (form .form term)) ≡ map (renamed vs) term = sym (x .cells) ∙ (unfold numbered in f .1) in
+      substituted-every (form .terms (form .form terms)) (form .terms (form .form term))
+      ∙ ap (spread (form .terms (form .form terms))) stored-term
       ∙ ap (λ (l : List Term). spread l (map (renamed vs) term)) stored-terms
       ∙ spread-numbered vs ws us (one .variables) (terms-pairs arity m terms (many .terms) .0 ∙ sym count) term (each-met term [])
 
-  pub instance-given : compactCoding arity .instanceOf (compactForm arity term) (compactForm arity terms) ≡ instantiated arity term terms
+  pub instance-given : codedAs arity form .instanceOf (form .form term) (form .form terms) ≡ instantiated arity term terms
   unfolding instantiated termCells
   instance-given =
       let as-many : length us ≡ length vs = terms-pairs arity m terms (many .terms) .0 ∙ sym count in
       let inside : Each ws (every pairs us) = rw (← (terms-pairs arity m terms (many .terms) .1)) (each-met terms []) in
-      let variables : length (met [] (compactForm arity term)) ≡ m = form-variables arity 1 term (one .terms) (one .cells) ∙ count in
-      let numbers = compact-laws arity .instance-numbered (compactForm arity term) (compactForm arity terms) (stored arity 1 term one .0) (rw variables (stored arity m terms many .0)) in
+      let variables : length (met [] (form .form term)) ≡ m = form-variables arity form laws 1 term one ∙ count in
+      let numbers = stored-laws arity form laws .instance-numbered (form .form term) (form .form terms) (laws .demand .stored 1 term one .0) (rw variables (laws .demand .stored m terms many .0)) in
       sym numbers ∙ ap numbered form-instance
       ∙ numbered-renamed ws (replaced vs (map pairs us) term) (omega (arith, many .variables))
       (each-replaced vs ws us (one .variables) as-many term (each-met term []) inside)
@@ -229,21 +228,21 @@ instance-writes : (c : Coding) (t : Table) (b : ℕ) (ks out : List ℕ) → 0 <
 unfolding step
 instance-writes c t b ks out low high e = rw (lt-ltb 0 b low, le-leb b (length (t .answers)) high, e)
 
-pub instancing : (arity : ℕ → ℕ) → Instancing arity
-instancing arity n f a pos calls term terms s b out got-s got-b =
-    let c : Coding = compactCoding arity in
+pub instancing : (arity : ℕ → ℕ) (form : StoredForm) → StoredLaws arity form → Instancing arity form
+instancing arity form laws n f a pos calls term terms s b out got-s got-b =
+    let c : Coding = codedAs arity form in
     let t : Table = reached c n f a calls in
     let x = calls-grow c term _ t s (got-grows c n f a calls (call term) s got-s) (call-gives c term (reached c n f a (got-s .before)) s (got-s .gives)) in
     let y = answers-grow c terms _ t s b (got-grows c n f a calls (answer s terms) b got-b) (answer-gives c terms (reached c n f a (got-b .before)) s b (got-b .gives)) in
     let m : ℕ = subgoalAt t s .m in
-    let p = called-form arity term (x .0) (x .1) (x .2) in
-    let q = answered-form arity m terms (y .0) (y .1) (y .2) in
+    let p = called-form arity form laws term (x .0) (x .1) (x .2) in
+    let q = answered-form arity form laws m terms (y .0) (y .1) (y .2) in
     let held = sound-reached c n f a pos calls .called s (x .3 .low) (x .3 .high) in
-    let count : length (met [] (subgoalAt t s .form)) ≡ m = compact-laws arity .called-variables (held .0) (subgoalAt t s .form) m (held .1) .0 in
-    let form : subgoalAt t s .form ≡ compactForm arity term = x .3 .form ∙ sym (p .2) in
-    let variables : length (met [] term) ≡ m = sym (form-variables arity 1 term (p .0 .terms) (p .0 .cells)) ∙ ap (λ (l : Word). length (met [] l)) (sym form) ∙ count in
+    let count : length (met [] (subgoalAt t s .form)) ≡ m = stored-laws arity form laws .called-variables (held .0) (subgoalAt t s .form) m (held .1) .0 in
+    let held-form : subgoalAt t s .form ≡ form .form term = x .3 .form ∙ sym (p .2) in
+    let variables : length (met [] term) ≡ m = sym (form-variables arity form laws 1 term (p .0)) ∙ ap (λ (l : Word). length (met [] l)) (sym held-form) ∙ count in
     instance-writes c t b (instantiated arity term terms) out (y .3 .low) (y .3 .high)
     (ap (λ (k : ℕ). c .instanceOf (subgoalAt t k .form) (answerAt t b .form)) (y .3 .subgoal)
-    ∙ ap (λ (w : Word). c .instanceOf w (answerAt t b .form)) form
-    ∙ ap (λ (w : Word). c .instanceOf (compactForm arity term) w) (y .3 .form ∙ sym (q .1))
-    ∙ instance-given arity term terms m (p .0) (q .0) variables)
+    ∙ ap (λ (w : Word). c .instanceOf w (answerAt t b .form)) held-form
+    ∙ ap (λ (w : Word). c .instanceOf (form .form term) w) (y .3 .form ∙ sym (q .1))
+    ∙ instance-given arity form laws term terms m (p .0) (q .0) variables)

@@ -6,7 +6,7 @@ pub mod Keys
 pub mod AfterLaws
 pub mod Instances
 pub mod GroundTerms
-pub mod CompactCoding
+pub mod StoredCoding
 pub mod NumberLaws
 pub mod RecordLaws
 pub mod Counted
@@ -25,3 +25,6 @@ pub mod Exchanges
 pub mod OrderRuledOut
 pub mod Theorems
 pub mod InstanceMeaning
+pub mod Alike
+pub mod StoredAlike
+pub mod ListNodes

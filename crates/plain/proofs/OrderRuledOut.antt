@@ -13,8 +13,9 @@ use Rattle.forms.specs.Numbering.{rank, seen, met, renamed, numbered}
 use Rattle.forms.specs.Compact.{compact, elements, compactForm, filled, lastOf, tailOf, inside, into, collected, whole}
 use Rattle.forms.specs.Compact.{entered, items, front, formTerms, pairForm, same}
 use Rattle.forms.specs.Converting.{reading}
+use Rattle.forms.specs.Stored.{storedOf}
 use Rattle.plain.specs.Words.{has, add, union, inits, allInits, prefixes, distinct}
-use Rattle.plain.specs.Coding.{judged, handedOn, predicate, compacted, codingOf}
+use Rattle.plain.specs.Coding.{judged, handedOn, predicate, taken, codingOf}
 use Rattle.plain.specs.Requests.{Request, call, answer, Counts, Reply, at, noneYet, noMore, lacksNext, State, Open, Finished, Result, Seen, trace, left}
 use Rattle.plain.specs.Table.{settled, Table, fresh, noSubgoal, noAnswer, subgoalAt, answerAt, answersTo, answerNodes}
 use Rattle.plain.specs.Table.{nodes, counted, number, subgoalOf, answerOf, after, following, starting, onward}
@@ -50,7 +51,7 @@ loads-differ : (x : State) (ns ms : List ℕ) → HandsOut numberStored one 1 x 
     → trace numberStored counted one (loadsOf ns (0 ∷ [])) ≡ trace numberStored counted two (loadsOf ms (0 ∷ [])) → ⊥
 unfolding left trace step counted settled called answered fits appended starting onward writes nodes answerNodes answersTo
     number subgoalOf answerOf after following subgoalAt answerAt noSubgoal noAnswer distinct prefixes union add has
-    allInits inits judged handedOn reading callable predicate compacted compactForm areTerms pairForm formTerms front
+    allInits inits judged handedOn reading callable predicate taken storedOf compactForm areTerms pairForm formTerms front
     symbolic tokenOf items entered filled lastOf tailOf into inside collected whole reads begun applied paired shapeOf
     arityOf every compact elements pairs numbered renamed met seen rank same
 loads-differ Open [] ms a b e = let a′ : at 1 ≡ noneYet = a in let z : _≡_ {A = ℕ} 0 1 = cc in omega arith
@@ -70,7 +71,7 @@ loads-differ x (n ∷ ns) (m ∷ ms) a b e =
 exchanged : Exchanged numberStored (fresh 9 2 2) (bothWith toFirst toSecond) (bothWith toSecond toFirst)
 unfolding left trace step counted settled called answered fits appended nodes answerNodes answersTo number subgoalOf answerOf
     subgoalAt answerAt noSubgoal noAnswer distinct prefixes union add has allInits inits judged handedOn reading
-    callable predicate compacted compactForm areTerms pairForm formTerms front symbolic tokenOf items entered filled
+    callable predicate taken storedOf compactForm areTerms pairForm formTerms front symbolic tokenOf items entered filled
     lastOf tailOf into inside collected whole reads begun applied paired shapeOf arityOf every compact elements pairs
     numbered renamed met seen rank same
 exchanged = behind _ _ _ _ (behind _ _ _ _ (exchange _ _ _ _ _ _ (record {
@@ -82,7 +83,7 @@ exchanged = behind _ _ _ _ (behind _ _ _ _ (exchange _ _ _ _ _ _ (record {
 number-stored : ArrivalOrder numberStored counted (fresh 9 2 2) → ⊥
 unfolding left step counted settled called answered fits appended nodes answerNodes answersTo number subgoalOf answerOf
     subgoalAt answerAt noSubgoal noAnswer distinct prefixes union add has allInits inits judged handedOn reading
-    callable predicate compacted compactForm areTerms pairForm formTerms front symbolic tokenOf items entered filled
+    callable predicate taken storedOf compactForm areTerms pairForm formTerms front symbolic tokenOf items entered filled
     lastOf tailOf into inside collected whole reads begun applied paired shapeOf arityOf every compact elements pairs
     numbered renamed met seen rank same
 number-stored h =
@@ -95,7 +96,7 @@ number-stored h =
 exchanged-own : Exchanged (step (codingOf 1)) (fresh 9 2 2) (bothWith toFirst toSecond) (bothWith toSecond toFirst)
 unfolding left trace step counted settled called answered fits appended nodes answerNodes answersTo number subgoalOf answerOf
     subgoalAt answerAt noSubgoal noAnswer distinct prefixes union add has allInits inits judged handedOn reading
-    callable predicate compacted compactForm areTerms pairForm formTerms front symbolic tokenOf items entered filled
+    callable predicate taken storedOf compactForm areTerms pairForm formTerms front symbolic tokenOf items entered filled
     lastOf tailOf into inside collected whole reads begun applied paired shapeOf arityOf every compact elements pairs
     numbered renamed met seen rank same
 exchanged-own = behind _ _ _ _ (behind _ _ _ _ (exchange _ _ _ _ _ _ (record {
@@ -107,7 +108,7 @@ exchanged-own = behind _ _ _ _ (behind _ _ _ _ (exchange _ _ _ _ _ _ (record {
 last-counted : ArrivalOrder (step (codingOf 1)) lastCounted (fresh 9 2 2) → ⊥
 unfolding left step settled called answered fits appended nodes answerNodes answersTo number subgoalOf answerOf subgoalAt
     answerAt noSubgoal noAnswer distinct prefixes union add has allInits inits judged handedOn reading callable
-    predicate compacted compactForm areTerms pairForm formTerms front symbolic tokenOf items entered filled lastOf
+    predicate taken storedOf compactForm areTerms pairForm formTerms front symbolic tokenOf items entered filled lastOf
     tailOf into inside collected whole reads begun applied paired shapeOf arityOf every compact elements pairs
     numbered renamed met seen rank same
 last-counted h =

@@ -13,7 +13,7 @@ use Rattle.basis.specs.Choice.{pick}
 use Rattle.basis.proofs.Cases.{by-cases}
 use Rattle.forms.specs.Numbering.{met, numbered}
 use Rattle.plain.specs.Words.{Word, has}
-use Rattle.plain.specs.Coding.{Coding, Reading, refused, accepted, compactCoding}
+use Rattle.plain.specs.Coding.{Coding, Reading, refused, accepted, compactCoding, pairCoding}
 use Rattle.plain.specs.CodingLaws.{CodingLaws}
 use Rattle.plain.specs.Requests.{Finished, call, answer, finish, load, instance, new, oldAnswer, done, cells, refused, Reply, Result, left}
 use Rattle.plain.specs.Table.{Table, Subgoal, Answer, subgoalAt, answerAt, subgoalOfAnswer, answersTo, answerOf, withSubgoal, withAnswer, withEntry, called, answered, writes, step}
@@ -22,7 +22,7 @@ use Rattle.plain.proofs.NumberLaws.{Given, answerOf-none, answerOf-some
 use Rattle.plain.proofs.EnteringLaws.{given-held}
 use Rattle.plain.proofs.RecordLaws.{subgoalAt-new, subgoals-count, answerAt-new, subgoalAt-finished, finished-count, settled-answerAt, entry-count, entry-subgoals, entry-lasts, entry-own}
 use Rattle.plain.proofs.Changes.{known-cases, appended-cases, called-cases, answered-cases, writes-cases, refusing, refusing-by}
-use Rattle.plain.proofs.CompactCoding.{compact-laws}
+use Rattle.plain.proofs.StoredCoding.{compact-laws, pair-laws}
 use Rattle.plain.proofs.Growth.{Grows, grows-trans, step-grows, left-grows}
 use Rattle.plain.proofs.Soundness.{Sound, sound-step, sound-left, sound-reached, keeping}
 use Rattle.plain.proofs.NextLaws.{visiting}
@@ -333,3 +333,6 @@ consequences c laws = record {
 
 pub compact-consequences : (arity : ℕ → ℕ) → Consequences (compactCoding arity)
 compact-consequences arity = consequences (compactCoding arity) (compact-laws arity)
+
+pub pair-consequences : (arity : ℕ → ℕ) → Consequences (pairCoding arity)
+pair-consequences arity = consequences (pairCoding arity) (pair-laws arity)

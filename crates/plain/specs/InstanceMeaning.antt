@@ -8,7 +8,8 @@ use Rattle.basis.specs.Choice.{pick}
 use Rattle.forms.specs.Cells.{variable, shapeOf}
 use Rattle.forms.specs.Terms.{pairs, reads}
 use Rattle.forms.specs.Numbering.{rank, met, numbered}
-use Rattle.plain.specs.Coding.{Coding, compactCoding}
+use Rattle.forms.specs.Stored.{StoredForm}
+use Rattle.plain.specs.Coding.{Coding, codedAs}
 use Rattle.plain.specs.Requests.{Request, call, answer, instance}
 use Rattle.plain.specs.Table.{writes, step}
 use Rattle.plain.specs.Consequences.{Gives, reached}
@@ -37,9 +38,9 @@ pub record Got (c : Coding) (n f a : ℕ) (calls : List Request) (q : Request) (
   pub listed : calls ≡ before ++ (q ∷ behind)
   pub gives : Gives i (step c (reached c n f a before) q .reply)
 
-module _ (arity : ℕ → ℕ) where
+module _ (arity : ℕ → ℕ) (form : StoredForm) where
   abbrev c : Coding
-  c = compactCoding arity
+  c = codedAs arity form
 
   -- In a table left by any list of calls: where a term was called and is subgoal s, and terms answered s and are answer
   -- b, in either order and among any other calls, instance writes the one with the others in it.

@@ -5,9 +5,12 @@ pub mod Requests
 pub mod Joins
 pub mod Table
 pub mod Consequences
+pub mod Alike
+pub mod ListNodes
 pub mod Order
 pub mod Examples
 pub mod InstanceMeaning
 pub mod InstanceExamples
 pub mod JoinExamples
 pub mod OrderExamples
+pub mod PairExamples

@@ -11,7 +11,8 @@ use Rattle.forms.specs.Cells.{arityOf, callable, shapeOf, symbolic, tokenOf}
 use Rattle.forms.specs.Terms.{pairs, every, applied, paired, begun, reads, areTerms}
 use Rattle.forms.specs.Converting.{reading}
 use Rattle.forms.specs.Compact.{areForms, legalForm}
-use Rattle.plain.specs.Coding.{judged, handedOn, predicate, compacted, substituted}
+use Rattle.forms.specs.Stored.{storedOf}
+use Rattle.plain.specs.Coding.{judged, handedOn, predicate, taken, substituted}
 use Rattle.space.specs.Layout.{sizesOf, endOffset, subgoalWidth, answerWidth}
 use Rattle.space.specs.Heading.{inRange, capacity, whole, counted, headerOf, spaceHeader}
 use Rattle.space.specs.Fresh.{freshCells, freshFits, freshSpace, freshSpaceIn}
@@ -121,7 +122,7 @@ unfolding linesFrom session saidOf means wordMeans fields valueFrom numeral hexC
     walkFromBy walkBy gather leadCell appendNode appendPath calledOld calledNew calledAt calledBy answeredNew
     answeredOld answeredAt answeredBy starting handed onward onPath loaded instanced decideBy subgoalEntered
     answerEntered changeBy reply outAfter underBy underAnyBy spaceStepBy areForms legalForm judged handedOn reading
-    callable predicate compacted substituted compactForm areTerms pairForm formTerms front symbolic tokenOf items
+    callable predicate taken storedOf substituted compactForm areTerms pairForm formTerms front symbolic tokenOf items
     entered filled lastOf tailOf into inside collected reads begun applied paired shapeOf arityOf every compact
     elements pairs numbered renamed met seen rank same whole
 worked = refl

@@ -9,6 +9,7 @@ use borrow.Author.Tests.{eq-eqb, ne-eqb}
 use Rattle.forms.specs.Numbering.{met}
 use Rattle.basis.proofs.Cases.{by-cases}
 use Rattle.forms.specs.Cells.{arityOf}
+use Rattle.forms.specs.Stored.{storedOf}
 use Rattle.forms.specs.Compact.{legalForm}
 use Rattle.plain.specs.Words.{Word}
 use Rattle.plain.specs.Coding.{codingOf}
@@ -38,16 +39,16 @@ module _ (edition m : ℕ) where
   path-broken none n e z later = refl
   path-broken (tokens w) n e z broken = refl
   path-broken (tokens w) n e z (unbroken ws) =
-      by-cases (legalForm (arityOf edition) m w)
+      by-cases (storedOf edition .legal m w)
       (λ l. let d : n ≡ length (met [] w) + 1 = rw l at e in absurd (omega arith))
       (λ l. rw l refl)
 
   -- a form that is worth something
   held : (p : Path) (n : ℕ) → n ≡ worth edition m false p → (n ≡ 0 → ⊥)
-      → (w : Word) × (p ≡ tokens w) × (legalForm (arityOf edition) m w ≡ true) × (n ≡ length (met [] w) + 1)
+      → (w : Word) × (p ≡ tokens w) × (storedOf edition .legal m w ≡ true) × (n ≡ length (met [] w) + 1)
   held none n e z = absurd (z e)
   held (tokens w) n e z =
-      by-cases (legalForm (arityOf edition) m w)
+      by-cases (storedOf edition .legal m w)
       (λ l. (w, refl, l, rw l at e))
       (λ l. let d : n ≡ 0 = rw l at e in absurd (z d))
 
@@ -90,7 +91,7 @@ module _ (cs : List ℕ) (h : Head) (s a : ℕ) (z : a ≡ 0 → ⊥) where
     module _ (o : y .subgoal ≡ s) (g : Subgoal) (f : g ≡ subgoalUnder cs h s) where
       -- the chain from a on: its path before what follows
       from-here : (steps : ℕ) → chainIn cs h s (suc steps) a
-          ≡ headed (legalForm (arityOf (h .edition)) (g .variables)) (pathTo cs (endOf h g y)) (chainIn cs h s steps (y .next))
+          ≡ headed (storedOf (h .edition) .legal (g .variables)) (pathTo cs (endOf h g y)) (chainIn cs h s steps (y .next))
       unfolding chainFrom
       from-here steps =
           rw (f, read .0)
@@ -105,8 +106,8 @@ module _ (cs : List ℕ) (h : Head) (s a : ℕ) (z : a ≡ 0 → ⊥) where
         (
           p .0,
           p .3,
-          λ steps. from-here steps ∙ ap (λ (q : Path). headed (legalForm (arityOf (h .edition)) (g .variables)) q (chainIn cs h s steps (y .next))) (p .1)
-              ∙ headed-legal (legalForm (arityOf (h .edition)) (g .variables)) (p .0) (p .2) (chainIn cs h s steps (y .next)),
+          λ steps. from-here steps ∙ ap (λ (q : Path). headed (storedOf (h .edition) .legal (g .variables)) q (chainIn cs h s steps (y .next))) (p .1)
+              ∙ headed-legal (storedOf (h .edition) .legal (g .variables)) (p .0) (p .2) (chainIn cs h s steps (y .next)),
         ),
       )
         where

@@ -7,6 +7,7 @@ use lib.Dec.{eqb}
 use lib.ListN.{length}
 use Rattle.forms.specs.Cells.{arityOf}
 use Rattle.forms.specs.Compact.{legalForm}
+use Rattle.forms.specs.Stored.{storedOf}
 use Rattle.forms.specs.Numbering.{met}
 use Rattle.plain.specs.Words.{Word}
 use Rattle.plain.specs.Coding.{codingOf}
@@ -28,11 +29,11 @@ free w = eqb (length (met [] w)) 0
 
 -- the path is no form of m legal terms: whatever follows, the chain is broken
 abbrev pub PathBroken : ℕ → Path → ℕ → Type 0
-PathBroken edition p m = (later : Chain) → headed (legalForm (arityOf edition) m) p later ≡ broken
+PathBroken edition p m = (later : Chain) → headed (storedOf edition .legal m) p later ≡ broken
 
 -- it is such a form, and holds no variable or some
 abbrev pub PathHeld : ℕ → Path → ℕ → Bool → Type 0
-PathHeld edition p m b = (w : Word) × (p ≡ tokens w) × (legalForm (arityOf edition) m w ≡ true) × (free w ≡ b)
+PathHeld edition p m b = (w : Word) × (p ≡ tokens w) × (storedOf edition .legal m w ≡ true) × (free w ≡ b)
 
 abbrev pub PathJudged : ℕ → Path → ℕ → Judged → Type 0
 PathJudged edition p m Damaged = PathBroken edition p m

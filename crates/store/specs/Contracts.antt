@@ -9,7 +9,8 @@ use Rattle.convert.specs.Holds.{Reads}
 use Rattle.forms.specs.Cells.{arityOf}
 use Rattle.forms.specs.declared.Reading.{Reading}
 use Rattle.forms.specs.declared.Reading.the-variants.{Form, Refusal}
-use Rattle.plain.specs.Coding.{codingOf, judged, compacted}
+use Rattle.forms.specs.Stored.{storedOf}
+use Rattle.plain.specs.Coding.{codingOf, judged, taken}
 use Rattle.plain.specs.Requests.{Request, Reply}
 use Rattle.space.specs.Layout.{sizesOf}
 use Rattle.space.specs.Sound.{Bounds, subgoalUnder}
@@ -75,7 +76,8 @@ answeredFrom find s root w v = answeredAt v s w (walkBy find (answerTrie v) root
 
 abbrev pub answeredTerms : Finding → Head → ℕ → ℕ → List ℕ → View → Decision
 answeredTerms find h s m terms v =
-    answeredBy find v s (judged (arityOf (h .edition)) m terms (compacted (arityOf (h .edition)) terms))
+    let e = h .edition in
+    answeredBy find v s (judged (arityOf e) (storedOf e) m terms (taken (storedOf e) terms))
 
 -- the form that the reader of terms left is within the cells that were lent to it
 abbrev pub FormIn : List ℕ → Reading → Type 0

@@ -2,7 +2,7 @@
 use Prim.Native.Nat.{ℕ, zero, suc, _+_, _*_, _^_, _≤_, _<_}
 use mathlib.Core.Bool.{Bool, true, false, _&&_}
 use mathlib.Core.List.{List, [], _∷_, map}
-use mathlib.Core.Path.{_≡_, refl}
+use mathlib.Core.Path.{_≡_, refl, ap}
 use native.Mathlib.Omega.{arith}
 use lib.Dec.{eqb, leb, ltb}
 use lib.ListN.{length, getD, length-append}
@@ -14,17 +14,17 @@ use Rattle.basis.proofs.Cases.{by-cases}
 use Rattle.forms.specs.Cells.{variable, payload, arityOf}
 use Rattle.forms.specs.Terms.{Term, cell, arg, pair, pairs, every}
 use Rattle.forms.specs.Numbering.{met}
-use Rattle.forms.specs.Compact.{formTerms, pairForm, legalForm}
 use Rattle.forms.specs.Converting.{reading}
 use Rattle.forms.specs.declared.Reading as forms
 use Rattle.forms.specs.declared.Reading.the-variants.{Form, Refusal}
-use Rattle.forms.proofs.RoundTrip.{legal-parts}
-use Rattle.plain.specs.Coding.{Reading, refused, accepted, handedOn, judged, predicate, compacted, substituted, codingOf}
+use Rattle.forms.proofs.StoredLaws.{stored-of}
+use Rattle.forms.specs.Stored.{storedOf}
+use Rattle.plain.specs.Coding.{Reading, refused, accepted, handedOn, judged, predicate, taken, substituted, codingOf}
 use Rattle.plain.specs.Requests.{State, Open, Finished, Request, call, answer, finish, next, load, instance, counts, join, lent, oldSubgoal, oldAnswer, at, lacksNext, refused}
 use Rattle.plain.specs.Words.{Word}
 use Rattle.plain.specs.Joins.{Forms, declined, formed, joinOf}
 use Rattle.plain.proofs.Changes.{Read, all-read, join-cases}
-use Rattle.plain.proofs.CompactCoding.{compact-laws}
+use Rattle.plain.proofs.StoredCoding.{coding-laws}
 use Rattle.space.specs.Layout.{sizesOf}
 use Rattle.space.specs.Heading.{headerOf, spaceHeader, capacity, counted}
 use Rattle.space.specs.Heading as heading
@@ -63,9 +63,13 @@ module _ (us : List Term) (few : length (every pairs us) ≤ 256) where
   all-cells [] = omega arith
   all-cells (t ∷ ts) = simp length-append (omega (arith, term-cells t, all-cells ts))
 
-legal-cells : (arity : ℕ → ℕ) (m : ℕ) (w : Word) → legalForm arity m w ≡ true → length (every pairs (formTerms arity w)) ≤ 256
-unfolding pairForm
-legal-cells arity m w h = legal-parts arity m w h .cells
+short-cells : (e m : ℕ) (w : Word) → storedOf e .legal m w ≡ true → length (storedOf e .cells w) ≤ 256
+short-cells e m w h = stored-of e .demand .loaded m w h .0 .cells
+
+legal-cells : (e m : ℕ) (w : Word) → storedOf e .legal m w ≡ true → length (every pairs (storedOf e .terms w)) ≤ 256
+legal-cells e m w h =
+    let laws = stored-of e in
+    omega (arith, short-cells e m w h, ap length (laws .exact-terms m w (laws .legal-exact m w h) .cells))
 
 -- ---- decisions
 
@@ -172,21 +176,21 @@ SmallHeader (header.Refused r) = r ≤ 16
 
 -- the calls on a space of edition ed, by any way of finding a child
 module _ (find : Finding) (ed : ℕ) where
-  handed-on-small : (m : ℕ) (cs : List ℕ) (x : forms.Reading) (legal : Reading) → x ≡ reading (arityOf ed) m cs → SmallReading legal → SmallReading (handedOn x legal)
+  handed-on-small : (m : ℕ) (cs : List ℕ) (x : forms.Reading) (legal : Reading) → x ≡ reading (arityOf ed) (storedOf ed) m cs → SmallReading legal → SmallReading (handedOn x legal)
   unfolding handedOn
   handed-on-small m cs (Form n v) legal e f = f
-  handed-on-small m cs (Refusal r) legal e f = omega (arith, refusal-small (arityOf ed) m r cs e)
+  handed-on-small m cs (Refusal r) legal e f = omega (arith, refusal-small (arityOf ed) (storedOf ed) m r cs e)
 
-  judged-small : (m : ℕ) (cs : List ℕ) (legal : Reading) → SmallReading legal → SmallReading (judged (arityOf ed) m cs legal)
+  judged-small : (m : ℕ) (cs : List ℕ) (legal : Reading) → SmallReading legal → SmallReading (judged (arityOf ed) (storedOf ed) m cs legal)
   unfolding judged
-  judged-small m cs legal f = handed-on-small m cs (reading (arityOf ed) m cs) legal refl f
+  judged-small m cs legal f = handed-on-small m cs (reading (arityOf ed) (storedOf ed) m cs) legal refl f
 
-  compacted-small : (cs : List ℕ) → SmallReading (compacted (arityOf ed) cs)
-  unfolding compacted
-  compacted-small cs = tt
+  taken-small : (cs : List ℕ) → SmallReading (taken (storedOf ed) cs)
+  unfolding taken
+  taken-small cs = tt
 
-  callable-small : (b : Bool) (cs : List ℕ) → SmallReading (pick b (compacted (arityOf ed) cs) (refused 6))
-  callable-small true cs = compacted-small cs
+  callable-small : (b : Bool) (cs : List ℕ) → SmallReading (pick b (taken (storedOf ed) cs) (refused 6))
+  callable-small true cs = taken-small cs
   callable-small false cs = omega arith
 
   small-called : (v : View) (r : Reading) → SmallReading r → Small (calledBy find v r)
@@ -227,32 +231,32 @@ module _ (find : Finding) (ed : ℕ) where
 
   -- ---- the eight calls
 
-  small-load : (v : View) (a : ℕ) → Small (loaded (codingOf ed) v a (λ w. gives (pairForm (arityOf ed) w)))
-  unfolding loaded pairForm
+  small-load : (v : View) (a : ℕ) → Small (loaded (codingOf ed) v a (λ w. gives (storedOf ed .cells w)))
+  unfolding loaded
   small-load v a =
       let g = v .subgoal (v .answer a .subgoal) in
-      small-path (gather longest (answerTrie v) (g .root) (v .answer a .leaf)) (legalForm (arityOf ed) (g .variables)) (λ w. gives (every pairs (formTerms (arityOf ed) w)))
-      (λ w l. omega (arith, legal-cells (arityOf ed) (g .variables) w l))
+      small-path (gather longest (answerTrie v) (g .root) (v .answer a .leaf)) (storedOf ed .legal (g .variables)) (λ w. gives (storedOf ed .cells w))
+      (λ w l. omega (arith, short-cells ed (g .variables) w l))
 
-  small-instanced : (v : View) (s : ℕ) (w : Word) → length (every pairs (formTerms (arityOf ed) w)) ≤ 256 → Small (instanced (codingOf ed) v s (λ u. gives ((codingOf ed) .instanceOf u w)))
+  small-instanced : (v : View) (s : ℕ) (w : Word) → length (every pairs (storedOf ed .terms w)) ≤ 256 → Small (instanced (codingOf ed) v s (λ u. gives ((codingOf ed) .instanceOf u w)))
   unfolding instanced
   small-instanced v s w l =
       let g = v .subgoal s in
-      small-path (gather longest (subgoalTrie v) 0 (g .leaf)) (λ u. legalForm (arityOf ed) 1 u && eqb (length (met [] u)) (g .variables)) (λ u. gives ((codingOf ed) .instanceOf u w))
-      (λ u k. omega (arith, all-cells (formTerms (arityOf ed) w) l (formTerms (arityOf ed) u), legal-cells (arityOf ed) 1 u (both-true (legalForm (arityOf ed) 1 u) (eqb (length (met [] u)) (g .variables)) k .0)))
+      small-path (gather longest (subgoalTrie v) 0 (g .leaf)) (λ u. storedOf ed .legal 1 u && eqb (length (met [] u)) (g .variables)) (λ u. gives ((codingOf ed) .instanceOf u w))
+      (λ u k. omega (arith, all-cells (storedOf ed .terms w) l (storedOf ed .terms u), legal-cells ed 1 u (both-true (storedOf ed .legal 1 u) (eqb (length (met [] u)) (g .variables)) k .0)))
 
   small-instance : (v : View) (a : ℕ) → Small (loaded (codingOf ed) v a (λ w. instanced (codingOf ed) v (v .answer a .subgoal) (λ u. gives ((codingOf ed) .instanceOf u w))))
   unfolding loaded
   small-instance v a =
       let s = v .answer a .subgoal in
       let g = v .subgoal s in
-      small-path (gather longest (answerTrie v) (g .root) (v .answer a .leaf)) (legalForm (arityOf ed) (g .variables)) (λ w. instanced (codingOf ed) v s (λ u. gives ((codingOf ed) .instanceOf u w)))
-      (λ w l. small-instanced v s w (legal-cells (arityOf ed) (g .variables) w l))
+      small-path (gather longest (answerTrie v) (g .root) (v .answer a .leaf)) (storedOf ed .legal (g .variables)) (λ w. instanced (codingOf ed) v s (λ u. gives ((codingOf ed) .instanceOf u w)))
+      (λ w l. small-instanced v s w (legal-cells ed (g .variables) w l))
 
   -- a join: reading refuses by 3 to 5, the rule by 8 and 14 to 16
   small-joining : (v : View) (s m : ℕ) (x : Forms) → Read (codingOf ed) m x → Small (joiningBy find v s x)
   unfolding joiningBy
-  small-joining v s m (declined r) e = omega (arith, compact-laws (arityOf ed) .answered-refused m (e .0) r (e .1) .1)
+  small-joining v s m (declined r) e = omega (arith, coding-laws ed .answered-refused m (e .0) r (e .1) .1)
   small-joining v s m (formed ws) e =
       small-sound _ (allSoundBy find v s ws && pick (eqb (answersNeededBy find v s [] ws) 0) true (soundLast v s)) (λ q.
       small-tests (leb (v .nodes + nodesNeededBy find v s [] ws) (v .N)) (leb (v .answers + answersNeededBy find v s [] ws) (v .A)) (entersAnswers s ws) 11 10 (omega arith) (omega arith) tt)
@@ -273,20 +277,20 @@ module _ (find : Finding) (ed : ℕ) where
   decide-small : (v : View) (q : Request) → Small (decideBy find (codingOf ed) v q)
   unfolding decideBy
   decide-small v (call cs) =
-      small-called v ((codingOf ed) .called cs) (judged-small 1 cs (pick (predicate cs) (compacted (arityOf ed) cs) (refused 6)) (callable-small (predicate cs) cs))
+      small-called v ((codingOf ed) .called cs) (judged-small 1 cs (pick (predicate cs) (taken (storedOf ed) cs) (refused 6)) (callable-small (predicate cs) cs))
   decide-small v (answer s cs) =
       let g = v .subgoal s in
       let r = (codingOf ed) .answered (g .variables) cs in
       small-known (sound (soundSubgoal v s && rootSound (answerTrie v) (g .root)) (answeredBy find v s r)) (v .subgoals) s
       (small-sound (answeredBy find v s r) (soundSubgoal v s && rootSound (answerTrie v) (g .root))
-      (λ q. small-answered v s r (judged-small (g .variables) cs (compacted (arityOf ed) cs) (compacted-small cs))))
+      (λ q. small-answered v s r (judged-small (g .variables) cs (taken (storedOf ed) cs) (taken-small cs))))
   decide-small v (finish s) =
       small-known (sound (soundSubgoal v s) (finishes s)) (v .subgoals) s (small-sound (finishes s) (soundSubgoal v s) (λ q. tt))
   decide-small v (next s a) =
       small-known (pick (starting v s a) (onward v s a) (refuses 7)) (v .subgoals) s
       (small-pick (starting v s a) (onward v s a) 7 (omega arith) (λ q. small-onward v s a))
   decide-small v (load a out) =
-      let d = loaded (codingOf ed) v a (λ w. gives (pairForm (arityOf ed) w)) in
+      let d = loaded (codingOf ed) v a (λ w. gives (storedOf ed .cells w)) in
       small-known (sound (soundPair v a) d) (v .answers) a (small-sound d (soundPair v a) (λ q. small-load v a))
   decide-small v (instance a out) =
       let d = loaded (codingOf ed) v a (λ w. instanced (codingOf ed) v (v .answer a .subgoal) (λ u. gives ((codingOf ed) .instanceOf u w))) in

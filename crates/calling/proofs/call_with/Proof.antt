@@ -5,6 +5,7 @@ use native.Mathlib.Omega.{arith}
 use Rattle.forms.specs.Cells.{arityOf}
 use Rattle.forms.specs.Compact.{compactForm}
 use Rattle.forms.specs.Converting.{reading}
+use Rattle.forms.specs.Stored.{storedOf}
 use Rattle.forms.specs.declared.Reading.the-variants.{Form}
 use Rattle.convert.proofs.AnswerLaws.{handed-on}
 use Rattle.store.proofs.CallsReading.{variables-few, cells-enough, form-room, form-count}
@@ -14,10 +15,10 @@ use Rattle.calling.proofs.call_with.Statement.{statement}
 use Rattle.calling.proofs.call_with.Tie as tie
 
 -- the form that was read
-got : (x : tie.After-read) → Form (x .read .given .0 .0) (x .read .given .0 .1 .0) ≡ reading (arityOf (x .before .before .before .before .before .before .before .before .before .before .before .before .before .before .args .h .edition)) 1 (x .before .before .before .before .before .before .before .before .before .before .before .before .before .before .args .term .now)
+got : (x : tie.After-read) → Form (x .read .given .0 .0) (x .read .given .0 .1 .0) ≡ reading (arityOf (x .before .before .before .before .before .before .before .before .before .before .before .before .before .before .args .h .edition)) (storedOf (x .before .before .before .before .before .before .before .before .before .before .before .before .before .before .args .h .edition)) 1 (x .before .before .before .before .before .before .before .before .before .before .before .before .before .before .args .term .now)
 got x = sym (x .read .given .1) ∙ x .before .before .before .before .before .before .read-terms .ensures .0
 
-holds : (x : tie.After-read) → take (x .read .given .0 .0) (x .before .before .before .before .before .before .read-terms .last .1 .1 .1 .0) ≡ compactForm (arityOf (x .before .before .before .before .before .before .before .before .before .before .before .before .before .before .args .h .edition)) (x .before .before .before .before .before .before .before .before .before .before .before .before .before .before .args .term .now)
+holds : (x : tie.After-read) → take (x .read .given .0 .0) (x .before .before .before .before .before .before .read-terms .last .1 .1 .1 .0) ≡ storedOf (x .before .before .before .before .before .before .before .before .before .before .before .before .before .before .args .h .edition) .form (x .before .before .before .before .before .before .before .before .before .before .before .before .before .before .args .term .now)
 holds x = rw (x .read .given .1) at (x .before .before .before .before .before .before .read-terms .ensures .1)
 
 read-terms-requires : tie.Need-read-terms-requires
@@ -42,19 +43,19 @@ returns : tie.Need-returns
 returns c = call-refused _ (c .before .before .before .before .before .before .before .before .before .before .before .before .before .before .before .args .space .now) (c .before .before .before .before .before .before .before .before .before .before .before .before .before .before .before .args .h) (c .before .before .before .before .before .before .before .before .before .before .before .before .before .before .before .args .term .now) _ (handed-on _ _ _ _ (c .before .enum-told .given .1) (c .refused-by .ensures) (c .before .before .before .before .before .before .before .read-terms .ensures .0))
 
 shared-slice-read-is-callable : tie.Need-shared-slice-read-is-callable
-shared-slice-read-is-callable c = omega (arith, cells-enough _ _ _ _ _ (got (c .before .before)) (search needs))
+shared-slice-read-is-callable c = omega (arith, cells-enough _ _ _ _ _ _ (got (c .before .before)) (search needs))
 
 is-callable-requires : tie.Need-is-callable-requires
 is-callable-requires c κs = search needs
 
 slice-reshare-prefix-call-at : tie.Need-slice-reshare-prefix-call-at
-slice-reshare-prefix-call-at c = form-room _ _ _ _ _ (got (c .before .before .before .before .before)) _ (holds (c .before .before .before .before .before))
+slice-reshare-prefix-call-at c = form-room _ _ _ _ _ _ (got (c .before .before .before .before .before)) _ (holds (c .before .before .before .before .before))
 
 slice-aggregate-call-at : tie.Need-slice-aggregate-call-at
-slice-aggregate-call-at c = form-count _ _ _ _ _ (got (c .before .before .before .before .before .before)) _ (holds (c .before .before .before .before .before .before))
+slice-aggregate-call-at c = form-count _ _ _ _ _ _ (got (c .before .before .before .before .before .before)) _ (holds (c .before .before .before .before .before .before))
 
 call-at-requires : tie.Need-call-at-requires
-call-at-requires c κs = (search needs, variables-few _ _ _ _ _ (got (c .before .before .before .before .before .before)))
+call-at-requires c κs = (search needs, variables-few _ _ _ _ _ _ (got (c .before .before .before .before .before .before)))
 
 same-length-3 : tie.Need-same-length-3
 same-length-3 c = search needs

@@ -1,7 +1,7 @@
 -- `convert::expand` meets its contract: the edition is judged first.
 use borrow.Author.Needs.{needs}
 use mathlib.Core.Path.{_∙_, sym}
-use Rattle.convert.proofs.AnswerLaws.{edition-known, edition-refused}
+use Rattle.convert.proofs.AnswerLaws.{expanded-in, edition-refused}
 use Rattle.convert.proofs.expand.Statement.{statement}
 use Rattle.convert.proofs.expand.Tie as tie
 
@@ -15,7 +15,7 @@ same-length : tie.Need-same-length
 same-length c = search needs
 
 returns : tie.Need-returns
-returns c = edition-known _ _ _ _ _ _ (sym (c .before .before .before .before .before .is-converter-edition .ensures) ∙ c .before .before .before .before .if1 .taken) (c .before .before .expand-terms .ensures .0) (c .before .before .expand-terms .ensures .1)
+returns c = expanded-in _ _ _ _ _ _ (sym (c .before .before .before .before .before .is-converter-edition .ensures) ∙ c .before .before .before .before .if1 .taken) (c .before .before .expand-terms .ensures)
 
 returns-2 : tie.Need-returns-2
 returns-2 c = edition-refused _ _ _ _ (sym (c .before .is-converter-edition .ensures) ∙ c .if1 .left)

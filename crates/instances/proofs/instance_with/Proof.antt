@@ -11,9 +11,10 @@ use borrow.Author.Tests.{eq-eqb, ne-eqb}
 use Rattle.basis.proofs.Tests.{told}
 use Rattle.forms.specs.Converting.{loading, fitting}
 use Rattle.forms.specs.Numbering.{met}
-use Rattle.forms.specs.Compact.{pairForm, legalForm}
+use Rattle.forms.specs.Stored.{storedOf}
 use Rattle.forms.specs.Cells.{arityOf}
 use Rattle.forms.specs.declared.Loading.the-variants.{Terms, NoForm}
+use Rattle.forms.proofs.StoredLaws.{stored-of}
 use Rattle.convert.proofs.AnswerLaws.{fitting-short}
 use Rattle.plain.specs.Coding.{codingOf}
 use Rattle.instances.proofs.LeavingLaws.{leaves-says, leaves-same, leaves-said, sized-short, sized-cells, gives-fits, form-refused, form-loaded, subgoal-form, no-subgoal-form, both-answer, both-subgoal, both-legal}
@@ -22,27 +23,27 @@ use Rattle.instances.proofs.instance_with.Statement.{statement}
 use Rattle.instances.proofs.instance_with.Tie as tie
 
 -- the answer's form that was loaded
-form-got : (c : tie.After-end) → Terms (c .end .given .0 .0) ≡ loading (arityOf (c .before .before .before .before .before .before .before .before .before .before .before .args .edition)) (c .before .before .before .before .before .before .before .before .before .before .before .args .m) (c .before .before .before .before .before .before .before .before .before .before .before .args .form .now)
+form-got : (c : tie.After-end) → Terms (c .end .given .0 .0) ≡ loading (storedOf (c .before .before .before .before .before .before .before .before .before .before .before .args .edition)) (c .before .before .before .before .before .before .before .before .before .before .before .args .m) (c .before .before .before .before .before .before .before .before .before .before .before .args .form .now)
 form-got c = sym (c .end .given .1) ∙ c .before .before .before .before .load-terms .ensures .0
 
-form-legal : (c : tie.After-end) → legalForm (arityOf (c .before .before .before .before .before .before .before .before .before .before .before .args .edition)) (c .before .before .before .before .before .before .before .before .before .before .before .args .m) (c .before .before .before .before .before .before .before .before .before .before .before .args .form .now) ≡ true
-form-legal c = sym (form-loaded (arityOf (c .before .before .before .before .before .before .before .before .before .before .before .args .edition)) (c .before .before .before .before .before .before .before .before .before .before .before .args .m) (c .before .before .before .before .before .before .before .before .before .before .before .args .form .now) _ (form-got c))
+form-legal : (c : tie.After-end) → storedOf (c .before .before .before .before .before .before .before .before .before .before .before .args .edition) .legal (c .before .before .before .before .before .before .before .before .before .before .before .args .m) (c .before .before .before .before .before .before .before .before .before .before .before .args .form .now) ≡ true
+form-legal c = sym (form-loaded (storedOf (c .before .before .before .before .before .before .before .before .before .before .before .args .edition)) (c .before .before .before .before .before .before .before .before .before .before .before .args .m) (c .before .before .before .before .before .before .before .before .before .before .before .args .form .now) _ (form-got c))
 
-form-held : (c : tie.After-end) → take (c .end .given .0 .0) (c .before .before .before .before .load-terms .last .1 .1 .0) ≡ pairForm (arityOf (c .before .before .before .before .before .before .before .before .before .before .before .args .edition)) (c .before .before .before .before .before .before .before .before .before .before .before .args .form .now)
+form-held : (c : tie.After-end) → take (c .end .given .0 .0) (c .before .before .before .before .load-terms .last .1 .1 .0) ≡ storedOf (c .before .before .before .before .before .before .before .before .before .before .before .args .edition) .cells (c .before .before .before .before .before .before .before .before .before .before .before .args .form .now)
 form-held c = rw (c .end .given .1) at (c .before .before .before .before .load-terms .ensures .1)
 
 -- the subgoal's path that was loaded, and its variables
-path-all : (c : tie.After-n) → ((Terms (c .n .given .0 .0) ≡ loading (arityOf (c .before .before .before .before .before .before .before .before .before .before .before .before .before .before .before .before .before .before .args .edition)) 1 (c .before .before .before .before .before .before .before .before .before .before .before .before .before .before .before .before .before .before .args .path .now)) × (take (c .n .given .0 .0) (c .before .before .before .before .load-counted .last .1 .1 .0) ≡ pairForm (arityOf (c .before .before .before .before .before .before .before .before .before .before .before .before .before .before .before .before .before .before .args .edition)) (c .before .before .before .before .before .before .before .before .before .before .before .before .before .before .before .before .before .before .args .path .now))) × ((c .n .given .0 .1 .0) ≡ length (met [] (c .before .before .before .before .before .before .before .before .before .before .before .before .before .before .before .before .before .before .args .path .now)))
+path-all : (c : tie.After-n) → ((Terms (c .n .given .0 .0) ≡ loading (storedOf (c .before .before .before .before .before .before .before .before .before .before .before .before .before .before .before .before .before .before .args .edition)) 1 (c .before .before .before .before .before .before .before .before .before .before .before .before .before .before .before .before .before .before .args .path .now)) × (take (c .n .given .0 .0) (c .before .before .before .before .load-counted .last .1 .1 .0) ≡ storedOf (c .before .before .before .before .before .before .before .before .before .before .before .before .before .before .before .before .before .before .args .edition) .cells (c .before .before .before .before .before .before .before .before .before .before .before .before .before .before .before .before .before .before .args .path .now))) × ((c .n .given .0 .1 .0) ≡ length (met [] (c .before .before .before .before .before .before .before .before .before .before .before .before .before .before .before .before .before .before .args .path .now)))
 path-all c = rw (c .n .given .1) at (c .before .before .before .before .load-counted .ensures)
 
-path-legal : (c : tie.After-n) → legalForm (arityOf (c .before .before .before .before .before .before .before .before .before .before .before .before .before .before .before .before .before .before .args .edition)) 1 (c .before .before .before .before .before .before .before .before .before .before .before .before .before .before .before .before .before .before .args .path .now) ≡ true
-path-legal c = sym (form-loaded (arityOf (c .before .before .before .before .before .before .before .before .before .before .before .before .before .before .before .before .before .before .args .edition)) 1 (c .before .before .before .before .before .before .before .before .before .before .before .before .before .before .before .before .before .before .args .path .now) _ (path-all c .0 .0))
+path-legal : (c : tie.After-n) → storedOf (c .before .before .before .before .before .before .before .before .before .before .before .before .before .before .before .before .before .before .args .edition) .legal 1 (c .before .before .before .before .before .before .before .before .before .before .before .before .before .before .before .before .before .before .args .path .now) ≡ true
+path-legal c = sym (form-loaded (storedOf (c .before .before .before .before .before .before .before .before .before .before .before .before .before .before .before .before .before .before .args .edition)) 1 (c .before .before .before .before .before .before .before .before .before .before .before .before .before .before .before .before .before .before .args .path .now) _ (path-all c .0 .0))
 
 -- what their number says
-tested : (c : tie.After-n) → (legalForm (arityOf (c .before .before .before .before .before .before .before .before .before .before .before .before .before .before .before .before .before .before .args .edition)) 1 (c .before .before .before .before .before .before .before .before .before .before .before .before .before .before .before .before .before .before .args .path .now) && eqb (length (met [] (c .before .before .before .before .before .before .before .before .before .before .before .before .before .before .before .before .before .before .args .path .now))) (c .before .before .before .before .before .before .before .before .before .before .before .before .before .before .before .before .before .before .args .m)) ≡ eqb (c .n .given .0 .1 .0) (c .before .before .before .before .before .before .before .before .before .before .before .before .before .before .before .before .before .before .args .m)
-tested c = sym (subgoal-form (arityOf (c .before .before .before .before .before .before .before .before .before .before .before .before .before .before .before .before .before .before .args .edition)) (c .before .before .before .before .before .before .before .before .before .before .before .before .before .before .before .before .before .before .args .m) (c .before .before .before .before .before .before .before .before .before .before .before .before .before .before .before .before .before .before .args .path .now) (sym (path-legal c)) (c .n .given .0 .1 .0) (path-all c .1))
+tested : (c : tie.After-n) → (storedOf (c .before .before .before .before .before .before .before .before .before .before .before .before .before .before .before .before .before .before .args .edition) .legal 1 (c .before .before .before .before .before .before .before .before .before .before .before .before .before .before .before .before .before .before .args .path .now) && eqb (length (met [] (c .before .before .before .before .before .before .before .before .before .before .before .before .before .before .before .before .before .before .args .path .now))) (c .before .before .before .before .before .before .before .before .before .before .before .before .before .before .before .before .before .before .args .m)) ≡ eqb (c .n .given .0 .1 .0) (c .before .before .before .before .before .before .before .before .before .before .before .before .before .before .before .before .before .before .args .m)
+tested c = sym (subgoal-form (storedOf (c .before .before .before .before .before .before .before .before .before .before .before .before .before .before .before .before .before .before .args .edition)) (c .before .before .before .before .before .before .before .before .before .before .before .before .before .before .before .before .before .before .args .m) (c .before .before .before .before .before .before .before .before .before .before .before .before .before .before .before .before .before .before .args .path .now) (sym (path-legal c)) (c .n .given .0 .1 .0) (path-all c .1))
 
-is-form : (c : tie.Then1) → (legalForm (arityOf (c .before .before .before .before .before .before .before .before .before .before .before .before .before .before .before .before .before .before .before .before .args .edition)) 1 (c .before .before .before .before .before .before .before .before .before .before .before .before .before .before .before .before .before .before .before .before .args .path .now) && eqb (length (met [] (c .before .before .before .before .before .before .before .before .before .before .before .before .before .before .before .before .before .before .before .before .args .path .now))) (c .before .before .before .before .before .before .before .before .before .before .before .before .before .before .before .before .before .before .before .before .args .m)) ≡ true
+is-form : (c : tie.Then1) → (storedOf (c .before .before .before .before .before .before .before .before .before .before .before .before .before .before .before .before .before .before .before .before .args .edition) .legal 1 (c .before .before .before .before .before .before .before .before .before .before .before .before .before .before .before .before .before .before .before .before .args .path .now) && eqb (length (met [] (c .before .before .before .before .before .before .before .before .before .before .before .before .before .before .before .before .before .before .before .before .args .path .now))) (c .before .before .before .before .before .before .before .before .before .before .before .before .before .before .before .before .before .before .before .before .args .m)) ≡ true
 is-form c = tested (c .before .before) ∙ eq-eqb _ _ (c .if1 .taken)
 
 variables-are : (c : tie.Then1) → length (met [] (c .before .before .before .before .before .before .before .before .before .before .before .before .before .before .before .before .before .before .before .before .args .path .now)) ≡ (c .before .before .before .before .before .before .before .before .before .before .before .before .before .before .before .before .before .before .before .before .args .m)
@@ -50,13 +51,13 @@ variables-are c = sym (path-all (c .before .before) .1) ∙ c .if1 .taken
 
 -- where the last term ends
 last : (c : tie.Then1) → (c .before .before .before .before .before .before .before .before .before .end .given .0 .0) ≤ 256
-last c = omega (arith, terms-end _ (c .before .before .before .before .before .before .before .before .before .before .before .before .before .before .before .before .before .before .before .before .args .path .now) (c .before .before .before .before .before .before .before .before .before .before .before .before .before .before .before .before .before .before .before .before .args .form .now) (c .before .before .before .before .before .before .before .before .before .before .before .before .before .before .before .before .before .before .before .before .args .m) (path-legal (c .before .before)) (variables-are c) (form-legal (c .before .before .before .before .before .before .before .before .before)) (c .before .before .before .before .before .before .before .before .before .before .before .before .before .load-terms .last .1 .1 .0) (c .before .before .before .before .before .before .before .before .before .end .given .0 .0) (form-held (c .before .before .before .before .before .before .before .before .before)) (form-got (c .before .before .before .before .before .before .before .before .before)), last-end _ (c .before .before .before .before .before .before .before .before .before .before .before .before .before .before .before .before .before .before .before .before .args .path .now) (c .before .before .before .before .before .before .before .before .before .before .before .before .before .before .before .before .before .before .before .before .args .form .now) (c .before .before .before .before .before .before .before .before .before .before .before .before .before .before .before .before .before .before .before .before .args .m) (path-legal (c .before .before)) (variables-are c) (form-legal (c .before .before .before .before .before .before .before .before .before)) (c .before .before .before .before .before .before .before .before .before .before .before .before .before .load-terms .last .1 .1 .0) (c .before .before .before .before .before .before .before .before .before .end .given .0 .0) (form-held (c .before .before .before .before .before .before .before .before .before)))
+last c = omega (arith, terms-end _ _ (stored-of (c .before .before .before .before .before .before .before .before .before .before .before .before .before .before .before .before .before .before .before .before .args .edition)) (c .before .before .before .before .before .before .before .before .before .before .before .before .before .before .before .before .before .before .before .before .args .path .now) (c .before .before .before .before .before .before .before .before .before .before .before .before .before .before .before .before .before .before .before .before .args .form .now) (c .before .before .before .before .before .before .before .before .before .before .before .before .before .before .before .before .before .before .before .before .args .m) (path-legal (c .before .before)) (variables-are c) (form-legal (c .before .before .before .before .before .before .before .before .before)) (c .before .before .before .before .before .before .before .before .before .before .before .before .before .load-terms .last .1 .1 .0) (c .before .before .before .before .before .before .before .before .before .end .given .0 .0) (form-held (c .before .before .before .before .before .before .before .before .before)) (form-got (c .before .before .before .before .before .before .before .before .before)), last-end _ _ (stored-of (c .before .before .before .before .before .before .before .before .before .before .before .before .before .before .before .before .before .before .before .before .args .edition)) (c .before .before .before .before .before .before .before .before .before .before .before .before .before .before .before .before .before .before .before .before .args .path .now) (c .before .before .before .before .before .before .before .before .before .before .before .before .before .before .before .before .before .before .before .before .args .form .now) (c .before .before .before .before .before .before .before .before .before .before .before .before .before .before .before .before .before .before .before .before .args .m) (path-legal (c .before .before)) (variables-are c) (form-legal (c .before .before .before .before .before .before .before .before .before)) (c .before .before .before .before .before .before .before .before .before .before .before .before .before .load-terms .last .1 .1 .0) (c .before .before .before .before .before .before .before .before .before .end .given .0 .0) (form-held (c .before .before .before .before .before .before .before .before .before)))
 
 -- what was loaded is ready
-known : (c : tie.After-starts3) → Ready (arityOf (c .before .before .before .before .before .before .before .before .before .before .before .before .before .before .before .before .before .before .before .before .before .before .before .before .before .before .args .edition)) (c .before .before .before .before .before .before .before .before .before .before .before .before .before .before .before .before .before .before .before .before .before .before .before .before .before .before .args .path .now) (c .before .before .before .before .before .before .before .before .before .before .before .before .before .before .before .before .before .before .before .before .before .before .before .before .before .before .args .form .now) (c .before .before .before .before .before .before .before .before .before .before .before .before .load-counted .last .1 .1 .0) (c .before .before .before .before .before .before .before .before .before .before .before .before .before .before .before .before .before .before .before .load-terms .last .1 .1 .0) (c .before .before .before .note-starts .last .1 .1 .1 .0) (c .before .before .before .before .before .before .before .before .n .given .0 .0) (c .before .before .before .before .before .before .before .before .before .before .before .before .before .before .before .end .given .0 .0)
+known : (c : tie.After-starts3) → Ready (arityOf (c .before .before .before .before .before .before .before .before .before .before .before .before .before .before .before .before .before .before .before .before .before .before .before .before .before .before .args .edition)) (storedOf (c .before .before .before .before .before .before .before .before .before .before .before .before .before .before .before .before .before .before .before .before .before .before .before .before .before .before .args .edition)) (c .before .before .before .before .before .before .before .before .before .before .before .before .before .before .before .before .before .before .before .before .before .before .before .before .before .before .args .path .now) (c .before .before .before .before .before .before .before .before .before .before .before .before .before .before .before .before .before .before .before .before .before .before .before .before .before .before .args .form .now) (c .before .before .before .before .before .before .before .before .before .before .before .before .load-counted .last .1 .1 .0) (c .before .before .before .before .before .before .before .before .before .before .before .before .before .before .before .before .before .before .before .load-terms .last .1 .1 .0) (c .before .before .before .note-starts .last .1 .1 .1 .0) (c .before .before .before .before .before .before .before .before .n .given .0 .0) (c .before .before .before .before .before .before .before .before .before .before .before .before .before .before .before .end .given .0 .0)
 known c =
-    let l = few _ (c .before .before .before .before .before .before .before .before .before .before .before .before .before .before .before .before .before .before .before .before .before .before .before .before .before .before .args .path .now) (c .before .before .before .before .before .before .before .before .before .before .before .before .before .before .before .before .before .before .before .before .before .before .before .before .before .before .args .form .now) (c .before .before .before .before .before .before .before .before .before .before .before .before .before .before .before .before .before .before .before .before .before .before .before .before .before .before .args .m) (path-legal (c .before .before .before .before .before .before .before .before)) (variables-are (c .before .before .before .before .before .before)) (form-legal (c .before .before .before .before .before .before .before .before .before .before .before .before .before .before .before)) in
-    ready _ (c .before .before .before .before .before .before .before .before .before .before .before .before .before .before .before .before .before .before .before .before .before .before .before .before .before .before .args .path .now) (c .before .before .before .before .before .before .before .before .before .before .before .before .before .before .before .before .before .before .before .before .before .before .before .before .before .before .args .form .now) (c .before .before .before .before .before .before .before .before .before .before .before .before .before .before .before .before .before .before .before .before .before .before .before .before .before .before .args .m) (path-legal (c .before .before .before .before .before .before .before .before)) (variables-are (c .before .before .before .before .before .before)) (form-legal (c .before .before .before .before .before .before .before .before .before .before .before .before .before .before .before)) (c .before .before .before .before .before .before .before .before .before .before .before .before .before .before .before .before .before .before .before .load-terms .last .1 .1 .0) (c .before .before .before .before .before .before .before .before .before .before .before .before .before .before .before .end .given .0 .0) (form-held (c .before .before .before .before .before .before .before .before .before .before .before .before .before .before .before)) (c .before .before .before .before .before .before .before .before .before .before .before .before .load-counted .last .1 .1 .0) (c .before .before .before .note-starts .last .1 .1 .1 .0) (c .before .before .before .before .before .before .before .before .n .given .0 .0) (path-all (c .before .before .before .before .before .before .before .before) .0 .0) (path-all (c .before .before .before .before .before .before .before .before) .0 .1) (c .before .before .before .note-starts .ensures .0) (omega (arith, l, c .before .before .before .note-starts .ensures .1))
+    let l = few _ _ (stored-of (c .before .before .before .before .before .before .before .before .before .before .before .before .before .before .before .before .before .before .before .before .before .before .before .before .before .before .args .edition)) (c .before .before .before .before .before .before .before .before .before .before .before .before .before .before .before .before .before .before .before .before .before .before .before .before .before .before .args .path .now) (c .before .before .before .before .before .before .before .before .before .before .before .before .before .before .before .before .before .before .before .before .before .before .before .before .before .before .args .form .now) (c .before .before .before .before .before .before .before .before .before .before .before .before .before .before .before .before .before .before .before .before .before .before .before .before .before .before .args .m) (path-legal (c .before .before .before .before .before .before .before .before)) (variables-are (c .before .before .before .before .before .before)) (form-legal (c .before .before .before .before .before .before .before .before .before .before .before .before .before .before .before)) in
+    ready _ _ (stored-of (c .before .before .before .before .before .before .before .before .before .before .before .before .before .before .before .before .before .before .before .before .before .before .before .before .before .before .args .edition)) (c .before .before .before .before .before .before .before .before .before .before .before .before .before .before .before .before .before .before .before .before .before .before .before .before .before .before .args .path .now) (c .before .before .before .before .before .before .before .before .before .before .before .before .before .before .before .before .before .before .before .before .before .before .before .before .before .before .args .form .now) (c .before .before .before .before .before .before .before .before .before .before .before .before .before .before .before .before .before .before .before .before .before .before .before .before .before .before .args .m) (path-legal (c .before .before .before .before .before .before .before .before)) (variables-are (c .before .before .before .before .before .before)) (form-legal (c .before .before .before .before .before .before .before .before .before .before .before .before .before .before .before)) (c .before .before .before .before .before .before .before .before .before .before .before .before .before .before .before .before .before .before .before .load-terms .last .1 .1 .0) (c .before .before .before .before .before .before .before .before .before .before .before .before .before .before .before .end .given .0 .0) (form-held (c .before .before .before .before .before .before .before .before .before .before .before .before .before .before .before)) (c .before .before .before .before .before .before .before .before .before .before .before .before .load-counted .last .1 .1 .0) (c .before .before .before .note-starts .last .1 .1 .1 .0) (c .before .before .before .before .before .before .before .before .n .given .0 .0) (path-all (c .before .before .before .before .before .before .before .before) .0 .0) (path-all (c .before .before .before .before .before .before .before .before) .0 .1) (c .before .before .before .note-starts .ensures .0) (omega (arith, l, c .before .before .before .note-starts .ensures .1))
 
 load-terms-requires : tie.Need-load-terms-requires
 load-terms-requires c κs = search needs
@@ -71,7 +72,7 @@ same-length : tie.Need-same-length
 same-length c = search needs
 
 returns : tie.Need-returns
-returns c = λ v. leaves-says v _ (c .before .before .before .before .before .before .before .before .before .before .before .args .out .now) _ (both-answer (codingOf (c .before .before .before .before .before .before .before .before .before .before .before .args .edition)) (c .before .before .before .before .before .before .before .before .before .before .before .args .m) (c .before .before .before .before .before .before .before .before .before .before .before .args .path .now) (c .before .before .before .before .before .before .before .before .before .before .before .args .form .now) (sym (form-refused (arityOf (c .before .before .before .before .before .before .before .before .before .before .before .args .edition)) (c .before .before .before .before .before .before .before .before .before .before .before .args .m) (c .before .before .before .before .before .before .before .before .before .before .before .args .form .now) (told (c .enum-told .given .1) (c .before .before .before .before .load-terms .ensures .0)))))
+returns c = λ v. leaves-says v _ (c .before .before .before .before .before .before .before .before .before .before .before .args .out .now) _ (both-answer (codingOf (c .before .before .before .before .before .before .before .before .before .before .before .args .edition)) (c .before .before .before .before .before .before .before .before .before .before .before .args .m) (c .before .before .before .before .before .before .before .before .before .before .before .args .path .now) (c .before .before .before .before .before .before .before .before .before .before .before .args .form .now) (sym (form-refused (storedOf (c .before .before .before .before .before .before .before .before .before .before .before .args .edition)) (c .before .before .before .before .before .before .before .before .before .before .before .args .m) (c .before .before .before .before .before .before .before .before .before .before .before .args .form .now) (told (c .enum-told .given .1) (c .before .before .before .before .load-terms .ensures .0)))))
 
 load-counted-requires : tie.Need-load-counted-requires
 load-counted-requires c κs = search needs
@@ -90,14 +91,14 @@ same-length-3 c = search needs
 
 returns-2 : tie.Need-returns-2
 returns-2 c =
-    let r : ((NoForm ≡ loading (arityOf (c .before .before .before .before .before .before .before .before .before .before .before .before .before .before .before .before .before .before .args .edition)) 1 (c .before .before .before .before .before .before .before .before .before .before .before .before .before .before .before .before .before .before .args .path .now)) × Unit {0}) × Unit {0} = rw (c .enum-told2 .given .1) at (c .before .before .before .before .load-counted .ensures) in
-    λ v. leaves-says v _ (c .before .before .before .before .before .before .before .before .before .before .before .before .before .before .before .before .before .before .args .out .now) _ (both-subgoal (codingOf (c .before .before .before .before .before .before .before .before .before .before .before .before .before .before .before .before .before .before .args .edition)) (c .before .before .before .before .before .before .before .before .before .before .before .before .before .before .before .before .before .before .args .m) (c .before .before .before .before .before .before .before .before .before .before .before .before .before .before .before .before .before .before .args .path .now) (c .before .before .before .before .before .before .before .before .before .before .before .before .before .before .before .before .before .before .args .form .now) (form-legal (c .before .before .before .before .before .before .before)) (sym (no-subgoal-form (arityOf (c .before .before .before .before .before .before .before .before .before .before .before .before .before .before .before .before .before .before .args .edition)) (c .before .before .before .before .before .before .before .before .before .before .before .before .before .before .before .before .before .before .args .m) (c .before .before .before .before .before .before .before .before .before .before .before .before .before .before .before .before .before .before .args .path .now) (form-refused (arityOf (c .before .before .before .before .before .before .before .before .before .before .before .before .before .before .before .before .before .before .args .edition)) 1 (c .before .before .before .before .before .before .before .before .before .before .before .before .before .before .before .before .before .before .args .path .now) (r .0 .0)))))
+    let r : ((NoForm ≡ loading (storedOf (c .before .before .before .before .before .before .before .before .before .before .before .before .before .before .before .before .before .before .args .edition)) 1 (c .before .before .before .before .before .before .before .before .before .before .before .before .before .before .before .before .before .before .args .path .now)) × Unit {0}) × Unit {0} = rw (c .enum-told2 .given .1) at (c .before .before .before .before .load-counted .ensures) in
+    λ v. leaves-says v _ (c .before .before .before .before .before .before .before .before .before .before .before .before .before .before .before .before .before .before .args .out .now) _ (both-subgoal (codingOf (c .before .before .before .before .before .before .before .before .before .before .before .before .before .before .before .before .before .before .args .edition)) (c .before .before .before .before .before .before .before .before .before .before .before .before .before .before .before .before .before .before .args .m) (c .before .before .before .before .before .before .before .before .before .before .before .before .before .before .before .before .before .before .args .path .now) (c .before .before .before .before .before .before .before .before .before .before .before .before .before .before .before .before .before .before .args .form .now) (form-legal (c .before .before .before .before .before .before .before)) (sym (no-subgoal-form (storedOf (c .before .before .before .before .before .before .before .before .before .before .before .before .before .before .before .before .before .before .args .edition)) (c .before .before .before .before .before .before .before .before .before .before .before .before .before .before .before .before .before .before .args .m) (c .before .before .before .before .before .before .before .before .before .before .before .before .before .before .before .before .before .before .args .path .now) (form-refused (storedOf (c .before .before .before .before .before .before .before .before .before .before .before .before .before .before .before .before .before .before .args .edition)) 1 (c .before .before .before .before .before .before .before .before .before .before .before .before .before .before .before .before .before .before .args .path .now) (r .0 .0)))))
 
 slice-aggregate-note-starts : tie.Need-slice-aggregate-note-starts
 slice-aggregate-note-starts c = search needs
 
 note-starts-requires : tie.Need-note-starts-requires
-note-starts-requires c κs = (enough _ (c .before .before .before .before .before .before .before .before .before .before .before .before .before .before .before .before .before .before .before .before .before .before .args .path .now) (c .before .before .before .before .before .before .before .before .before .before .before .before .before .before .before .before .before .before .before .before .before .before .args .form .now) (c .before .before .before .before .before .before .before .before .before .before .before .before .before .before .before .before .before .before .before .before .before .before .args .m) (path-legal (c .before .before .before .before)) (variables-are (c .before .before)) (form-legal (c .before .before .before .before .before .before .before .before .before .before .before)) (c .before .before .before .before .before .before .before .before .before .before .before .before .before .before .before .load-terms .last .1 .1 .0) (c .before .before .before .before .before .before .before .before .before .before .before .end .given .0 .0) (form-held (c .before .before .before .before .before .before .before .before .before .before .before)), few _ (c .before .before .before .before .before .before .before .before .before .before .before .before .before .before .before .before .before .before .before .before .before .before .args .path .now) (c .before .before .before .before .before .before .before .before .before .before .before .before .before .before .before .before .before .before .before .before .before .before .args .form .now) (c .before .before .before .before .before .before .before .before .before .before .before .before .before .before .before .before .before .before .before .before .before .before .args .m) (path-legal (c .before .before .before .before)) (variables-are (c .before .before)) (form-legal (c .before .before .before .before .before .before .before .before .before .before .before)), terms-end _ (c .before .before .before .before .before .before .before .before .before .before .before .before .before .before .before .before .before .before .before .before .before .before .args .path .now) (c .before .before .before .before .before .before .before .before .before .before .before .before .before .before .before .before .before .before .before .before .before .before .args .form .now) (c .before .before .before .before .before .before .before .before .before .before .before .before .before .before .before .before .before .before .before .before .before .before .args .m) (path-legal (c .before .before .before .before)) (variables-are (c .before .before)) (form-legal (c .before .before .before .before .before .before .before .before .before .before .before)) (c .before .before .before .before .before .before .before .before .before .before .before .before .before .before .before .load-terms .last .1 .1 .0) (c .before .before .before .before .before .before .before .before .before .before .before .end .given .0 .0) (form-held (c .before .before .before .before .before .before .before .before .before .before .before)) (form-got (c .before .before .before .before .before .before .before .before .before .before .before)), last (c .before .before))
+note-starts-requires c κs = (enough _ _ (stored-of (c .before .before .before .before .before .before .before .before .before .before .before .before .before .before .before .before .before .before .before .before .before .before .args .edition)) (c .before .before .before .before .before .before .before .before .before .before .before .before .before .before .before .before .before .before .before .before .before .before .args .path .now) (c .before .before .before .before .before .before .before .before .before .before .before .before .before .before .before .before .before .before .before .before .before .before .args .form .now) (c .before .before .before .before .before .before .before .before .before .before .before .before .before .before .before .before .before .before .before .before .before .before .args .m) (path-legal (c .before .before .before .before)) (variables-are (c .before .before)) (form-legal (c .before .before .before .before .before .before .before .before .before .before .before)) (c .before .before .before .before .before .before .before .before .before .before .before .before .before .before .before .load-terms .last .1 .1 .0) (c .before .before .before .before .before .before .before .before .before .before .before .end .given .0 .0) (form-held (c .before .before .before .before .before .before .before .before .before .before .before)), few _ _ (stored-of (c .before .before .before .before .before .before .before .before .before .before .before .before .before .before .before .before .before .before .before .before .before .before .args .edition)) (c .before .before .before .before .before .before .before .before .before .before .before .before .before .before .before .before .before .before .before .before .before .before .args .path .now) (c .before .before .before .before .before .before .before .before .before .before .before .before .before .before .before .before .before .before .before .before .before .before .args .form .now) (c .before .before .before .before .before .before .before .before .before .before .before .before .before .before .before .before .before .before .before .before .before .before .args .m) (path-legal (c .before .before .before .before)) (variables-are (c .before .before)) (form-legal (c .before .before .before .before .before .before .before .before .before .before .before)), terms-end _ _ (stored-of (c .before .before .before .before .before .before .before .before .before .before .before .before .before .before .before .before .before .before .before .before .before .before .args .edition)) (c .before .before .before .before .before .before .before .before .before .before .before .before .before .before .before .before .before .before .before .before .before .before .args .path .now) (c .before .before .before .before .before .before .before .before .before .before .before .before .before .before .before .before .before .before .before .before .before .before .args .form .now) (c .before .before .before .before .before .before .before .before .before .before .before .before .before .before .before .before .before .before .before .before .before .before .args .m) (path-legal (c .before .before .before .before)) (variables-are (c .before .before)) (form-legal (c .before .before .before .before .before .before .before .before .before .before .before)) (c .before .before .before .before .before .before .before .before .before .before .before .before .before .before .before .load-terms .last .1 .1 .0) (c .before .before .before .before .before .before .before .before .before .before .before .end .given .0 .0) (form-held (c .before .before .before .before .before .before .before .before .before .before .before)) (form-got (c .before .before .before .before .before .before .before .before .before .before .before)), last (c .before .before))
 
 slice-aggregate-missing : tie.Need-slice-aggregate-missing
 slice-aggregate-missing c = search needs
@@ -109,7 +110,7 @@ missing-requires c κs =
 
 add-result : tie.Need-add-result
 add-result c =
-    omega (arith, missing-bounded _ _ _ _ _ _ _ _ (known (c .before .before)) _ _ (c .before .missing .ensures))
+    omega (arith, missing-bounded _ _ _ _ _ _ _ _ _ (known (c .before .before)) _ _ (c .before .missing .ensures))
 
 same-length-4 : tie.Need-same-length-4
 same-length-4 c = search needs
@@ -134,7 +135,7 @@ write-requires c κs =
 add-result-2 : tie.Need-add-result-2
 add-result-2 c =
     let r = known (c .before .before .before .before .before .before .before .before .before) in
-    omega (arith, c .before .before .write .ensures .0, ap length (r .instance-cells), r .need, need-bounded _ _ _ _ _ _ _ _ r)
+    omega (arith, c .before .before .write .ensures .0, ap length (r .instance-cells), r .need, need-bounded _ _ _ _ _ _ _ _ _ r)
 
 same-length-6 : tie.Need-same-length-6
 same-length-6 c = search needs

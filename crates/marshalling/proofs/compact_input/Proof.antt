@@ -9,7 +9,7 @@ add-result : tie.Need-add-result
 add-result c = omega arith
 
 returns : tie.Need-returns
-returns c = compact-odd _ _ _ (c .if1 .taken)
+returns c = compact-odd _ _ _ _ (c .if1 .taken)
 
 cells-rung-requires : tie.Need-cells-rung-requires
 cells-rung-requires c κs = search needs
@@ -72,7 +72,7 @@ add-result-2 : tie.Need-add-result-2
 add-result-2 c = omega arith
 
 returns-5 : tie.Need-returns-5
-returns-5 c = compact-long _ _ _ (c .before .before .before .before .if1 .left) (omega arith)
+returns-5 c = compact-long _ _ _ _ (c .before .before .before .before .if1 .left) (omega arith)
 
 pub compact-input-spec : {M : Type 1} → statement M
 compact-input-spec =

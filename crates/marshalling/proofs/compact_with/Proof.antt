@@ -6,7 +6,7 @@ use lib.ListN.{length, take}
 use Rattle.convert.proofs.ReadingLaws.{refusal-small}
 use Rattle.forms.specs.Cells.{arityOf}
 use Rattle.forms.specs.declared.Reading.the-variants.{Form, Refusal}
-use Rattle.forms.specs.Compact.{compactForm}
+use Rattle.forms.specs.Stored.{storedOf}
 use Rattle.forms.specs.Converting.{reading}
 use Rattle.convert.proofs.AnswerLaws.{taken-room, reading-length, handed-on}
 use Rattle.marshalling.specs.Bytes.{cellsOf}
@@ -34,17 +34,17 @@ whole : (x : Decoded) → length (start x .args .input .now) % 4 ≡ 0
 whole x = omega (arith, start x .pre .0)
 
 -- the refusal that was read
-refused : (x : tie.After-refused-by) → Refusal (x .refused-by .result) ≡ reading (arityOf (start (x .before .before .before .before .before .before .before .before .before .before .before .before .before) .args .edition)) 1 (cellsOf (start (x .before .before .before .before .before .before .before .before .before .before .before .before .before) .args .input .now))
-refused x = handed-on _ _ _ _ (x .before .enum-told .given .1) (x .refused-by .ensures) (x .before .before .before .before .before .before .before .read-terms .ensures .0 ∙ ap (reading (arityOf (start (x .before .before .before .before .before .before .before .before .before .before .before .before .before) .args .edition)) 1) (cells (x .before .before .before .before .before .before .before .before .before .before .before .before .before)))
+refused : (x : tie.After-refused-by) → Refusal (x .refused-by .result) ≡ reading (arityOf (start (x .before .before .before .before .before .before .before .before .before .before .before .before .before) .args .edition)) (storedOf (start (x .before .before .before .before .before .before .before .before .before .before .before .before .before) .args .edition)) 1 (cellsOf (start (x .before .before .before .before .before .before .before .before .before .before .before .before .before) .args .input .now))
+refused x = handed-on _ _ _ _ (x .before .enum-told .given .1) (x .refused-by .ensures) (x .before .before .before .before .before .before .before .read-terms .ensures .0 ∙ ap (reading (arityOf (start (x .before .before .before .before .before .before .before .before .before .before .before .before .before) .args .edition)) (storedOf (start (x .before .before .before .before .before .before .before .before .before .before .before .before .before) .args .edition)) 1) (cells (x .before .before .before .before .before .before .before .before .before .before .before .before .before)))
 
 -- the form that was read, and that the buffer holds it
 got : (x : tie.After-read)
-    → Form (x .read .given .0 .0) (x .read .given .0 .1 .0) ≡ reading (arityOf (start (x .before .before .before .before .before .before .before .before .before .before .before .before) .args .edition)) 1 (cellsOf (start (x .before .before .before .before .before .before .before .before .before .before .before .before) .args .input .now))
-got x = sym (x .read .given .1) ∙ x .before .before .before .before .before .before .read-terms .ensures .0 ∙ ap (reading (arityOf (start (x .before .before .before .before .before .before .before .before .before .before .before .before) .args .edition)) 1) (cells (x .before .before .before .before .before .before .before .before .before .before .before .before))
+    → Form (x .read .given .0 .0) (x .read .given .0 .1 .0) ≡ reading (arityOf (start (x .before .before .before .before .before .before .before .before .before .before .before .before) .args .edition)) (storedOf (start (x .before .before .before .before .before .before .before .before .before .before .before .before) .args .edition)) 1 (cellsOf (start (x .before .before .before .before .before .before .before .before .before .before .before .before) .args .input .now))
+got x = sym (x .read .given .1) ∙ x .before .before .before .before .before .before .read-terms .ensures .0 ∙ ap (reading (arityOf (start (x .before .before .before .before .before .before .before .before .before .before .before .before) .args .edition)) (storedOf (start (x .before .before .before .before .before .before .before .before .before .before .before .before) .args .edition)) 1) (cells (x .before .before .before .before .before .before .before .before .before .before .before .before))
 
 holds : (x : tie.After-read)
-    → take (x .read .given .0 .0) (x .before .before .before .before .before .before .read-terms .last .1 .1 .1 .0) ≡ compactForm (arityOf (start (x .before .before .before .before .before .before .before .before .before .before .before .before) .args .edition)) (cellsOf (start (x .before .before .before .before .before .before .before .before .before .before .before .before) .args .input .now))
-holds x = (rw (x .read .given .1) at (x .before .before .before .before .before .before .read-terms .ensures .1)) ∙ ap (compactForm (arityOf (start (x .before .before .before .before .before .before .before .before .before .before .before .before) .args .edition))) (cells (x .before .before .before .before .before .before .before .before .before .before .before .before))
+    → take (x .read .given .0 .0) (x .before .before .before .before .before .before .read-terms .last .1 .1 .1 .0) ≡ storedOf (start (x .before .before .before .before .before .before .before .before .before .before .before .before) .args .edition) .form (cellsOf (start (x .before .before .before .before .before .before .before .before .before .before .before .before) .args .input .now))
+holds x = (rw (x .read .given .1) at (x .before .before .before .before .before .before .read-terms .ensures .1)) ∙ ap (storedOf (start (x .before .before .before .before .before .before .before .before .before .before .before .before) .args .edition) .form) (cells (x .before .before .before .before .before .before .before .before .before .before .before .before))
 
 decode-requires : tie.Need-decode-requires
 decode-requires c κs = search needs
@@ -68,7 +68,7 @@ refused-by-requires : tie.Need-refused-by-requires
 refused-by-requires c κs = search needs
 
 add-result : tie.Need-add-result
-add-result c = omega (arith, refusal-small _ 1 (c .refused-by .result) _ (refused c))
+add-result c = omega (arith, refusal-small _ _ 1 (c .refused-by .result) _ (refused c))
 
 same-length : tie.Need-same-length
 same-length c = search needs
@@ -80,10 +80,10 @@ same-length-3 : tie.Need-same-length-3
 same-length-3 c = search needs
 
 returns : tie.Need-returns
-returns c = compact-refused _ _ _ (whole (c .before .before .before .before .before .before .before .before .before .before .before .before .before)) _ (refused c)
+returns c = compact-refused _ _ _ _ (whole (c .before .before .before .before .before .before .before .before .before .before .before .before .before)) _ (refused c)
 
 deliver-requires : tie.Need-deliver-requires
-deliver-requires c κs = let r = taken-room _ (c .before .before .before .before .before .before .before .before .before .read-terms .last .1 .1 .1 .0) _ (holds (c .before .before .before)) (reading-length _ _ _ _ _ (got (c .before .before .before))) in (r, omega (arith, r, c .before .before .before .before .before .before .before .before .before .before .before .before .before .before .before .before .before .before .before .before .before .before .pre))
+deliver-requires c κs = let r = taken-room _ (c .before .before .before .before .before .before .before .before .before .read-terms .last .1 .1 .1 .0) _ (holds (c .before .before .before)) (reading-length _ _ _ _ _ _ (got (c .before .before .before))) in (r, omega (arith, r, c .before .before .before .before .before .before .before .before .before .before .before .before .before .before .before .before .before .before .before .before .before .before .pre))
 
 same-length-4 : tie.Need-same-length-4
 same-length-4 c = search needs
@@ -98,7 +98,7 @@ same-length-7 : tie.Need-same-length-7
 same-length-7 c = search needs
 
 returns-2 : tie.Need-returns-2
-returns-2 c = c .before .before .deliver .ensures ∙ compact-form _ _ _ (whole (c .before .before .before .before .before .before .before .before .before .before .before .before .before .before .before .before .before .before)) _ _ _ (got (c .before .before .before .before .before .before)) (holds (c .before .before .before .before .before .before))
+returns-2 c = c .before .before .deliver .ensures ∙ compact-form _ _ _ _ (whole (c .before .before .before .before .before .before .before .before .before .before .before .before .before .before .before .before .before .before)) _ _ _ (got (c .before .before .before .before .before .before)) (holds (c .before .before .before .before .before .before))
 
 pub compact-with-spec : {M : Type 1} → statement M
 compact-with-spec =

@@ -2,7 +2,7 @@
 use borrow.Author.Needs.{needs}
 use native.Mathlib.Omega.{arith}
 use mathlib.Core.Path.{_∙_, sym}
-use Rattle.marshalling.proofs.ExportLaws.{edition-known, edition-refused}
+use Rattle.marshalling.proofs.ExportLaws.{expanded-in, edition-refused}
 use Rattle.marshalling.proofs.expand_bytes.Statement.{statement}
 use Rattle.marshalling.proofs.expand_bytes.Tie as tie
 
@@ -16,7 +16,7 @@ same-length : tie.Need-same-length
 same-length c = search needs
 
 returns : tie.Need-returns
-returns c = edition-known _ _ _ _ (sym (c .before .before .before .before .before .is-converter-edition .ensures) ∙ c .before .before .before .before .if1 .taken) (c .before .before .expand-input .ensures)
+returns c = expanded-in _ _ _ _ (sym (c .before .before .before .before .before .is-converter-edition .ensures) ∙ c .before .before .before .before .if1 .taken) (c .before .before .expand-input .ensures)
 
 add-result : tie.Need-add-result
 add-result c = omega arith

@@ -3,9 +3,8 @@ use Prim.Native.Nat.{_%_}
 use mathlib.Core.Path.{_≡_, sym, ap, _∙_}
 use native.Mathlib.Omega.{arith}
 use lib.ListN.{length, take}
-use Rattle.forms.specs.Cells.{arityOf}
 use Rattle.forms.specs.declared.Loading.the-variants.{Terms, NoForm}
-use Rattle.forms.specs.Compact.{pairForm}
+use Rattle.forms.specs.Stored.{storedOf}
 use Rattle.forms.specs.Converting.{loading}
 use Rattle.convert.proofs.AnswerLaws.{taken-room, loading-length}
 use Rattle.marshalling.specs.Bytes.{cellsOf}
@@ -38,15 +37,15 @@ whole : (x : Decoded) → length (start x .args .input .now) % 4 ≡ 0
 whole x = omega (arith, start x .pre .0)
 
 -- that no form was loaded
-refused : (x : lts.After-enum-told (decode-reads.Asked, decode-reads.Learnt, load-terms-reads.Asked, load-terms-reads.Learnt, deliver-reads.Asked, deliver-reads.Learnt) reads.Pre reads.Post) → NoForm ≡ loading (arityOf (start (x .before .before .before .before .before .before .before .before .before) .args .edition)) 1 (cellsOf (start (x .before .before .before .before .before .before .before .before .before) .args .input .now))
-refused x = sym (x .enum-told .given .1) ∙ x .before .before .before .before .load-terms .ensures .0 ∙ ap (loading (arityOf (start (x .before .before .before .before .before .before .before .before .before) .args .edition)) 1) (cells (x .before .before .before .before .before .before .before .before .before))
+refused : (x : lts.After-enum-told (decode-reads.Asked, decode-reads.Learnt, load-terms-reads.Asked, load-terms-reads.Learnt, deliver-reads.Asked, deliver-reads.Learnt) reads.Pre reads.Post) → NoForm ≡ loading (storedOf (start (x .before .before .before .before .before .before .before .before .before) .args .edition)) 1 (cellsOf (start (x .before .before .before .before .before .before .before .before .before) .args .input .now))
+refused x = sym (x .enum-told .given .1) ∙ x .before .before .before .before .load-terms .ensures .0 ∙ ap (loading (storedOf (start (x .before .before .before .before .before .before .before .before .before) .args .edition)) 1) (cells (x .before .before .before .before .before .before .before .before .before))
 
 -- the terms that were loaded, and that the buffer holds them
-got : (x : lts.After-k (decode-reads.Asked, decode-reads.Learnt, load-terms-reads.Asked, load-terms-reads.Learnt, deliver-reads.Asked, deliver-reads.Learnt) reads.Pre reads.Post) → Terms (x .k .given .0 .0) ≡ loading (arityOf (start (x .before .before .before .before .before .before .before .before .before) .args .edition)) 1 (cellsOf (start (x .before .before .before .before .before .before .before .before .before) .args .input .now))
-got x = sym (x .k .given .1) ∙ x .before .before .before .before .load-terms .ensures .0 ∙ ap (loading (arityOf (start (x .before .before .before .before .before .before .before .before .before) .args .edition)) 1) (cells (x .before .before .before .before .before .before .before .before .before))
+got : (x : lts.After-k (decode-reads.Asked, decode-reads.Learnt, load-terms-reads.Asked, load-terms-reads.Learnt, deliver-reads.Asked, deliver-reads.Learnt) reads.Pre reads.Post) → Terms (x .k .given .0 .0) ≡ loading (storedOf (start (x .before .before .before .before .before .before .before .before .before) .args .edition)) 1 (cellsOf (start (x .before .before .before .before .before .before .before .before .before) .args .input .now))
+got x = sym (x .k .given .1) ∙ x .before .before .before .before .load-terms .ensures .0 ∙ ap (loading (storedOf (start (x .before .before .before .before .before .before .before .before .before) .args .edition)) 1) (cells (x .before .before .before .before .before .before .before .before .before))
 
-holds : (x : lts.After-k (decode-reads.Asked, decode-reads.Learnt, load-terms-reads.Asked, load-terms-reads.Learnt, deliver-reads.Asked, deliver-reads.Learnt) reads.Pre reads.Post) → take (x .k .given .0 .0) (x .before .before .before .before .load-terms .last .1 .1 .0) ≡ pairForm (arityOf (start (x .before .before .before .before .before .before .before .before .before) .args .edition)) (cellsOf (start (x .before .before .before .before .before .before .before .before .before) .args .input .now))
-holds x = (rw (x .k .given .1) at (x .before .before .before .before .load-terms .ensures .1)) ∙ ap (pairForm (arityOf (start (x .before .before .before .before .before .before .before .before .before) .args .edition))) (cells (x .before .before .before .before .before .before .before .before .before))
+holds : (x : lts.After-k (decode-reads.Asked, decode-reads.Learnt, load-terms-reads.Asked, load-terms-reads.Learnt, deliver-reads.Asked, deliver-reads.Learnt) reads.Pre reads.Post) → take (x .k .given .0 .0) (x .before .before .before .before .load-terms .last .1 .1 .0) ≡ storedOf (start (x .before .before .before .before .before .before .before .before .before) .args .edition) .cells (cellsOf (start (x .before .before .before .before .before .before .before .before .before) .args .input .now))
+holds x = (rw (x .k .given .1) at (x .before .before .before .before .load-terms .ensures .1)) ∙ ap (storedOf (start (x .before .before .before .before .before .before .before .before .before) .args .edition) .cells) (cells (x .before .before .before .before .before .before .before .before .before))
 
 decode-requires : tie.Need-decode-requires
 decode-requires c κs = search needs

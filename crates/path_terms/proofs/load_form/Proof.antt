@@ -1,7 +1,6 @@
 -- `path_terms::load_form` meets its contract.
-use Rattle.path_terms.proofs.AlongCases.{numbered-few, loaded-numbered}
+use Rattle.path_terms.proofs.AlongCases.{few-loaded, loaded-numbered}
 use Rattle.forms.specs.declared.Answer.the-variants.{Cells, Short}
-use Rattle.forms.specs.Cells.{arityOf}
 use Rattle.basis.proofs.Tests.{told}
 use native.Mathlib.Omega.{arith}
 use borrow.Author.Needs.{needs}
@@ -15,13 +14,13 @@ enum-known-expanded : tie.Need-enum-known-expanded
 enum-known-expanded c = search needs
 
 add-result : tie.Need-add-result
-add-result c = omega (arith, numbered-few (arityOf (c .before .before .before .before .before .before .before .before .before .args .edition)) (c .before .before .before .before .before .before .before .before .before .args .m) (c .before .before .before .before .before .before .before .before .before .args .form .now) (c .before .before .before .before .before .before .before .before .before .args .out .now) (Cells (c .before .expanded .given .0 .0)) (told (c .before .expanded .given .1) (c .before .before .before .before .before .expand-terms .ensures .0)))
+add-result c = omega (arith, few-loaded (c .before .before .before .before .before .before .before .before .before .args .edition) (c .before .before .before .before .before .before .before .before .before .args .m) (c .before .before .before .before .before .before .before .before .before .args .form .now) (c .before .before .before .before .before .before .before .before .before .args .out .now) (Cells (c .before .expanded .given .0 .0)) (told (c .before .expanded .given .1) (c .before .before .before .before .before .expand-terms .ensures .0)))
 
 enum-known-expanded-2 : tie.Need-enum-known-expanded-2
 enum-known-expanded-2 c = search needs
 
 add-result-2 : tie.Need-add-result-2
-add-result-2 c = omega (arith, numbered-few (arityOf (c .before .before .before .before .before .before .before .before .before .args .edition)) (c .before .before .before .before .before .before .before .before .before .args .m) (c .before .before .before .before .before .before .before .before .before .args .form .now) (c .before .before .before .before .before .before .before .before .before .args .out .now) (Short (c .before .expanded2 .given .0 .0)) (told (c .before .expanded2 .given .1) (c .before .before .before .before .before .expand-terms .ensures .0)))
+add-result-2 c = omega (arith, few-loaded (c .before .before .before .before .before .before .before .before .before .args .edition) (c .before .before .before .before .before .before .before .before .before .args .m) (c .before .before .before .before .before .before .before .before .before .args .form .now) (c .before .before .before .before .before .before .before .before .before .args .out .now) (Short (c .before .expanded2 .given .0 .0)) (told (c .before .expanded2 .given .1) (c .before .before .before .before .before .expand-terms .ensures .0)))
 
 enum-told : tie.Need-enum-told
 enum-told c = search needs

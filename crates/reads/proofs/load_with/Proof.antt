@@ -6,6 +6,7 @@ use Rattle.store.specs.Decisions.{gives}
 use Rattle.space.specs.declared.Answer.{Answer}
 use Rattle.space.specs.Layout.{sizesOf}
 use Rattle.forms.specs.Cells.{arityOf}
+use Rattle.forms.specs.Stored.{storedOf}
 use Rattle.forms.specs.Compact.{pairForm}
 use Rattle.plain.specs.Coding.{codingOf}
 use native.Mathlib.Omega.{arith}
@@ -30,7 +31,7 @@ same-length : tie.Need-same-length
 same-length c = search needs
 
 returns : tie.Need-returns
-returns c = leaves-said _ _ _ _ _ _ (sym (c .cells-answer .ensures)) (leaves-same (viewOf (sizesOf (c .before .before .before .before .before .before .before .before .before .args .h .edition)) (c .before .before .before .before .before .before .before .before .before .args .space .now) (c .before .before .before .before .before .before .before .before .before .args .h)) _ _ (c .before .before .before .before .before .before .before .before .before .args .out .now) _ _ (loaded-on (codingOf (c .before .before .before .before .before .before .before .before .before .args .h .edition)) (viewOf (sizesOf (c .before .before .before .before .before .before .before .before .before .args .h .edition)) (c .before .before .before .before .before .before .before .before .before .args .space .now) (c .before .before .before .before .before .before .before .before .before .args .h)) (c .before .before .before .before .before .before .before .before .before .args .a) (λ w. gives (pairForm (arityOf (c .before .before .before .before .before .before .before .before .before .args .h .edition)) w)) (c .before .before .before .before .before .before .answer-in .result) (c .before .before .before .before .before .subgoal-in .result) (c .before .before .before .before .before .before .answer-in .ensures) (c .before .before .before .before .before .subgoal-in .ensures)) (c .before .before .before .load-path .ensures (viewOf (sizesOf (c .before .before .before .before .before .before .before .before .before .args .h .edition)) (c .before .before .before .before .before .before .before .before .before .args .space .now) (c .before .before .before .before .before .before .before .before .before .args .h))))
+returns c = leaves-said _ _ _ _ _ _ (sym (c .cells-answer .ensures)) (leaves-same (viewOf (sizesOf (c .before .before .before .before .before .before .before .before .before .args .h .edition)) (c .before .before .before .before .before .before .before .before .before .args .space .now) (c .before .before .before .before .before .before .before .before .before .args .h)) _ _ (c .before .before .before .before .before .before .before .before .before .args .out .now) _ _ (loaded-on (codingOf (c .before .before .before .before .before .before .before .before .before .args .h .edition)) (viewOf (sizesOf (c .before .before .before .before .before .before .before .before .before .args .h .edition)) (c .before .before .before .before .before .before .before .before .before .args .space .now) (c .before .before .before .before .before .before .before .before .before .args .h)) (c .before .before .before .before .before .before .before .before .before .args .a) (λ w. gives (storedOf (c .before .before .before .before .before .before .before .before .before .args .h .edition) .cells w)) (c .before .before .before .before .before .before .answer-in .result) (c .before .before .before .before .before .subgoal-in .result) (c .before .before .before .before .before .before .answer-in .ensures) (c .before .before .before .before .before .subgoal-in .ensures)) (c .before .before .before .load-path .ensures (viewOf (sizesOf (c .before .before .before .before .before .before .before .before .before .args .h .edition)) (c .before .before .before .before .before .before .before .before .before .args .space .now) (c .before .before .before .before .before .before .before .before .before .args .h))))
 
 pub load-with-spec : {M : Type 1} → statement M
 load-with-spec =

@@ -3,7 +3,7 @@ use mathlib.Core.Path.{refl, sym, _∙_}
 use native.Mathlib.Omega.{arith}
 use borrow.Author.Tests.{eq-eqb}
 use Rattle.parts.specs.Segments.{weight, solid}
-use Rattle.parts.proofs.Counting.{symbol-weight, other-weight}
+use Rattle.parts.proofs.Counting.{symbol-weight, other-weight, solid-weight}
 use borrow.Author.Needs.{needs}
 use Rattle.parts.proofs.tokens.weight_of.Statement.{statement}
 use Rattle.parts.proofs.tokens.weight_of.Tie as tie
@@ -26,7 +26,7 @@ enum-told-2 c = search needs
 
 returns-3 : tie.Need-returns-3
 unfolding solid
-returns-3 c = (sym (other-weight _ _ _ (c .before .before .before .if1 .left) (sym (c .before .before .shape-of .ensures) ∙ c .enum-told2 .given .1) refl), omega arith)
+returns-3 c = (sym (solid-weight _ _ _ (sym (c .before .before .shape-of .ensures) ∙ c .enum-told2 .given .1) refl), omega arith)
 
 enum-told-3 : tie.Need-enum-told-3
 enum-told-3 c = search needs
