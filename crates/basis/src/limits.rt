@@ -10,3 +10,7 @@ pub const MOST_TOKENS: usize = (3 * MOST_CELLS - 1) / 2;
 pub const MOST_RECORDS: usize = 1048576;
 // The pairs of a join.
 pub const MOST_PAIRS: usize = 32;
+// The cells of a listed call, and the symbols that a list is over.
+pub const MOST_LISTED: usize = 8;
+
+pub const MOST_SYMBOLS: usize = 16;

@@ -1,0 +1,14 @@
+pub mod Tests
+pub mod Cases
+pub mod Strings
+pub mod Members
+pub mod Sums
+pub mod Numbers
+pub mod Ways
+pub mod Calls
+pub mod Turns
+pub mod Filling
+pub mod Letters
+pub mod Answers
+pub mod Order
+pub mod Theorems
