@@ -25,7 +25,7 @@ use Rattle.plain.proofs.LinkLaws.{linkOf, linkOf-answer}
 use Rattle.plain.proofs.Counted.{forest-answer, nodes-answer}
 use Rattle.plain.proofs.Changes.{AnswerEnters}
 use Rattle.plain.proofs.Soundness.{sound-answer}
-use Rattle.plain.proofs.StoredForms.{answered-starts, held-answer}
+use Rattle.plain.proofs.StoredForms.{legal-starts, held-answer}
 use Rattle.space.specs.declared.Node.{Node}
 use Rattle.space.specs.declared.Subgoal.{Subgoal}
 use Rattle.space.specs.declared.Answer.{Answer}
@@ -203,9 +203,9 @@ module _ (c : Coding) (t : Table) (v : View) (S : Same c t v) (s : ℕ) (low : 0
         (λ e. let o = S .subgoal b h k in
         rw e (subgoal-kept b (v .subgoal b) (v .subgoal b .first) (v .subgoal b .last) o (o .first ∙ sym (later-other 0 b (eqb-false b s e))) (last-kept b _ _ (eqb-false b s e) (o .last))))
 
-    same-answered : AnswerEnters c t s w → Tries K (linking nd leaf (v .answers + 1)) n → Links K (linking nd leaf (v .answers + 1)) n (linkOf fuller)
+    same-answered : CodingLaws c → AnswerEnters c t s w → Tries K (linking nd leaf (v .answers + 1)) n → Links K (linking nd leaf (v .answers + 1)) n (linkOf fuller)
         → Same c fuller (withNewAnswer v nd n s leaf)
-    same-answered e tries links = record {
+    same-answered laws e tries links = record {
       es = more;
       forest = forest-answer t (S .es) s w (S .forest) low high;
       K = K;
@@ -217,7 +217,7 @@ module _ (c : Coding) (t : Table) (v : View) (S : Same c t v) (s : ℕ) (low : 0
       N-same = S .N-same;
       F-same = S .F-same;
       A-same = S .A-same;
-      sound = sound-answer c t (S .sound) s w e;
+      sound = sound-answer c laws t (S .sound) s w e;
       subgoals = S .subgoals;
       answers = next-number ∙ sym total-more;
       subgoal = subgoals-same;
@@ -253,8 +253,7 @@ module _ (c : Coding) (laws : CodingLaws c) (t : Table) (v : View) (S : Same c t
       let begun : begins (answersTo (t .answers) s) (a ∷ w) ≡ true =
       sym (trie-has (S .es) (answersTo (t .answers) s) s (S .forest .replies s low high) a w) ∙ sym (S .numbering .members (s ∷ a ∷ w)) ∙ place-has (S .K) (s ∷ a ∷ w) j (omega (arith, S .tries .keys)) k in
       let b = begins-witness (answersTo (t .answers) s) (a ∷ w) begun in
-      let held = held-answer c laws t (S .sound) s (b .0) (b .1) in
-      let eq : a ∷ w ≡ b .0 = answered-starts c laws (subgoalAt t s .m) ks (held .0) (a ∷ w) (b .0) m (held .1) e (held .2) (b .2) in
+      let eq : a ∷ w ≡ b .0 = legal-starts c laws (subgoalAt t s .m) (a ∷ w) (b .0) (laws .answered-legal (subgoalAt t s .m) ks (a ∷ w) m e) (held-answer c laws t (S .sound) s (b .0) (b .1)) (b .2) in
       rw eq (b .1)
 
   open-agrees : (x : State) (r : Result Table) (d : Decision) → (x ≡ Open → Agrees c v [] r d) → Agrees c v [] (table.whileOpen t x r) (decisions.whileOpen x d)
@@ -294,7 +293,7 @@ module _ (c : Coding) (laws : CodingLaws c) (t : Table) (v : View) (S : Same c t
         let o = S .subgoal s low high in
         let none : S .K ++ [] ≡ S .K = append-nil (S .K) in
         same-answered c t v S s low high [] [] (rw none (numbering-kept (S .es) (S .es ++ ((s ∷ []) ∷ [])) (S .K) (S .numbering) keys-empty))
-        (v .node) (v .nodes) root (omega arith) (o .root-in) (rw none (o .root-key)) e
+        (v .node) (v .nodes) root (omega arith) (o .root-in) (rw none (o .root-key)) laws e
         (rw none (tries-linked (S .K) (v .node) _ (v .nodes) (S .tries) (linking-linked (v .node) (v .nodes) root (v .answers + 1))))
         (rw none (λ i b. links-linking (S .K) (v .node) (v .nodes) (linkOf t) root (v .answers + 1) (S .tries .keys) (S .numbering .different) (o .root-in) (S .links) i b
         ∙ rw (o .root-key, next-number c t v S s low high []) (sym (linkOf-answer t s [] (key (S .K) i) low (e .absent)))))
@@ -365,7 +364,7 @@ module _ (c : Coding) (laws : CodingLaws c) (t : Table) (v : View) (S : Same c t
       replies = λ after. ap new (next-number c t v S s low high w);
       leaves = refl;
       same = same-answered c t v S s low high w L numbering-new (withPath (v .node) (v .nodes) q l (a ∷ u)) (v .nodes + length (a ∷ u)) last (omega arith) (omega arith)
-          (leaf-key (S .es) (S .K) (S .numbering) (v .node) (v .nodes) s (v .subgoal s .root) q l a u w (S .tries) there root-key inside st path rest) e tries-more
+          (leaf-key (S .es) (S .K) (S .numbering) (v .node) (v .nodes) s (v .subgoal s .root) q l a u w (S .tries) there root-key inside st path rest) laws e tries-more
           (links-leaf (S .es) (S .K) (S .numbering) (v .node) (v .nodes) s (v .subgoal s .root) q l a u w (S .tries) there root-key inside st path rest (linkOf t) (linkOf (withAnswer t s w)) (v .answers + 1)
           (S .links) (link-none c laws t v S) (λ y. linkOf-answer t s w y low (e .absent) ∙ rw (next-number c t v S s low high w)));
     })

@@ -23,9 +23,8 @@ use Rattle.plain.proofs.NumberLaws.{subgoalOf-none, subgoalOf-some, answerOf-no
 use Rattle.plain.proofs.RecordLaws.{subgoalAt-before, subgoalAt-new, subgoals-count}
 use Rattle.plain.proofs.LinkLaws.{linkOf, linkOf-call}
 use Rattle.plain.proofs.Counted.{afterCall, root-free, forest-call}
-use Rattle.plain.proofs.Changes.{SubgoalEnters}
-use Rattle.plain.proofs.Soundness.{sound-subgoal}
-use Rattle.plain.proofs.StoredForms.{called-some, called-starts, held-called}
+use Rattle.plain.proofs.Soundness.{Fit, called-fit, FormEnters, sound-subgoal}
+use Rattle.plain.proofs.StoredForms.{legal-starts, held-called}
 use Rattle.space.specs.declared.Node.{Node}
 use Rattle.space.specs.declared.Subgoal.{Subgoal}
 use Rattle.space.specs.declared.Answer.{Answer}
@@ -168,7 +167,7 @@ module _ (c : Coding) (laws : CodingLaws c) (t : Table) (v : View) (S : Same c t
     last = no-last refl refl;
   }
 
-  same-called : SubgoalEnters c t w m → Same c (withSubgoal t w m) (changedView v (entersSubgoal q l (a ∷ u) m))
+  same-called : FormEnters c t w m → Same c (withSubgoal t w m) (changedView v (entersSubgoal q l (a ∷ u) m))
   unfolding changedView
   same-called e = record {
     es = afterCall (S .es) total w;
@@ -182,7 +181,7 @@ module _ (c : Coding) (laws : CodingLaws c) (t : Table) (v : View) (S : Same c t
     N-same = S .N-same;
     F-same = S .F-same;
     A-same = S .A-same;
-    sound = sound-subgoal c t (S .sound) w m e;
+    sound = sound-subgoal c laws t (S .sound) w m e;
     subgoals = next-number ∙ sym (subgoals-count t w m);
     answers = S .answers;
     subgoal = λ s h k. by-cases (eqb s (v .subgoals + 1))
@@ -194,7 +193,7 @@ module _ (c : Coding) (laws : CodingLaws c) (t : Table) (v : View) (S : Same c t
       before : (s : ℕ) → s ≤ length (grown .subgoals) → (s ≡ v .subgoals + 1 → ⊥) → s ≤ total
       before s k ne = omega (arith, subgoals-count t w m, S .subgoals)
 
-  pub called-entered : SubgoalEnters c t w m → Agrees c v [] (becomes (withSubgoal t w m) (new (suc (length (t .subgoals))))) (entersSubgoal q l (a ∷ u) m)
+  pub called-entered : FormEnters c t w m → Agrees c v [] (becomes (withSubgoal t w m) (new (suc (length (t .subgoals))))) (entersSubgoal q l (a ∷ u) m)
   unfolding reply outAfter
   called-entered e = record {
     fits = subgoal-fits q l (a ∷ u) m inside (stop-inside (v .node) (v .nodes) q l inside st) (omega arith) (omega (arith, nodes-grown, e .room, S .N-same)) (omega (arith, e .free, S .subgoals, S .F-same));
@@ -228,39 +227,42 @@ module _ (c : Coding) (laws : CodingLaws c) (t : Table) (v : View) (S : Same c t
       (agrees-says c t v S [] (oldSubgoal s (subgoalAt t s .state)))
 
   -- a form that the walk finds whole is there
-  called-held : (w : Word) (m : ℕ) (ks : List ℕ) → c .called ks ≡ accepted w m → (j : ℕ) → j < v .nodes → key (S .K) j ≡ 0 ∷ w → has (calledForms (t .subgoals)) w ≡ true
-  called-held [] m ks e j h k = absurd (called-some c laws ks m e)
-  called-held (a ∷ w) m ks e j h k =
+  called-held : (w : Word) (m : ℕ) → Fit c w m → (j : ℕ) → j < v .nodes → key (S .K) j ≡ 0 ∷ w → has (calledForms (t .subgoals)) w ≡ true
+  called-held [] m e j h k = let z = laws .legal-some 0 [] (e .0) in absurd (omega arith)
+  called-held (a ∷ w) m e j h k =
       let begun : begins (calledForms (t .subgoals)) (a ∷ w) ≡ true =
       sym (trie-has (S .es) (calledForms (t .subgoals)) 0 (S .forest .calls) a w) ∙ sym (S .numbering .members (0 ∷ a ∷ w)) ∙ place-has (S .K) (0 ∷ a ∷ w) j (omega (arith, S .tries .keys)) k in
       let b = begins-witness (calledForms (t .subgoals)) (a ∷ w) begun in
-      let held = held-called c laws t (S .sound) (b .0) (b .1) in
-      let eq : a ∷ w ≡ b .0 = called-starts c laws ks (held .0) (a ∷ w) (b .0) m (held .1) e (held .2) (b .2) in
+      let eq : a ∷ w ≡ b .0 = legal-starts c laws 1 (a ∷ w) (b .0) (e .0) (held-called c laws t (S .sound) (b .0) (b .1)) (b .2) in
       rw eq (b .1)
 
-  called-new : (w : Word) (m : ℕ) (ks : List ℕ) → c .called ks ≡ accepted w m → (q l a : ℕ) (u : Word) → q < v .nodes → Stop (v .node) (v .nodes) q l
+  called-new : (w : Word) (m : ℕ) → Fit c w m → (q l a : ℕ) (u : Word) → q < v .nodes → Stop (v .node) (v .nodes) q l
       → key (S .K) q ++ (a ∷ u) ≡ 0 ∷ w → shared (S .K) (0 ∷ []) w < length w
       → longer (key (S .K) q) (a ∷ u) ≡ drop (shared (S .K) (key (S .K) 0) w) (longer (key (S .K) 0) w)
       → Agrees c v [] (table.called t (accepted w m)) (calledAt v (stopped q l (a ∷ u)) m)
   unfolding table.called appended table.fits calledAt calledNew
-  called-new w m ks e q l a u h st path less rest =
+  called-new w m e q l a u h st path less rest =
       let absent : has (calledForms (t .subgoals)) w ≡ false = trie-lacks (S .es) (calledForms (t .subgoals)) 0 (S .forest .calls) w (rw (← (shared-members (S .K) (prefixes (S .es)) (S .numbering .members) (0 ∷ []) w)) less) in
       let count : nodes (withSubgoal t w m) ≡ v .nodes + length (a ∷ u) + 1 = nodes-grown c laws t v S w m q l a u h st path rest absent in
       rw (subgoalOf-none t w absent)
       (agrees-pick c v [] (leb (nodes (withSubgoal t w m)) (t .N)) (leb (v .nodes + length (a ∷ u) + 1) (v .N)) _ _ _ _ (rw (count, S .N-same))
       (λ z. agrees-pick c v [] (ltb (length (t .subgoals)) (t .F)) (ltb (v .subgoals) (v .F)) _ _ _ _ (rw (S .subgoals, S .F-same))
-      (λ y. called-entered c laws t v S w m q l a u h st path rest absent (record { cs = ks; reading = e; absent = absent; room = leb-true _ _ z; free = ltb-true _ _ y }))
+      (λ y. called-entered c laws t v S w m q l a u h st path rest absent (record { fit = e; absent = absent; room = leb-true _ _ z; free = ltb-true _ _ y }))
       (λ y. agrees-says c t v S [] (refused 11)))
       (λ z. agrees-says c t v S [] (refused 10)))
 
-  called-walked : (w : Word) (m : ℕ) (ks : List ℕ) → c .called ks ≡ accepted w m → {x : Walk} → Walked (S .K) (v .node) (v .nodes) 0 w x
+  called-walked : (w : Word) (m : ℕ) → Fit c w m → {x : Walk} → Walked (S .K) (v .node) (v .nodes) 0 w x
       → Agrees c v [] (table.called t (accepted w m)) (calledAt v x m)
-  called-walked w m ks e (ends j h k) = called-old w m j h (k ∙ rw (S .origin)) (called-held w m ks e j h (k ∙ rw (S .origin)))
-  called-walked w m ks e (stops q l a u h st path less rest) = called-new w m ks e q l a u h st (path ∙ rw (S .origin)) (rw (S .origin) at less) rest
+  called-walked w m e (ends j h k) = called-old w m j h (k ∙ rw (S .origin)) (called-held w m e j h (k ∙ rw (S .origin)))
+  called-walked w m e (stops q l a u h st path less rest) = called-new w m e q l a u h st (path ∙ rw (S .origin)) (rw (S .origin) at less) rest
+
+  -- a form of one legal term enters, whoever read it
+  pub form-agrees : (w : Word) (m : ℕ) → Fit c w m → Agrees c v [] (table.called t (accepted w m)) (decisions.called v (accepted w m))
+  form-agrees w m e = unfold decisions.calledBy in called-walked w m e (walked-call c laws t v S w)
 
   called-read : (ks : List ℕ) (x : Reading) → c .called ks ≡ x → Agrees c v [] (table.called t x) (decisions.called v x)
   called-read ks (refused r) e = unfold table.called decisions.calledBy in agrees-says c t v S [] (refused r)
-  called-read ks (accepted w m) e = unfold decisions.calledBy in called-walked w m ks e (walked-call c laws t v S w)
+  called-read ks (accepted w m) e = form-agrees w m (called-fit c laws ks w m e)
 
   pub call-agrees : (ks : List ℕ) → Agrees c v [] (step c t (call ks)) (decide c v (call ks))
   unfolding step decideBy

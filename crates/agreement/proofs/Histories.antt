@@ -11,10 +11,12 @@ use Rattle.plain.specs.Table.{Table, fresh, step}
 use Rattle.space.specs.Layout.{sizesOf}
 use Rattle.space.specs.Fresh.{freshSpace}
 use Rattle.store.specs.Calls.{spaceStep, spaceStepBy, Answers, countedCells}
-use Rattle.agreement.specs.History.{Beside, alone, index, wayOf, Lent, Made, Meets, History, asked, seenOf, Histories, Lived}
+use Rattle.agreement.specs.Whole.{tableOf, editionOf}
+use Rattle.agreement.specs.History.{Beside, alone, index, wayOf, Lent, Made, Meets, History, asked, seenOf, Histories, WholeHistories, Lived}
 use Rattle.agreement.proofs.Holding.{Holds}
 use Rattle.agreement.proofs.IndexSteps.{step-indexed, state-holds, fresh-held}
 use Rattle.agreement.proofs.Theorem.{fresh-in, promise}
+use Rattle.agreement.proofs.WholeSpaces.{space-holds, whole-known, space-checking}
 
 abbrev shows : List ℕ → List Request → List Seen
 shows cs qs = trace spaceStep countedCells cs qs
@@ -40,7 +42,7 @@ module _ (e : ℕ) (known : knownEdition e ≡ true) where
         a .2 ∙ ap (λ (x : Result (List ℕ)). x .state) w,
       )
 
-  history-shown : (t : Table) (cs : List ℕ) (ms : List Made) → Holds (sizesOf e) (codingOf e) t cs → History cs ms → map seenOf ms ≡ shows cs (asked ms)
+  pub history-shown : (t : Table) (cs : List ℕ) (ms : List Made) → Holds (sizesOf e) (codingOf e) t cs → History cs ms → map seenOf ms ≡ shows cs (asked ms)
   unfolding History
   history-shown t cs [] k h = unfold trace in refl
   history-shown t cs (m ∷ ms) k h =
@@ -54,6 +56,12 @@ histories e n f a s ms d h =
     let first : History (freshSpace (sizesOf e) n f a s) ms = subst (λ (cs : List ℕ). History cs ms) (k .2) h in
     rw (k .2) (history-shown e (k .0) (fresh n f a) (freshSpace (sizesOf e) n f a s) ms (fresh-held e (k .0) n f a s (k .1)) first)
     ∙ promise e n f a s (asked ms) d
+
+pub whole-histories : WholeHistories
+whole-histories cs ms w h =
+    let k = whole-known cs w in
+    history-shown (editionOf cs) (k .0) (tableOf cs) cs ms (space-holds (editionOf cs) (k .0) cs (k .1 .0) (k .1 .1) w) h
+    ∙ space-checking .answering cs (asked ms) w
 
 -- the calls of the library itself
 pub lived : Lived

@@ -34,6 +34,7 @@ pub mod WholeKeys
 pub mod WholeTable
 pub mod WholeForest
 pub mod WholeSame
+pub mod Callables
 pub mod WholePasses
 pub mod TableRead
 pub mod Order

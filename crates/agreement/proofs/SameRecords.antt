@@ -278,7 +278,7 @@ module _ (c : Coding) (laws : CodingLaws c) (t : Table) (v : View) (S : Same c t
     -- ---- a subgoal record
 
     variables-known : (length (met [] (subgoalAt t s .form)) ≡ subgoalAt t s .m) × (subgoalAt t s .m ≤ 32)
-    variables-known = let f = S .sound .called s low high in laws .called-variables (f .0) (subgoalAt t s .form) (subgoalAt t s .m) (f .1)
+    variables-known = let f = S .sound .called s low high in (f .1, f .2)
 
     pub variables-met : length (met [] (subgoalAt t s .form)) ≡ v .subgoal s .variables
     variables-met = variables-known .0 ∙ sym (S .subgoal s low high .variables)

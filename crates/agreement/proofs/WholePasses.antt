@@ -29,10 +29,11 @@ use Rattle.plain.proofs.LinkLaws.{linkOf}
 use Rattle.plain.proofs.StoredForms.{starts-rest, called-form-legal, answer-form-legal}
 use Rattle.trie.specs.Paths.{Path, tokens}
 use Rattle.store.specs.Views.{View}
-use Rattle.agreement.specs.Whole.{wordOf, subgoalPath, answerPath, allNodes, ReadingAgain}
+use Rattle.agreement.specs.Whole.{wordOf, subgoalPath, answerPath, allNodes}
 use Rattle.agreement.proofs.TrieNodes.{par, nextOf, Kind, isRoot, isChild, parent-most}
 use Rattle.agreement.proofs.TrieWalks.{follows-after, key-some, search-own}
 use Rattle.agreement.proofs.SameRecords.{later, stateCell, LastSame, no-last, some-last, Same, variables-met, own-low, own-high, gather-subgoal, gather-answer}
+use Rattle.agreement.proofs.Callables.{Callable}
 use Rattle.agreement.proofs.WholeTests.{NodeFacts, Leads, to-subgoal, to-answer, LastFacts, none-last, has-last, SubgoalFacts, AnswerFacts, Whole, NodeLocal, EndsFacts, no-ends, both-ends, SubgoalLocal, AnswerLocal, Local}
 use Rattle.agreement.proofs.AnswerChains.{as-many}
 use Rattle.agreement.proofs.WholeChains.{local-chained}
@@ -48,7 +49,7 @@ state-most : (x : State) → stateCell x ≤ 1
 state-most Open = omega arith
 state-most Finished = omega arith
 
-module _ (c : Coding) (laws : CodingLaws c) (again : ReadingAgain c) (t : Table) (v : View) (S : Same c t v) where
+module _ (c : Coding) (laws : CodingLaws c) (t : Table) (callable : Callable t) (v : View) (S : Same c t v) where
   abbrev K : List Word
   K = S .K
 
@@ -260,7 +261,6 @@ module _ (c : Coding) (laws : CodingLaws c) (again : ReadingAgain c) (t : Table)
     subgoal-facts : SubgoalFacts c v s
     subgoal-facts =
         let o = S .subgoal s low high in
-        let f = S .sound .called s low high in
         record {
           root-in = o .root-in;
           root-next = o .root-next;
@@ -269,7 +269,7 @@ module _ (c : Coding) (laws : CodingLaws c) (again : ReadingAgain c) (t : Table)
           state = rw (o .state) (state-most (subgoalAt t s .state));
           path = path-back (subgoalPath v s) (subgoalAt t s .form) called-path;
           legal = rw called-read (called-form-legal c laws t (S .sound) s low high);
-          begins = rw called-read (again .called-begins (f .0) (subgoalAt t s .form) (subgoalAt t s .m) (f .1));
+          begins = rw called-read (callable s low high);
           variables = ap (λ (w : Word). length (met [] w)) called-read ∙ variables-met c laws t v S s low high;
           first = o .first ∙ later-same 0 s;
           last = last-facts s _ _ (o .last);

@@ -1,6 +1,7 @@
 -- A whole space holds the records of the table that it says.
 use Prim.Native.Nat.{ℕ, zero, suc, _≤_, _<_}
 use mathlib.Core.Path.{_≡_, refl, sym, ap, _∙_}
+use mathlib.Core.Bool.{true}
 use mathlib.Core.List.{List, [], _∷_}
 use native.Mathlib.Omega.{arith}
 use lib.Dec.{eqb}
@@ -8,18 +9,22 @@ use lib.ListN.{length}
 use borrow.Author.Tests.{eqb-true, eqb-false}
 use Rattle.basis.proofs.Cases.{by-cases}
 use Rattle.plain.specs.Words.{Word, has}
-use Rattle.plain.specs.Coding.{Coding, accepted}
+use Rattle.forms.specs.Numbering.{met}
+use Rattle.plain.specs.Coding.{Coding}
+use Rattle.plain.specs.CodingLaws.{CodingLaws}
 use Rattle.plain.specs.Table.{Table, Subgoal, Answer, subgoalAt, answerAt, subgoalOfAnswer, calledForms, answersTo, nodes, after, subgoalOf, answerOf}
 use Rattle.plain.specs.Consequences.{Kept}
 use Rattle.plain.proofs.Keys.{key}
 use Rattle.plain.proofs.NumberLaws.{subgoalOf-none, answerOf-none}
 use Rattle.plain.proofs.LinkLaws.{linkOf}
+use Rattle.plain.proofs.Soundness.{Fit}
 use Rattle.store.specs.Views.{View}
 use Rattle.store.specs.Decisions.{stateOf}
 use Rattle.agreement.specs.Whole.{wordOf, subgoalPath, answerPath, tableRead, ReadingAgain}
 use Rattle.agreement.proofs.RisingChains.{after-above}
 use Rattle.agreement.proofs.TrieLinks.{Links}
 use Rattle.agreement.proofs.SameRecords.{later, stateCell, LastSame, no-last, some-last, SubgoalSame, AnswerSame, Same}
+use Rattle.agreement.proofs.Callables.{Callable}
 use Rattle.agreement.proofs.WholeTests.{Leads, to-subgoal, to-answer, LastFacts, none-last, has-last, Whole}
 use Rattle.agreement.proofs.WholeKeys.{keysUp, keys-length, whole-tries, whole-different}
 use Rattle.agreement.proofs.WholeTable.{subgoals-length, answers-length, subgoal-at, answer-at, owner-at, whole-origin, leaf-in, leaf-key, root-key, answer-key, called-differ, given-differ, called-has, given-has, called-by, given-by}
@@ -30,7 +35,7 @@ state-read zero h = refl
 state-read (suc zero) h = refl
 state-read (suc (suc x)) h = absurd (omega arith)
 
-module _ (c : Coding) (again : ReadingAgain c) (v : View) (W : Whole c v) (some : 0 < v .nodes)
+module _ (c : Coding) (laws : CodingLaws c) (again : ReadingAgain c) (v : View) (W : Whole c v) (some : 0 < v .nodes)
     (nodes-room : v .nodes ≤ v .N) (subgoals-room : v .subgoals ≤ v .F) (answers-room : v .answers ≤ v .A) where
   abbrev t : Table
   t = tableRead v
@@ -134,20 +139,23 @@ module _ (c : Coding) (again : ReadingAgain c) (v : View) (W : Whole c v) (some 
   nodes-read : v .nodes ≡ nodes t
   nodes-read = let e = entries c v W some in sym (keys-length v (v .nodes)) ∙ whole-numbering c v W some (e .0) (e .1) .count ∙ e .1 .count
 
-  read-called : (s : ℕ) → 0 < s → s ≤ length (t .subgoals) → (cs : List ℕ) × (c .called cs ≡ accepted (subgoalAt t s .form) (subgoalAt t s .m))
+  read-called : (s : ℕ) → 0 < s → s ≤ length (t .subgoals) → Fit c (subgoalAt t s .form) (subgoalAt t s .m)
   read-called s h k =
       let l = sub-low s k in
       let f = W .subgoal s h l in
       let w : Word = wordOf (subgoalPath v s) in
-      (c .expand w, again .legal-called w (f .legal) (f .begins) ∙ ap (accepted w) (f .variables) ∙ rw (form-at s h l, m-at s h l))
+      let b = laws .called-variables (c .expand w) w (length (met [] w)) (again .legal-called w (f .legal) (f .begins)) in
+      rw (form-at s h l, m-at s h l) (f .legal, f .variables, omega (arith, f .variables, b .1))
 
-  read-answered : (a : ℕ) → 0 < a → a ≤ length (t .answers) → (cs : List ℕ) × (n : ℕ) × (c .answered (subgoalAt t (subgoalOfAnswer t a) .m) cs ≡ accepted (answerAt t a .form) n)
+  read-answered : (a : ℕ) → 0 < a → a ≤ length (t .answers) → c .legal (subgoalAt t (subgoalOfAnswer t a) .m) (answerAt t a .form) ≡ true
   read-answered a h k =
       let l = ans-low a k in
       let f = W .answer a h l in
-      let w : Word = wordOf (answerPath v a) in
-      let r = again .legal-answered (v .subgoal (v .answer a .subgoal) .variables) w (f .legal) in
-      (c .expand w, r .0, rw (owner-at v a h l, given-at a h l, m-at (v .answer a .subgoal) (f .low) (f .high)) (r .1))
+      rw (owner-at v a h l, given-at a h l, m-at (v .answer a .subgoal) (f .low) (f .high)) (f .legal)
+
+  -- every subgoal is a term to call
+  pub whole-callable : Callable (tableRead v)
+  whole-callable s h k = let l = sub-low s k in rw (form-at s h l) (W .subgoal s h l .begins)
 
   kept : Kept t
   kept = record {

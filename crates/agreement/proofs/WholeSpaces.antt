@@ -28,9 +28,10 @@ use Rattle.agreement.proofs.CallLists.{Deciding, cellStep-sound, trace-
 use Rattle.agreement.proofs.Following.{left-related, step-state, fresh-holds}
 use Rattle.agreement.proofs.Theorem.{cells-hold, header-any, deciding, fresh-in}
 use Rattle.agreement.proofs.ReadingAgain.{coding-again}
+use Rattle.agreement.proofs.Callables.{Callable, callable-fresh, callable-left}
 use Rattle.agreement.proofs.WholeTests.{whole-local, local-whole}
 use Rattle.agreement.proofs.WholeChains.{local-facts}
-use Rattle.agreement.proofs.WholeSame.{whole-same}
+use Rattle.agreement.proofs.WholeSame.{whole-same, whole-callable}
 use Rattle.agreement.proofs.WholePasses.{same-local}
 use Rattle.agreement.proofs.TableRead.{same-table}
 
@@ -38,25 +39,28 @@ module _ (z : Sizes) (c : Coding) (cells : Cells z) (laws : CodingLaws c) (again
   abbrev Held : Table → List ℕ → Type 0
   Held = Holds z c
 
-  -- cells that hold the records of a table pass, and say it
-  pub held-passes : (t : Table) (cs : List ℕ) → Held t cs → wholeCells z c cs ≡ true
+  -- cells that hold the records of a table say it, and pass where its subgoals are terms to call
+  pub held-passes : (t : Table) (cs : List ℕ) → Held t cs → Callable t → wholeCells z c cs ≡ true
   unfolding wholeCells wholeUnder
-  held-passes t cs k = rw (k .sound) (local-whole c (viewOf z cs (k .head)) (same-local c laws again t (viewOf z cs (k .head)) (k .same)))
+  held-passes t cs k b = rw (k .sound) (local-whole c (viewOf z cs (k .head)) (same-local c laws t b (viewOf z cs (k .head)) (k .same)))
 
   pub held-table : (t : Table) (cs : List ℕ) → Held t cs → tableCells z cs ≡ t
   unfolding tableCells tableUnder
   held-table t cs k = rw (k .sound) (same-table c laws t (viewOf z cs (k .head)) (k .same))
 
   -- cells that pass hold the records of the table that they say
-  whole-held : (cs : List ℕ) (x : Header) → headerOf z cs ≡ x → wholeUnder z c cs x ≡ true → Held (tableUnder z cs x) cs
+  whole-held : (cs : List ℕ) (x : Header) → headerOf z cs ≡ x → wholeUnder z c cs x ≡ true → Held (tableUnder z cs x) cs × Callable (tableUnder z cs x)
   unfolding wholeUnder tableUnder
   whole-held cs (header.Sound h) e w =
       let v : View = viewOf z cs h in
       let r = header-read z cs h e .within in
-      record { head = h; sound = e; same = whole-same c again v (local-facts c v (whole-local c v w)) (r .some-node) (r .nodes-within) (r .subgoals-within) (r .answers-within) }
+      let W = local-facts c v (whole-local c v w) in (
+        record { head = h; sound = e; same = whole-same c laws again v W (r .some-node) (r .nodes-within) (r .subgoals-within) (r .answers-within) },
+        whole-callable c laws again v W (r .some-node) (r .nodes-within) (r .subgoals-within) (r .answers-within),
+      )
   whole-held cs (header.Refused r) e w = absurd (false≢true w)
 
-  pub whole-holds : (cs : List ℕ) → wholeCells z c cs ≡ true → Held (tableCells z cs) cs
+  pub whole-holds : (cs : List ℕ) → wholeCells z c cs ≡ true → Held (tableCells z cs) cs × Callable (tableCells z cs)
   unfolding wholeCells tableCells
   whole-holds cs w = whole-held cs (headerOf z cs) refl w
 
@@ -67,9 +71,12 @@ module _ (z : Sizes) (c : Coding) (cells : Cells z) (laws : CodingLaws c) (again
   checking = record {
     passing = λ n f a s qs e.
         let k = left-held (fresh n f a) (freshSpace z n f a s) qs (fresh-holds z c cells laws library decides n f a s e) in
-        (held-passes _ _ k, held-table _ _ k);
-    answering = λ cs qs w. let k = whole-holds cs w in trace-same z c cells laws library decides (tableCells z cs) cs (k .head) (k .sound) (k .same) qs;
-    lasting = λ cs qs w. let k = left-held (tableCells z cs) cs qs (whole-holds cs w) in (held-passes _ _ k, held-table _ _ k);
+        (held-passes _ _ k (callable-left c again qs (fresh n f a) (callable-fresh n f a)), held-table _ _ k);
+    answering = λ cs qs w. let k = whole-holds cs w .0 in trace-same z c cells laws library decides (tableCells z cs) cs (k .head) (k .sound) (k .same) qs;
+    lasting = λ cs qs w.
+        let h = whole-holds cs w in
+        let k = left-held (tableCells z cs) cs qs (h .0) in
+        (held-passes _ _ k (callable-left c again qs (tableCells z cs) (h .1)), held-table _ _ k);
   }
 
 -- for every layout that is wide enough and every coding that meets the laws
@@ -99,19 +106,22 @@ module _ (e : ℕ) (known : knownEdition e ≡ true) where
   edition-in : (cs : List ℕ) (h : Head) → headerOf (sizesOf e) cs ≡ header.Sound h → editionOf cs ≡ e
   edition-in cs h s = header-read (sizesOf e) cs h s .headed .edition
 
-  held-says : (t : Table) (cs : List ℕ) → HeldIn t cs → (wholeSpace cs ≡ true) × (tableOf cs ≡ t) × (editionOf cs ≡ e)
-  held-says t cs k = (
+  pub held-says : (t : Table) (cs : List ℕ) → HeldIn t cs → Callable t → (wholeSpace cs ≡ true) × (tableOf cs ≡ t) × (editionOf cs ≡ e)
+  held-says t cs k b = (
     whole-in cs (k .head) (k .sound)
-        ∙ held-passes (sizesOf e) (codingOf e) cells-in (coding-laws e) (coding-again e) spaceStep (deciding e known) t cs k,
+        ∙ held-passes (sizesOf e) (codingOf e) cells-in (coding-laws e) (coding-again e) spaceStep (deciding e known) t cs k b,
     table-in cs (k .head) (k .sound)
         ∙ held-table (sizesOf e) (codingOf e) cells-in (coding-laws e) (coding-again e) spaceStep (deciding e known) t cs k,
     edition-in cs (k .head) (k .sound),
   )
 
-  pub space-holds : (cs : List ℕ) (h : Head) → headerOf (sizesOf e) cs ≡ header.Sound h → wholeSpace cs ≡ true → Holds (sizesOf e) (codingOf e) (tableOf cs) cs
-  space-holds cs h s w =
-      subst (λ (t : Table). HeldIn t cs) (sym (table-in cs h s))
+  space-both : (cs : List ℕ) (h : Head) → headerOf (sizesOf e) cs ≡ header.Sound h → wholeSpace cs ≡ true → HeldIn (tableOf cs) cs × Callable (tableOf cs)
+  space-both cs h s w =
+      subst (λ (t : Table). HeldIn t cs × Callable t) (sym (table-in cs h s))
       (whole-holds (sizesOf e) (codingOf e) cells-in (coding-laws e) (coding-again e) spaceStep (deciding e known) cs (sym (whole-in cs h s) ∙ w))
+
+  pub space-holds : (cs : List ℕ) (h : Head) → headerOf (sizesOf e) cs ≡ header.Sound h → wholeSpace cs ≡ true → Holds (sizesOf e) (codingOf e) (tableOf cs) cs
+  space-holds cs h s w = space-both cs h s w .0
 
   left-in : (t : Table) (cs : List ℕ) (qs : List Request) → HeldIn t cs → HeldIn (left (step (codingOf e)) t qs) (left spaceStep cs qs)
   left-in t cs qs k = left-held (sizesOf e) (codingOf e) cells-in (coding-laws e) (coding-again e) spaceStep (deciding e known) t cs qs k
@@ -131,13 +141,17 @@ whole-known cs w = by-cases (knownEdition (editionOf cs))
     (λ k. (k, sound-header cs (headerOf (sizesOf (editionOf cs)) cs) (rw k at w)))
     (λ k. absurd (false≢true (unfold wholeAny in rw k at w)))
 
+pub space-callable : (cs : List ℕ) → wholeSpace cs ≡ true → Callable (tableOf cs)
+space-callable cs w = let k = whole-known cs w in space-both (editionOf cs) (k .0) cs (k .1 .0) (k .1 .1) w .1
+
 pub space-checking : SpaceChecking
 space-checking = record {
   passing = λ e n f a s qs d.
       let k = fresh-in e n f a s d in
       let o : HeldIn e (k .0) (fresh n f a) (freshSpace (sizesOf e) n f a s) =
       fresh-holds (sizesOf e) (codingOf e) (cells-in e (k .0)) (coding-laws e) spaceStep (deciding e (k .0)) n f a s (k .1) in
-      rw (k .2) (held-says e (k .0) (left (step (codingOf e)) (fresh n f a) qs) (left spaceStep (freshSpace (sizesOf e) n f a s) qs) (left-in e (k .0) (fresh n f a) (freshSpace (sizesOf e) n f a s) qs o));
+      rw (k .2) (held-says e (k .0) (left (step (codingOf e)) (fresh n f a) qs) (left spaceStep (freshSpace (sizesOf e) n f a s) qs) (left-in e (k .0) (fresh n f a) (freshSpace (sizesOf e) n f a s) qs o)
+      (callable-left (codingOf e) (coding-again e) qs (fresh n f a) (callable-fresh n f a)));
   answering = λ cs qs w.
       let k = whole-known cs w in
       let e : ℕ = editionOf cs in
@@ -147,5 +161,6 @@ space-checking = record {
       let k = whole-known cs w in
       let e : ℕ = editionOf cs in
       let o : HeldIn e (k .0) (tableOf cs) cs = space-holds e (k .0) cs (k .1 .0) (k .1 .1) w in
-      held-says e (k .0) (left (step (codingOf e)) (tableOf cs) qs) (left spaceStep cs qs) (left-in e (k .0) (tableOf cs) cs qs o);
+      held-says e (k .0) (left (step (codingOf e)) (tableOf cs) qs) (left spaceStep cs qs) (left-in e (k .0) (tableOf cs) cs qs o)
+      (callable-left (codingOf e) (coding-again e) qs (tableOf cs) (space-callable cs w));
 }

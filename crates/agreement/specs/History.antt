@@ -4,14 +4,17 @@
 use Prim.Native.Nat.{ℕ}
 use mathlib.Core.List.{List, [], _∷_, map}
 use mathlib.Core.Path.{_≡_}
+use mathlib.Core.Bool.{true}
 use Rattle.plain.specs.Requests.{Request, Reply, Seen}
-use Rattle.plain.specs.Table.{editionTrace}
+use Rattle.plain.specs.Coding.{codingOf}
+use Rattle.plain.specs.Table.{tableTrace, editionTrace}
 use Rattle.space.specs.Fresh.{freshAnswerIn, freshSpaceIn}
 use Rattle.space.specs.declared.FreshAnswer.the-variants.{Done}
 use Rattle.trie.specs.Siblings.{searchChildren}
 use Rattle.trie.specs.Walks.{Finding}
 use Rattle.trie.specs.Index.{searchIndexed}
 use Rattle.store.specs.Calls.{AnswersBy, countedCells}
+use Rattle.agreement.specs.Whole.{wholeSpace, tableOf, editionOf}
 
 -- what a call that searches is lent beside the space: nothing, or an index, of any cells
 pub data Beside : Type 0 where
@@ -56,6 +59,12 @@ abbrev pub Histories : Type 0
 Histories =
     (e n f a : ℕ) (s : List ℕ) (ms : List Made) → freshAnswerIn e n f a s ≡ Done → History (freshSpaceIn e n f a s) ms
     → map seenOf ms ≡ editionTrace e n f a (asked ms)
+
+-- and every history of a space that passes the check, whoever wrote it: the table is the one that it says
+abbrev pub WholeHistories : Type 0
+WholeHistories =
+    (cs : List ℕ) (ms : List Made) → wholeSpace cs ≡ true → History cs ms
+    → map seenOf ms ≡ tableTrace (codingOf (editionOf cs)) (tableOf cs) (asked ms)
 
 -- and every list of calls has one, whatever each is lent
 abbrev pub Lived : Type 0

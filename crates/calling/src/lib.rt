@@ -137,7 +137,7 @@ fn call_new(
 }
 
 // A term with this form and m variables is called.
-fn call_at(space: &mut [u32], h: Head, tokens: &[u32], m: usize, index: &[u32]) -> CallAnswer
+pub fn call_at(space: &mut [u32], h: Head, tokens: &[u32], m: usize, index: &[u32]) -> CallAnswer
     requires { ⌜ Bounds (now space) h × (m ≤ 32) ⌝ }
     ensures { λ r.
         ⌜ Does (old space) h (calledFrom (searchIndexed (old index)) (old tokens) m) (saidCall r) (new space) ⌝ }

@@ -237,8 +237,8 @@ instancing arity form laws n f a pos calls term terms s b out got-s got-b =
     let m : ℕ = subgoalAt t s .m in
     let p = called-form arity form laws term (x .0) (x .1) (x .2) in
     let q = answered-form arity form laws m terms (y .0) (y .1) (y .2) in
-    let held = sound-reached c n f a pos calls .called s (x .3 .low) (x .3 .high) in
-    let count : length (met [] (subgoalAt t s .form)) ≡ m = stored-laws arity form laws .called-variables (held .0) (subgoalAt t s .form) m (held .1) .0 in
+    let held = sound-reached c (stored-laws arity form laws) n f a pos calls .called s (x .3 .low) (x .3 .high) in
+    let count : length (met [] (subgoalAt t s .form)) ≡ m = held .1 in
     let held-form : subgoalAt t s .form ≡ form .form term = x .3 .form ∙ sym (p .2) in
     let variables : length (met [] term) ≡ m = sym (form-variables arity form laws 1 term (p .0)) ∙ ap (λ (l : Word). length (met [] l)) (sym held-form) ∙ count in
     instance-writes c t b (instantiated arity term terms) out (y .3 .low) (y .3 .high)

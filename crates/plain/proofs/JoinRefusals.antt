@@ -139,7 +139,7 @@ module _ (c : Coding) (laws : CodingLaws c) where
 
     answers-legal : (s : ℕ) → Every (λ w. c .legal (subgoalAt t s .m) w ≡ true) (answersTo (t .answers) s)
     answers-legal s = every-held (λ w. c .legal (subgoalAt t s .m) w ≡ true) (answersTo (t .answers) s) (answersTo (t .answers) s)
-        (λ w h. let k = held-answer c laws t sound s w h in laws .answered-legal (subgoalAt t s .m) (k .0) w (k .1) (k .2))
+        (λ w h. held-answer c laws t sound s w h)
         (λ w h. h)
 
     abbrev Refuses : Result Table → Type 0
@@ -164,4 +164,4 @@ module _ (c : Coding) (laws : CodingLaws c) where
         joining-refuses s (joinOf c (sideOf t f) (sideOf t g) ps (subgoalAt t s .state) (subgoalAt t s .m) cs) (join-ruled (sideOf t f) (sideOf t g) ps (subgoalAt t s .state) (subgoalAt t s .m) cs (unfold sideOf in answers-legal f) (unfold sideOf in answers-legal g)))))
 
 pub join-refusing : (c : Coding) → CodingLaws c → JoinRefusing c
-join-refusing c laws n f a h qs first second s r ps cs e = join-refuses c laws (reached c n f a qs) (sound-reached c n f a h qs) first second s ps cs r e
+join-refusing c laws n f a h qs first second s r ps cs e = join-refuses c laws (reached c n f a qs) (sound-reached c laws n f a h qs) first second s ps cs r e

@@ -1,6 +1,6 @@
--- Every table that calls make of a fresh one is sound: room is kept, no form is held twice, and each was read from lent cells.
+-- Every table that calls make of a fresh one is sound: room is kept, no form is held twice, and each is legal.
 use mathlib.Core.Path.{_≡_, sym, ap, _∙_}
-use mathlib.Core.Bool.{true≢false}
+use mathlib.Core.Bool.{true, false, true≢false}
 use mathlib.Core.List.{List, [], _∷_}
 use Prim.Native.Nat.{ℕ, suc, _≤_, _<_}
 use native.Mathlib.Omega.{arith}
@@ -8,8 +8,10 @@ use lib.Dec.{eqb}
 use lib.ListN.{length}
 use borrow.Author.Tests.{eqb-true, eqb-false}
 use Rattle.basis.proofs.Cases.{by-cases}
+use Rattle.forms.specs.Numbering.{met}
 use Rattle.plain.specs.Words.{Word, has, union, allInits, prefixes, distinct}
 use Rattle.plain.specs.Coding.{Coding, accepted}
+use Rattle.plain.specs.CodingLaws.{CodingLaws}
 use Rattle.plain.specs.Requests.{Request, left}
 use Rattle.plain.specs.Table.{Table, Subgoal, Answer, fresh, subgoalAt, answerAt, subgoalOfAnswer, calledForms, answersTo, answerNodes, nodes, withSubgoal, withAnswer, withFinished, withEntry, step}
 use Rattle.plain.specs.Consequences.{Kept, reached, Keeping}
@@ -17,12 +19,15 @@ use Rattle.plain.proofs.RecordLaws.{subgoalAt-before, subgoalAt-new, su
 use Rattle.plain.proofs.Changes.{SubgoalEnters, AnswerEnters, AnswersEnter, no-more, one-more, Changed, stayed, subgoal-enters, answer-enters, finishes, answers-enter, step-changed}
 use Rattle.plain.proofs.Growth.{left-grows}
 
--- what is kept, and the cells that each stored form was read from
+-- a form of one legal term with m variables
+abbrev pub Fit : Coding → Word → ℕ → Type 0
+Fit c w m = (c .legal 1 w ≡ true) × (length (met [] w) ≡ m) × (m ≤ 32)
+
+-- what is kept, and that each stored form is legal, a subgoal's with its variables
 pub record Sound (c : Coding) (t : Table) : Type 0 where
   pub kept : Kept t
-  pub called : (s : ℕ) → 0 < s → s ≤ length (t .subgoals) → (cs : List ℕ) × (c .called cs ≡ accepted (subgoalAt t s .form) (subgoalAt t s .m))
-  pub answered : (a : ℕ) → 0 < a → a ≤ length (t .answers)
-      → (cs : List ℕ) × (n : ℕ) × (c .answered (subgoalAt t (subgoalOfAnswer t a) .m) cs ≡ accepted (answerAt t a .form) n)
+  pub called : (s : ℕ) → 0 < s → s ≤ length (t .subgoals) → Fit c (subgoalAt t s .form) (subgoalAt t s .m)
+  pub answered : (a : ℕ) → 0 < a → a ≤ length (t .answers) → c .legal (subgoalAt t (subgoalOfAnswer t a) .m) (answerAt t a .form) ≡ true
 
 pub sound-fresh : (c : Coding) (n f a : ℕ) → 0 < n → Sound c (fresh n f a)
 sound-fresh c n f a h = record {
@@ -45,11 +50,25 @@ last-or i n h f g = by-cases (eqb i (suc n)) (λ e. f (eqb-true _ _ e)) (λ e. l
     below : (i n : ℕ) → i ≤ suc n → (i ≡ suc n → ⊥) → i ≤ n
     below i n h z = omega arith
 
-module _ (c : Coding) (t : Table) (sound : Sound c t) where
+-- a called term has such a form
+pub called-fit : (c : Coding) → CodingLaws c → (cs : List ℕ) (w : Word) (m : ℕ) → c .called cs ≡ accepted w m → Fit c w m
+called-fit c laws cs w m e = let v = laws .called-variables cs w m e in (laws .called-legal cs w m e, v .0, v .1)
+
+-- such a form enters as a subgoal, whoever read it
+pub record FormEnters (c : Coding) (t : Table) (w : Word) (m : ℕ) : Type 0 where
+  pub fit : Fit c w m
+  pub absent : has (calledForms (t .subgoals)) w ≡ false
+  pub room : nodes (withSubgoal t w m) ≤ t .N
+  pub free : length (t .subgoals) < t .F
+
+subgoal-form : (c : Coding) → CodingLaws c → (t : Table) (w : Word) (m : ℕ) → SubgoalEnters c t w m → FormEnters c t w m
+subgoal-form c laws t w m e = record { fit = called-fit c laws (e .cs) w m (e .reading); absent = e .absent; room = e .room; free = e .free }
+
+module _ (c : Coding) (laws : CodingLaws c) (t : Table) (sound : Sound c t) where
   abbrev kept : Kept t
   kept = sound .kept
 
-  module _ (w : Word) (m : ℕ) (e : SubgoalEnters c t w m) where
+  module _ (w : Word) (m : ℕ) (e : FormEnters c t w m) where
     -- the table with the subgoal, and its number
     abbrev grown : Table
     grown = withSubgoal t w m
@@ -79,10 +98,10 @@ module _ (c : Coding) (t : Table) (sound : Sound c t) where
         (λ y. kept .subgoals-differ i j p x r y
         (ap (λ (g : Subgoal). g .form) (sym (subgoalAt-before t w m i x)) ∙ z ∙ ap (λ (g : Subgoal). g .form) (subgoalAt-before t w m j y))))
 
-    grown-called : (s : ℕ) → 0 < s → s ≤ length (grown .subgoals) → (cs : List ℕ) × (c .called cs ≡ accepted (subgoalAt grown s .form) (subgoalAt grown s .m))
+    grown-called : (s : ℕ) → 0 < s → s ≤ length (grown .subgoals) → Fit c (subgoalAt grown s .form) (subgoalAt grown s .m)
     grown-called s p q =
         last-or s (length (t .subgoals)) (omega (arith, grown-count))
-        (λ x. (e .cs, rw (x, subgoalAt-new t w m) (e .reading)))
+        (λ x. rw (x, subgoalAt-new t w m) (e .fit))
         (λ x. rw (subgoalAt-before t w m s x) (sound .called s p x))
 
     grown-answered : (a : ℕ) → 0 < a → a ≤ length (t .answers) → (0 < subgoalOfAnswer t a) × (subgoalOfAnswer t a ≤ length (grown .subgoals))
@@ -141,10 +160,10 @@ module _ (c : Coding) (t : Table) (sound : Sound c t) where
         (λ y. absurd (old-answer a p x (rw (y, newest-subgoal, before-subgoal a x) at f) (rw (y, newest, before a x) at g)))
         (λ y. kept .answers-differ a b p x r y (rw (before-subgoal a x, before-subgoal b y) at f) (rw (before a x, before b y) at g)))
 
-    fuller-answered : (a : ℕ) → 0 < a → a ≤ length (fuller .answers) → (cs : List ℕ) × (n : ℕ) × (c .answered (subgoalAt t (subgoalOfAnswer fuller a) .m) cs ≡ accepted (answerAt fuller a .form) n)
+    fuller-answered : (a : ℕ) → 0 < a → a ≤ length (fuller .answers) → c .legal (subgoalAt t (subgoalOfAnswer fuller a) .m) (answerAt fuller a .form) ≡ true
     fuller-answered a p q =
         last-or a (length (t .answers)) (omega (arith, fuller-count))
-        (λ x. (e .cs, e .n, rw (x, newest-subgoal, newest) (e .reading)))
+        (λ x. rw (x, newest-subgoal, newest) (laws .answered-legal (subgoalAt t s .m) (e .cs) w (e .n) (e .reading)))
         (λ x. rw (before-subgoal a x, before a x) (sound .answered a p x))
 
     pub sound-answer : Sound c fuller
@@ -164,6 +183,7 @@ module _ (c : Coding) (t : Table) (sound : Sound c t) where
       answered = unfold subgoalAt in fuller-answered;
     }
 
+module _ (c : Coding) (t : Table) (sound : Sound c t) where
   module _ (s : ℕ) (low : 0 < s) (high : s ≤ length (t .subgoals)) where
     -- the table with the subgoal finished
     abbrev ended : Table
@@ -182,49 +202,49 @@ module _ (c : Coding) (t : Table) (sound : Sound c t) where
     ended-m : (x : ℕ) → subgoalAt ended x .m ≡ subgoalAt t x .m
     ended-m x = subgoalAt-lasts t s x low high .m
 
-    ended-answered : (a : ℕ) → 0 < a → a ≤ length (t .answers) → (cs : List ℕ) × (n : ℕ) × (c .answered (subgoalAt ended (subgoalOfAnswer t a) .m) cs ≡ accepted (answerAt t a .form) n)
+    ended-answered : (a : ℕ) → 0 < a → a ≤ length (t .answers) → c .legal (subgoalAt ended (subgoalOfAnswer t a) .m) (answerAt t a .form) ≡ true
     ended-answered a p q = rw (ended-m (subgoalOfAnswer t a)) (sound .answered a p q)
 
     pub sound-finished : Sound c ended
     sound-finished = record {
       kept = record {
-        room = omega (arith, ended-nodes, kept .room);
-        subgoal-room = omega (arith, ended-count, kept .subgoal-room);
-        answer-room = kept .answer-room;
-        answered = unfold answerAt in λ a p q. let k = kept .answered a p q in (k .0, omega (arith, k .1, ended-count));
-        subgoals-differ = λ i j p q r z f. kept .subgoals-differ i j p (omega (arith, ended-count)) r (omega (arith, ended-count)) (sym (ended-form i) ∙ f ∙ ended-form j);
-        answers-differ = unfold answerAt in kept .answers-differ;
+        room = omega (arith, ended-nodes, sound .kept .room);
+        subgoal-room = omega (arith, ended-count, sound .kept .subgoal-room);
+        answer-room = sound .kept .answer-room;
+        answered = unfold answerAt in λ a p q. let k = sound .kept .answered a p q in (k .0, omega (arith, k .1, ended-count));
+        subgoals-differ = λ i j p q r z f. sound .kept .subgoals-differ i j p (omega (arith, ended-count)) r (omega (arith, ended-count)) (sym (ended-form i) ∙ f ∙ ended-form j);
+        answers-differ = unfold answerAt in sound .kept .answers-differ;
       };
       called = λ x p q. rw (ended-form x, ended-m x) (sound .called x p (omega (arith, ended-count)));
       answered = unfold answerAt in ended-answered;
     }
 
-pub sound-entry : (c : Coding) (t : Table) → Sound c t → (s : ℕ) (w : Word) → AnswerEnters c t s w → Sound c (withEntry t s w)
-sound-entry c t sound s w e =
-    let full : Sound c (withAnswer t s w) = sound-answer c t sound s w e in
+pub sound-entry : (c : Coding) → CodingLaws c → (t : Table) → Sound c t → (s : ℕ) (w : Word) → AnswerEnters c t s w → Sound c (withEntry t s w)
+sound-entry c laws t sound s w e =
+    let full : Sound c (withAnswer t s w) = sound-answer c laws t sound s w e in
     settled-cases (withAnswer t s w) s (Sound c) (sound-finished c (withAnswer t s w) full s (e .low) (e .high)) full
 
-sound-entered : {c : Coding} {s : ℕ} {t u : Table} → Sound c t → AnswersEnter c s t u → Sound c u
-sound-entered sound no-more = sound
-sound-entered {c} {s} {t} sound (one-more w e rest) = sound-entered (sound-entry c t sound s w e) rest
+sound-entered : {c : Coding} {s : ℕ} {t u : Table} → CodingLaws c → Sound c t → AnswersEnter c s t u → Sound c u
+sound-entered laws sound no-more = sound
+sound-entered {c} {s} {t} laws sound (one-more w e rest) = sound-entered laws (sound-entry c laws t sound s w e) rest
 
-pub sound-changed : (c : Coding) (t u : Table) → Sound c t → Changed c t u → Sound c u
-sound-changed c t u sound stayed = sound
-sound-changed c t u sound (subgoal-enters w m e) = sound-subgoal c t sound w m e
-sound-changed c t u sound (answer-enters s w o e) = sound-entry c t sound s w e
-sound-changed c t u sound (finishes s low high) = sound-finished c t sound s low high
-sound-changed c t u sound (answers-enter s x o e) = sound-entered sound e
+pub sound-changed : (c : Coding) → CodingLaws c → (t u : Table) → Sound c t → Changed c t u → Sound c u
+sound-changed c laws t u sound stayed = sound
+sound-changed c laws t u sound (subgoal-enters w m e) = sound-subgoal c laws t sound w m (subgoal-form c laws t w m e)
+sound-changed c laws t u sound (answer-enters s w o e) = sound-entry c laws t sound s w e
+sound-changed c laws t u sound (finishes s low high) = sound-finished c t sound s low high
+sound-changed c laws t u sound (answers-enter s x o e) = sound-entered laws sound e
 
-pub sound-step : (c : Coding) (t : Table) (q : Request) → Sound c t → Sound c (step c t q .state)
-sound-step c t q sound = sound-changed c t (step c t q .state) sound (step-changed c t q)
+pub sound-step : (c : Coding) → CodingLaws c → (t : Table) (q : Request) → Sound c t → Sound c (step c t q .state)
+sound-step c laws t q sound = sound-changed c laws t (step c t q .state) sound (step-changed c t q)
 
-pub sound-left : (c : Coding) (t : Table) → Sound c t → (qs : List Request) → Sound c (left (step c) t qs)
+pub sound-left : (c : Coding) → CodingLaws c → (t : Table) → Sound c t → (qs : List Request) → Sound c (left (step c) t qs)
 unfolding left
-sound-left c t sound [] = sound
-sound-left c t sound (q ∷ qs) = sound-left c (step c t q .state) (sound-step c t q sound) qs
+sound-left c laws t sound [] = sound
+sound-left c laws t sound (q ∷ qs) = sound-left c laws (step c t q .state) (sound-step c laws t q sound) qs
 
-pub sound-reached : (c : Coding) (n f a : ℕ) → 0 < n → (qs : List Request) → Sound c (reached c n f a qs)
-sound-reached c n f a h qs = sound-left c (fresh n f a) (sound-fresh c n f a h) qs
+pub sound-reached : (c : Coding) → CodingLaws c → (n f a : ℕ) → 0 < n → (qs : List Request) → Sound c (reached c n f a qs)
+sound-reached c laws n f a h qs = sound-left c laws (fresh n f a) (sound-fresh c n f a h) qs
 
-pub keeping : (c : Coding) → Keeping c
-keeping c n f a h qs = let g = left-grows c (fresh n f a) qs in (sound-reached c n f a h qs .kept, g .N, g .F, g .A)
+pub keeping : (c : Coding) → CodingLaws c → Keeping c
+keeping c laws n f a h qs = let g = left-grows c (fresh n f a) qs in (sound-reached c laws n f a h qs .kept, g .N, g .F, g .A)

@@ -139,7 +139,7 @@ calling c laws n f a pos before between cs ds i j h k =
     let g : Grows t₁ u₁ = grows-trans t₁ u u₁ (left-grows c t₁ between) (step-grows c u (call ds)) in
     let x = stores-grows c cs t₁ u₁ i g (call-stores c cs t i h) in
     let y = call-stores c ds u j k in
-    let sound : Sound c u₁ = sound-step c u (call ds) (sound-left c t₁ (sound-step c t (call cs) (sound-reached c n f a pos before)) between) in (
+    let sound : Sound c u₁ = sound-step c laws u (call ds) (sound-left c laws t₁ (sound-step c laws t (call cs) (sound-reached c laws n f a pos before)) between) in (
       (λ e.
           let w : x .form ≡ y .form = sym (x .stored) ∙ ap (λ (s : ℕ). subgoalAt u₁ s .form) e ∙ y .stored in
           sym (laws .called-expands cs (x .form) (x .m) (x .reading)) ∙ ap (λ (v : Word). c .expand v) w ∙ laws .called-expands ds (y .form) (y .m) (y .reading)),
@@ -157,7 +157,7 @@ answering c laws n f a pos before between s cs ds i j h k =
     let x = holds-grows c cs t₁ u₁ s i g (answer-holds c cs t s i h) in
     let y = answer-holds c ds u s j k in
     let m : ℕ = subgoalAt u₁ s .m in
-    let sound : Sound c u₁ = sound-step c u (answer s ds) (sound-left c t₁ (sound-step c t (answer s cs) (sound-reached c n f a pos before)) between) in (
+    let sound : Sound c u₁ = sound-step c laws u (answer s ds) (sound-left c laws t₁ (sound-step c laws t (answer s cs) (sound-reached c laws n f a pos before)) between) in (
       (λ e.
           let w : x .form ≡ y .form = sym (x .stored) ∙ ap (λ (b : ℕ). answerAt u₁ b .form) e ∙ y .stored in
           sym (laws .answered-expands m cs (x .form) (x .n) (x .reading)) ∙ ap (λ (v : Word). c .expand v) w ∙ laws .answered-expands m ds (y .form) (y .n) (y .reading)),
@@ -248,11 +248,11 @@ module _ (t u : Table) (s : ℕ) (low : 0 < s) (high : s ≤ length (t .subgoals
   answer-again c ks =
       rw (lt-ltb 0 s low, le-leb s (length (t .subgoals)) high, le-leb s (length (u .subgoals)) (omega (arith, g .more-subgoals)), g .subgoals s high .m) (answered-again (c .answered (subgoalAt t s .m) ks))
 
-pub repeating : (c : Coding) → Repeating c
-repeating c n f a pos before between s cs low high fin =
+pub repeating : (c : Coding) → CodingLaws c → Repeating c
+repeating c laws n f a pos before between s cs low high fin =
     let t : Table = reached c n f a before in
     let u : Table = left (step c) t between in
-    answer-again t u s low high (left-grows c t between) (left-silent c s t between high fin) fin (sound-left c t (sound-reached c n f a pos before) between .kept) c cs
+    answer-again t u s low high (left-grows c t between) (left-silent c s t between high fin) fin (sound-left c laws t (sound-reached c laws n f a pos before) between .kept) c cs
 
 -- what finishes
 
@@ -288,11 +288,7 @@ module _ (c : Coding) (laws : CodingLaws c) (t : Table) (sound : Sound c t) wher
       let s : ℕ = subgoalOfAnswer t b in
       let k = sound .kept .answered b low high in
       let f = sound .called s (k .0) (k .1) in
-      let g = sound .answered b low high in
-      let w : Word = subgoalAt t s .form in
-      let n : length (met [] w) ≡ subgoalAt t s .m = laws .called-variables (f .0) w (subgoalAt t s .m) (f .1) .0 in
-      laws .instance-numbered w (answerAt t b .form) (laws .called-legal (f .0) w (subgoalAt t s .m) (f .1))
-      (rw n (laws .answered-legal (subgoalAt t s .m) (g .0) (answerAt t b .form) (g .1) (g .2)))
+      laws .instance-numbered (subgoalAt t s .form) (answerAt t b .form) (f .0) (rw (f .1) (sound .answered b low high))
 
   abbrev Numbers : Result Table → Type 0
   Numbers r = (k : ℕ) → r .reply ≡ cells k → numbered (take k (r .out)) ≡ take k (r .out)
@@ -309,7 +305,7 @@ module _ (c : Coding) (laws : CodingLaws c) (t : Table) (sound : Sound c t) wher
       (λ low high. writes-numbers (c .instanceOf (subgoalAt t (subgoalOfAnswer t b) .form) (answerAt t b .form)) out (instance-cells b low high))
 
 pub numbering : (c : Coding) → CodingLaws c → Numbering c
-numbering c laws n f a h qs b k out e = instance-numbers c laws (reached c n f a qs) (sound-reached c n f a h qs) b out k e
+numbering c laws n f a h qs b k out e = instance-numbers c laws (reached c n f a qs) (sound-reached c laws n f a h qs) b out k e
 
 -- ---- all of it, for every coding that meets the laws, and so for compact form
 
@@ -323,11 +319,11 @@ consequences c laws = record {
   answering = answering c laws;
   loading = loading c laws;
   finishing = finishing c laws;
-  repeating = repeating c;
+  repeating = repeating c laws;
   finished-by = finished-by c;
   joining = join-given c laws;
   join-refusing = join-refusing c laws;
-  keeping = keeping c;
+  keeping = keeping c laws;
   numbering = numbering c laws;
 }
 

@@ -1,0 +1,14 @@
+pub mod RecodingLaws
+pub mod CarriedLaws
+pub mod NodeCounts
+pub mod Building
+pub mod BuildingAnswers
+pub mod BuildingStates
+pub mod LoadingLaws
+pub mod Theorems
+pub mod Quick
+pub mod Needs
+pub mod CopyCases
+pub mod CopySteps
+pub mod CellsKept
+pub mod Frame

@@ -1,0 +1,1 @@
+// A space copied into another: definitions and theorems, no code yet.

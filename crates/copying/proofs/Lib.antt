@@ -1,0 +1,2 @@
+pub mod TokenCases
+pub mod GiveCases

@@ -1,0 +1,67 @@
+-- `carry_subgoals` meets its contract.
+use Prim.Native.Nat.{_≤_, _-_}
+use mathlib.Core.Path.{_≡_, refl, sym, ap, _∙_, subst}
+use mathlib.Core.List.{List}
+use native.Mathlib.Omega.{arith}
+use lib.ListN.{length}
+use Rattle.space.specs.declared.Subgoal.{Subgoal}
+use Rattle.copying.specs.Contracts.{withFirst}
+use Rattle.copying.proofs.GiveCases.{first-none, ready-at, first-next, first-ended}
+use Rattle.space.proofs.HeaderLaws.{bounds-nodes}
+use Rattle.copying.proofs.carry_subgoals.Statement.{statement}
+use Rattle.copying.proofs.carry_subgoals.Tie as tie
+
+abbrev Inv-loop : tie.InvT-loop
+Inv-loop source h target₀ i₀ target i = (i ≤ h .subgoals) × (target ≡ withFirst source h target₀ i) × (length target ≡ length target₀)
+
+abbrev μ-loop : tie.MeasureT-loop
+μ-loop source h target₀ i₀ target i = h .subgoals - i
+
+loop-holds : tie.Need-loop-holds Inv-loop μ-loop
+loop-holds c = (omega arith, first-none (c .before .before .args .source .now) (c .before .before .args .h) (c .before .before .args .target .now), refl)
+
+add-subgoal-in : tie.Need-add-subgoal-in Inv-loop μ-loop
+add-subgoal-in c = omega (arith, c .before .before .before .before .before .pre .0)
+
+subgoal-in-requires : tie.Need-subgoal-in-requires Inv-loop μ-loop
+subgoal-in-requires c κs = (c .before .before .before .before .before .pre .0, omega arith, omega arith)
+
+carry-subgoal-requires : tie.Need-carry-subgoal-requires Inv-loop μ-loop
+carry-subgoal-requires c κs =
+    let r = ready-at (c .before .before .before .before .before .before .before .args .source .now) (c .before .before .before .before .before .before .before .args .h) (c .before .before .before .before .before .before .before .args .target .now) (c .before .before .before .before .loop .target) (c .before .before .before .before .loop .i) _ (c .before .subgoal-in .ensures) (c .before .before .before .before .before .before .before .pre .1 (c .before .before .before .before .loop .i) (omega arith)) (c .before .before .before .before .loop .inv .1) in
+    (((bounds-nodes _ _ (c .before .before .before .before .before .before .before .pre .0), r .0), r .1), (r .2, r .3))
+
+add-i : tie.Need-add-i Inv-loop μ-loop
+add-i c = omega arith
+
+loop-less : tie.Need-loop-less Inv-loop μ-loop
+loop-less c = omega arith
+
+loop-again : tie.Need-loop-again Inv-loop μ-loop
+loop-again c = (
+  omega arith,
+  first-next (c .before .before .before .before .before .before .before .before .before .before .args .source .now) (c .before .before .before .before .before .before .before .before .before .before .args .h) (c .before .before .before .before .before .before .before .before .before .before .args .target .now) (c .before .before .before .before .before .before .before .loop .target) (c .before .before .before .before .before .before .before .loop .i) _ (c .before .before .before .before .subgoal-in .ensures) _ (c .before .before .before .before .before .before .before .loop .inv .1) (c .before .before .carry-subgoal .ensures),
+  omega (arith, c .before .before .carry-subgoal .kept, c .before .before .before .before .before .before .before .loop .inv .2),
+)
+
+same-length : tie.Need-same-length Inv-loop μ-loop
+same-length c = c .before .before .loop .inv .2
+
+returns : tie.Need-returns Inv-loop μ-loop
+returns c = first-ended (c .before .before .before .before .before .args .source .now) (c .before .before .before .before .before .args .h) (c .before .before .before .before .before .args .target .now) (c .before .before .loop .target) (c .before .before .loop .i) (c .before .before .loop .inv .0) (omega arith) (c .before .before .loop .inv .1)
+
+pub carry-subgoals-spec : {M : Type 1} → statement M
+carry-subgoals-spec =
+    tie.close
+    (tie.spec
+    Inv-loop
+    μ-loop
+    loop-holds
+    add-subgoal-in
+    subgoal-in-requires
+    carry-subgoal-requires
+    add-i
+    loop-less
+    loop-again
+    same-length
+    returns)
