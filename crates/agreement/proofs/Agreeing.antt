@@ -22,12 +22,14 @@ use Rattle.plain.proofs.LinkLaws.{linkOf}
 use Rattle.plain.proofs.Counted.{forest-finish}
 use Rattle.plain.proofs.Soundness.{sound-finished}
 use Rattle.plain.proofs.StoredForms.{called-form-legal, answer-form-legal}
+use Rattle.plain.proofs.ReasonLaws.{lowest-forms}
 use Rattle.space.specs.declared.Subgoal.{Subgoal}
 use Rattle.store.specs.Views.{View}
 use Rattle.store.specs.Decisions as decisions
 use Rattle.store.specs.Decisions.{Decision, says, gives, finishes, known, sound, onPath, loaded, instanced, handed, decide, decideBy}
 use Rattle.store.specs.Calls.{reply, outAfter}
 use Rattle.agreement.specs.Records.{withState, withFinish, changedView, Fits, says-fits, gives-fits, finish-fits}
+use Rattle.agreement.proofs.FirstChildren.{firsts-forms}
 use Rattle.agreement.proofs.SameRecords.{later, stateCell, LastSame, no-last, some-last, SubgoalSame, Same, same-counts, subgoal-judged, subgoal-state, answer-judged, answer-own-judged, variables-met, own-low, own-high, gather-subgoal, gather-answer}
 
 -- what the plain table gives and the decision on a view agree, out being lent
@@ -117,6 +119,7 @@ module _ (c : Coding) (t : Table) (v : View) (S : Same c t v) (s : ℕ) (low : 0
     numbering = S .numbering;
     tries = S .tries;
     links = λ i h. S .links i h ∙ linkOf-finished _;
+    firsts = firsts-forms t ended (S .K) (λ u. lowest-forms ended t (finished-forms t s low) u) (S .firsts);
     origin = S .origin;
     some = S .some;
     N-same = S .N-same;

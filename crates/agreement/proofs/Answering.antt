@@ -1,6 +1,6 @@
 -- An answer: an old one is found, a new one is entered behind the last of its subgoal, as in the plain table.
 use mathlib.Core.Path.{_≡_, refl, sym, ap, _∙_, subst}
-use mathlib.Core.Bool.{true, false}
+use mathlib.Core.Bool.{true, false, true≢false}
 use mathlib.Core.List.{List, [], _∷_, _++_, append-nil}
 use Prim.Native.Nat.{ℕ, zero, suc, _+_, _-_, _≤_, _<_}
 use native.Mathlib.Omega.{arith}
@@ -14,7 +14,7 @@ use Rattle.plain.specs.Coding.{Coding, Reading, refused, accepted}
 use Rattle.plain.specs.CodingLaws.{CodingLaws}
 use Rattle.plain.specs.Requests.{State, Open, Finished, answer, new, oldAnswer, refused, Result}
 use Rattle.plain.specs.Table as table
-use Rattle.plain.specs.Table.{Table, subgoalAt, answerAt, subgoalOfAnswer, answersTo, nodes, answerOf, after, withAnswer, withEntry, becomes, appended, step}
+use Rattle.plain.specs.Table.{Table, subgoalAt, answerAt, subgoalOfAnswer, calledForms, answersTo, nodes, answerOf, after, withAnswer, withEntry, becomes, appended, step}
 use Rattle.plain.proofs.PrefixLaws.{begins, longer, shared, begins-witness}
 use Rattle.plain.proofs.Entries.{prefixes-under, trie-root, trie-has, trie-lacks}
 use Rattle.plain.proofs.Keys.{key, place-has}
@@ -26,6 +26,7 @@ use Rattle.plain.proofs.Counted.{forest-answer, nodes-answer}
 use Rattle.plain.proofs.Changes.{AnswerEnters}
 use Rattle.plain.proofs.Soundness.{sound-answer}
 use Rattle.plain.proofs.StoredForms.{legal-starts, held-answer}
+use Rattle.plain.proofs.ReasonLaws.{lowest-forms}
 use Rattle.space.specs.declared.Node.{Node}
 use Rattle.space.specs.declared.Subgoal.{Subgoal}
 use Rattle.space.specs.declared.Answer.{Answer}
@@ -40,7 +41,8 @@ use Rattle.agreement.proofs.TrieNodes.{Tries, tries-linked, Stop, stop-
 use Rattle.agreement.proofs.TrieWalks.{Walked, ends, stops}
 use Rattle.agreement.proofs.Numberings.{Numbering, numbering-kept, shared-members}
 use Rattle.agreement.proofs.TrieLinks.{linking, linking-linked, Links, links-linking, numbering-leaf, leaf-key, tries-leaf, links-leaf}
-use Rattle.agreement.proofs.SameRecords.{later, LastSame, no-last, some-last, later-some, last-most, SubgoalSame, AnswerSame, Same, different, link-none, link-answered, walked-answer, answer-root-judged, subgoal-judged, subgoal-state, answer-judged, last-judged}
+use Rattle.agreement.proofs.FirstChildren.{Firsts, firsts-more}
+use Rattle.agreement.proofs.SameRecords.{subgoal-keys, later, LastSame, no-last, some-last, later-some, last-most, SubgoalSame, AnswerSame, Same, different, link-none, link-answered, walked-answer, answer-root-judged, subgoal-judged, subgoal-state, answer-judged, last-judged}
 use Rattle.agreement.proofs.Agreeing.{Agrees, agrees-says, agrees-known, agrees-pick, same-finished}
 
 -- ---- a new answer, at a leaf of the nodes with its path
@@ -203,6 +205,11 @@ module _ (c : Coding) (t : Table) (v : View) (S : Same c t v) (s : ℕ) (low : 0
         (λ e. let o = S .subgoal b h k in
         rw e (subgoal-kept b (v .subgoal b) (v .subgoal b .first) (v .subgoal b .last) o (o .first ∙ sym (later-other 0 b (eqb-false b s e))) (last-kept b _ _ (eqb-false b s e) (o .last))))
 
+    firsts-answered : Firsts fuller K
+    firsts-answered = firsts-more t fuller (S .K) L (num .different) (subgoal-keys c t v S) (λ y e. lowest-forms fuller t refl y)
+        (λ b y e h. absurd (true≢false (sym (sym (trie-has (S .es ++ ((s ∷ w) ∷ [])) (calledForms (t .subgoals)) 0 (forest-answer t (S .es) s w (S .forest) low high .calls) b y) ∙ sym (num .members (0 ∷ b ∷ y)) ∙ h) ∙ e)))
+        (S .firsts)
+
     same-answered : CodingLaws c → AnswerEnters c t s w → Tries K (linking nd leaf (v .answers + 1)) n → Links K (linking nd leaf (v .answers + 1)) n (linkOf fuller)
         → Same c fuller (withNewAnswer v nd n s leaf)
     same-answered laws e tries links = record {
@@ -212,6 +219,7 @@ module _ (c : Coding) (t : Table) (v : View) (S : Same c t v) (s : ℕ) (low : 0
       numbering = num;
       tries = tries;
       links = links;
+      firsts = firsts-answered;
       origin = key-before 0 (S .some) ∙ S .origin;
       some = omega (arith, S .some);
       N-same = S .N-same;

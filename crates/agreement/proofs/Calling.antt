@@ -1,7 +1,7 @@
 -- A call: an old subgoal is found, a new one is entered, as in the plain table.
-use mathlib.Core.Path.{_≡_, refl, sym, ap, _∙_}
+use mathlib.Core.Path.{_≡_, refl, sym, ap, _∙_, subst}
 use mathlib.Core.Bool.{true, false}
-use mathlib.Core.List.{List, [], _∷_, _++_}
+use mathlib.Core.List.{List, [], _∷_, _++_, append-assoc}
 use Prim.Native.Nat.{ℕ, suc, _+_, _-_, _≤_, _<_}
 use native.Mathlib.Omega.{arith}
 use lib.Dec.{eqb, leb, ltb}
@@ -12,19 +12,20 @@ use Rattle.basis.proofs.Cases.{by-cases}
 use Rattle.plain.specs.Words.{Word, has, prefixes}
 use Rattle.plain.specs.Coding.{Coding, Reading, refused, accepted}
 use Rattle.plain.specs.CodingLaws.{CodingLaws}
-use Rattle.plain.specs.Requests.{call, new, oldSubgoal, refused}
+use Rattle.plain.specs.Requests.{Open, call, new, oldSubgoal, refused}
 use Rattle.plain.specs.Table as table
 use Rattle.plain.specs.Table.{Table, subgoalAt, answerAt, subgoalOfAnswer, calledForms, nodes, subgoalOf, withSubgoal, becomes, appended, step}
-use Rattle.plain.proofs.PrefixLaws.{begins, longer, shared, begins-witness}
+use Rattle.plain.proofs.PrefixLaws.{starts, begins, longer, shared, begins-last, begins-witness}
 use Rattle.plain.proofs.Entries.{prefixes-root, trie-root, trie-has, trie-lacks}
-use Rattle.plain.proofs.Keys.{key, place-has}
+use Rattle.plain.proofs.Keys.{key, Different, place-has}
 use Rattle.plain.proofs.AfterLaws.{after-found}
 use Rattle.plain.proofs.NumberLaws.{subgoalOf-none, subgoalOf-some, answerOf-none}
 use Rattle.plain.proofs.RecordLaws.{subgoalAt-before, subgoalAt-new, subgoals-count}
 use Rattle.plain.proofs.LinkLaws.{linkOf, linkOf-call}
-use Rattle.plain.proofs.Counted.{afterCall, root-free, forest-call}
+use Rattle.plain.proofs.Counted.{calledForms-snoc, afterCall, root-free, forest-call}
 use Rattle.plain.proofs.Soundness.{Fit, called-fit, FormEnters, sound-subgoal}
 use Rattle.plain.proofs.StoredForms.{legal-starts, held-called}
+use Rattle.plain.proofs.ReasonLaws.{lowest-old, lowest-new}
 use Rattle.space.specs.declared.Node.{Node}
 use Rattle.space.specs.declared.Subgoal.{Subgoal}
 use Rattle.space.specs.declared.Answer.{Answer}
@@ -40,7 +41,8 @@ use Rattle.agreement.proofs.TrieNodes.{Tries, tries-count, tries-root, 
 use Rattle.agreement.proofs.TrieWalks.{Walked, ends, stops}
 use Rattle.agreement.proofs.Numberings.{Numbering, numbering-more, shared-members}
 use Rattle.agreement.proofs.TrieLinks.{updated-here, updated-other, linking, Links, links-root, numbering-leaf, leaf-key, tries-leaf, links-leaf}
-use Rattle.agreement.proofs.SameRecords.{later, LastSame, no-last, some-last, SubgoalSame, AnswerSame, Same, different, link-none, link-called, walked-call, subgoal-judged, subgoal-state}
+use Rattle.agreement.proofs.FirstChildren.{Firsts, firsts-more}
+use Rattle.agreement.proofs.SameRecords.{subgoal-keys, later, LastSame, no-last, some-last, SubgoalSame, AnswerSame, Same, different, link-none, link-called, walked-call, subgoal-judged, subgoal-state}
 use Rattle.agreement.proofs.Agreeing.{Agrees, agrees-says, agrees-pick}
 
 -- ---- a new subgoal, where the walk stopped
@@ -120,6 +122,21 @@ module _ (c : Coding) (laws : CodingLaws c) (t : Table) (v : View) (S : Same c t
       unlinked : linkOf grown (suc total ∷ []) ≡ 0
       unlinked = unfold linkOf in answerOf-none grown (suc total) [] (rw (S .forest .unanswered (suc total) (omega arith)) (unfold has in refl))
 
+  -- a new key begins the new form
+  begins-new : (b : ℕ) (y : Word) → begins (calledForms (t .subgoals)) (b ∷ y) ≡ false → has K (0 ∷ b ∷ y) ≡ true → starts (b ∷ y) w ≡ true
+  begins-new b y e h =
+      let k : begins (calledForms (grown .subgoals)) (b ∷ y) ≡ true =
+      sym (trie-has (afterCall (S .es) total w) (calledForms (grown .subgoals)) 0 (forest-call t (S .es) w m (S .forest) .calls) b y) ∙ sym (numbering-grown .members (0 ∷ b ∷ y)) ∙ h in
+      begins-last (calledForms (t .subgoals)) w (b ∷ y) e (rw (calledForms-snoc (t .subgoals) (record { form = w; m = m; state = Open })) at k)
+
+  firsts-grown : Firsts grown K
+  firsts-grown =
+      let assoc : K ≡ S .K ++ (longer (key (S .K) q) (a ∷ u) ++ ((suc total ∷ []) ∷ [])) = append-assoc (S .K) (longer (key (S .K) q) (a ∷ u)) ((suc total ∷ []) ∷ []) in
+      subst (Firsts grown) (sym assoc)
+      (firsts-more t grown (S .K) _ (subst Different assoc (numbering-grown .different)) (subgoal-keys c t v S) (λ y e. lowest-old t w m y e)
+      (λ b y e h. lowest-new t w m (b ∷ y) e (begins-new b y e (rw assoc h)))
+      (S .firsts))
+
   -- an old record says the same of the new forest
   last-grown : (s first last : ℕ) → LastSame t s first last → LastSame grown s first last
   unfolding answerAt
@@ -176,6 +193,7 @@ module _ (c : Coding) (laws : CodingLaws c) (t : Table) (v : View) (S : Same c t
     numbering = numbering-grown;
     tries = tries-grown;
     links = links-grown;
+    firsts = firsts-grown;
     origin = key-grown 0 (S .some) ∙ S .origin;
     some = omega arith;
     N-same = S .N-same;
@@ -227,7 +245,7 @@ module _ (c : Coding) (laws : CodingLaws c) (t : Table) (v : View) (S : Same c t
       (agrees-says c t v S [] (oldSubgoal s (subgoalAt t s .state)))
 
   -- a form that the walk finds whole is there
-  called-held : (w : Word) (m : ℕ) → Fit c w m → (j : ℕ) → j < v .nodes → key (S .K) j ≡ 0 ∷ w → has (calledForms (t .subgoals)) w ≡ true
+  pub called-held : (w : Word) (m : ℕ) → Fit c w m → (j : ℕ) → j < v .nodes → key (S .K) j ≡ 0 ∷ w → has (calledForms (t .subgoals)) w ≡ true
   called-held [] m e j h k = let z = laws .legal-some 0 [] (e .0) in absurd (omega arith)
   called-held (a ∷ w) m e j h k =
       let begun : begins (calledForms (t .subgoals)) (a ∷ w) ≡ true =

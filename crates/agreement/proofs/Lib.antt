@@ -7,9 +7,11 @@ pub mod TrieNodes
 pub mod TrieWalks
 pub mod Numberings
 pub mod TrieLinks
+pub mod FirstChildren
 pub mod SameRecords
 pub mod Agreeing
 pub mod Calling
+pub mod Reasoning
 pub mod Answering
 pub mod Holding
 pub mod ChainSteps
@@ -28,6 +30,7 @@ pub mod Frame
 pub mod Pigeons
 pub mod RisingChains
 pub mod AnswerChains
+pub mod FirstLeaves
 pub mod WholeTests
 pub mod WholeChains
 pub mod WholeKeys

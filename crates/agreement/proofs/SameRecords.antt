@@ -1,7 +1,7 @@
 -- A plain table and a view of records that hold the same: the relation, the fresh one, and what it gives of every record.
 use mathlib.Core.Path.{_≡_, refl, sym, ap, _∙_}
 use mathlib.Core.Bool.{true, false, _&&_, true≢false}
-use mathlib.Core.List.{List, [], _∷_}
+use mathlib.Core.List.{List, [], _∷_, _++_, concat-ne-nil, tail-eq-of-cons-eq}
 use Prim.Native.Nat.{ℕ, zero, suc, _+_, _≤_, _<_}
 use native.Mathlib.Omega.{arith}
 use lib.Dec.{eqb, ltb}
@@ -15,7 +15,7 @@ use Rattle.plain.specs.Coding.{Coding}
 use Rattle.plain.specs.CodingLaws.{CodingLaws}
 use Rattle.plain.specs.Requests.{State, Open, Finished}
 use Rattle.plain.specs.Table.{Table, fresh, subgoalAt, answerAt, subgoalOfAnswer, calledForms, answersTo, nodes, counted, number, subgoalOf, answerOf, after}
-use Rattle.plain.proofs.PrefixLaws.{has-prefixes, has-begins}
+use Rattle.plain.proofs.PrefixLaws.{begins, has-prefixes, has-begins}
 use Rattle.plain.proofs.Entries.{under, trie-root, trie-has}
 use Rattle.plain.proofs.Keys.{key, Different, place-has}
 use Rattle.plain.proofs.AfterLaws.{after-found, after-least}
@@ -40,6 +40,7 @@ use Rattle.agreement.proofs.Numberings.{Numbering, numbering-made}
 use Rattle.agreement.proofs.TrieNodes.{Tries, linked-equal, tries-linked, tries-root}
 use Rattle.agreement.proofs.TrieWalks.{follows-after, Walked, walked, walk-as-chains, root-judged, gather-key}
 use Rattle.agreement.proofs.TrieLinks.{Links}
+use Rattle.agreement.proofs.FirstChildren.{First, Firsts}
 
 -- ---- the relation
 
@@ -85,6 +86,8 @@ pub record Same (c : Coding) (t : Table) (v : View) : Type 0 where
   pub numbering : Numbering es K
   pub tries : Tries K (v .node) (v .nodes)
   pub links : Links K (v .node) (v .nodes) (linkOf t)
+  -- first children lead to the lowest-numbered subgoal
+  pub firsts : Firsts t K
   pub origin : key K 0 ≡ 0 ∷ []
   pub some : 0 < v .nodes
   pub N-same : v .N ≡ t .N
@@ -105,6 +108,13 @@ prefixes-zero = refl
 tries-none : (nd : ℕ → Node) → Tries [] nd 0
 tries-none nd = record { keys = refl; kind = λ i h. absurd (omega arith); child = λ i h. absurd (omega arith); sibling = λ i h. absurd (omega arith) }
 
+none-first : (p : Word) (x i : ℕ) → First (prefixes ((0 ∷ []) ∷ [])) p x i → ⊥
+none-first p x i g =
+    let h : i < 1 = rw prefixes-zero at (g .inside) in
+    let z : i ≡ 0 = omega arith in
+    let e : 0 ∷ [] ≡ 0 ∷ (p ++ (x ∷ [])) = rw (prefixes-zero, z) at (g .goes-on) in
+    concat-ne-nil x p (sym (tail-eq-of-cons-eq e))
+
 pub same-fresh : (c : Coding) (n f a : ℕ) → 1 ≤ n → Same c (fresh n f a) (freshView n f a)
 same-fresh c n f a h = record {
   es = (0 ∷ []) ∷ [];
@@ -113,6 +123,7 @@ same-fresh c n f a h = record {
   numbering = numbering-made ((0 ∷ []) ∷ []);
   tries = rw prefixes-zero (tries-root [] (λ i. newRoot 0) (λ i. newRoot 0) 0 0 (tries-none (λ i. newRoot 0)) (λ i k. refl) refl);
   links = λ i k. let z : i ≡ 0 = omega arith in rw (z, prefixes-zero) (unfold linkOf subgoalOf number in refl);
+  firsts = λ p x y i j some g k e. absurd (none-first p x i g);
   origin = rw prefixes-zero;
   some = omega arith;
   N-same = refl;
@@ -125,6 +136,10 @@ same-fresh c n f a h = record {
   answer = λ s p q. absurd (omega arith);
 }
 
+-- the keys of the subgoal trie are the words that begin a form
+pub subgoal-keys : (c : Coding) (t : Table) (v : View) (S : Same c t v) (a : ℕ) (u : Word) → has (S .K) (0 ∷ a ∷ u) ≡ begins (calledForms (t .subgoals)) (a ∷ u)
+subgoal-keys c t v S a u = S .numbering .members (0 ∷ a ∷ u) ∙ trie-has (S .es) (calledForms (t .subgoals)) 0 (S .forest .calls) a u
+
 -- ---- another view of the same records
 
 pub same-alike : (c : Coding) (t : Table) (v w : View) → Same c t v → Alike w v → Same c t w
@@ -135,6 +150,7 @@ same-alike c t v w S e = record {
   numbering = S .numbering;
   tries = rw (e .nodes-same) (tries-linked (S .K) (v .node) (w .node) (v .nodes) (S .tries) (linked-equal (v .node) (w .node) (v .nodes) (e .node-same)));
   links = λ i h. let k : i < v .nodes = omega (arith, e .nodes-same) in ap (λ (y : Node). y .link) (e .node-same i k) ∙ S .links i k;
+  firsts = S .firsts;
   origin = S .origin;
   some = omega (arith, e .nodes-same, S .some);
   N-same = e .N-same ∙ S .N-same;

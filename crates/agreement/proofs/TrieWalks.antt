@@ -84,6 +84,19 @@ module _ (K : List Word) (nd : ℕ → Node) (n : ℕ) (r : Tries K nd n) (d : D
       go (isRoot s q z k) = absurd (omega arith)
       go (isChild q k) = k ∙ rw e
 
+  -- the first child goes on from its parent's key
+  pub first-key : (p : ℕ) → p < n → (nd p .child ≡ 0 → ⊥) → Follows (par nd) n p p (nd p .child) × (key K (nd p .child) ≡ key K p ++ (nd (nd p .child) .token ∷ []))
+  first-key p h ne =
+      let f : Follows (par nd) n p p (nd p .child) = subst (λ (x : ℕ). Follows (par nd) n p p x) (sym (r .child p h)) (after-found (par nd) n p p (λ z. ne (r .child p h ∙ z))) in
+      (f, key-of p (nd p .child) (f .below) (f .above) (f .under))
+
+  -- and no lower-numbered node does
+  pub first-least : (p t j : ℕ) → p < n → j < n → key K j ≡ key K p ++ (t ∷ []) → (nd p .child ≡ 0 → ⊥) × (nd p .child ≤ j)
+  first-least p t j h hj e =
+      let o = child-of p t j h hj e in
+      let m = after-least (par nd) n p p j (record { above = o .above; below = hj; under = o .parent }) in
+      (λ z. m .0 (sym (r .child p h) ∙ z), rw (r .child p h) (m .1))
+
   -- a parent has one child for each token
   pub child-one : (p t a b : ℕ) → a < n → p < a → par nd a ≡ p → nd a .token ≡ t → b < n → p < b → par nd b ≡ p → nd b .token ≡ t → a ≡ b
   child-one p t a b ha pa ea ta hb pb eb tb =

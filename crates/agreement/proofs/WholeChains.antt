@@ -159,6 +159,7 @@ local-facts c v L =
             variables = f .variables;
             first = chains-first c v R (L .count) s h k;
             last = last-of s (f .ends);
+            led = f .led;
           };
       answer = λ a h k.
           let f = L .answer a h k in

@@ -36,6 +36,7 @@ use Rattle.agreement.proofs.SameRecords.{later, stateCell, LastSame, no
 use Rattle.agreement.proofs.Callables.{Callable}
 use Rattle.agreement.proofs.WholeTests.{NodeFacts, Leads, to-subgoal, to-answer, LastFacts, none-last, has-last, SubgoalFacts, AnswerFacts, Whole, NodeLocal, EndsFacts, no-ends, both-ends, SubgoalLocal, AnswerLocal, Local}
 use Rattle.agreement.proofs.AnswerChains.{as-many}
+use Rattle.agreement.proofs.FirstLeaves.{led-up}
 use Rattle.agreement.proofs.WholeChains.{local-chained}
 use Rattle.agreement.proofs.RisingChains.{after-above}
 
@@ -273,6 +274,7 @@ module _ (c : Coding) (laws : CodingLaws c) (t : Table) (callable : Callable t) 
           variables = ap (λ (w : Word). length (met [] w)) called-read ∙ variables-met c laws t v S s low high;
           first = o .first ∙ later-same 0 s;
           last = last-facts s _ _ (o .last);
+          led = led-up c laws t v S s low high;
         }
 
   module _ (a : ℕ) (low : 0 < a) (high : a ≤ length (t .answers)) where
@@ -392,6 +394,7 @@ module _ (c : Coding) (laws : CodingLaws c) (t : Table) (callable : Callable t) 
         begins = f .begins;
         variables = f .variables;
         ends = ends-of s h k;
+        led = f .led;
       }
 
   next-facts : (a : ℕ) → 0 < a → a ≤ v .answers → (v .answer a .next ≡ 0 → ⊥) → (a < v .answer a .next) × (v .answer a .next ≤ v .answers) × (v .answer (v .answer a .next) .subgoal ≡ v .answer a .subgoal)

@@ -1,6 +1,6 @@
 -- A whole space holds the records of the table that it says.
 use Prim.Native.Nat.{ℕ, zero, suc, _≤_, _<_}
-use mathlib.Core.Path.{_≡_, refl, sym, ap, _∙_}
+use mathlib.Core.Path.{_≡_, refl, sym, ap, _∙_, subst}
 use mathlib.Core.Bool.{true}
 use mathlib.Core.List.{List, [], _∷_}
 use native.Mathlib.Omega.{arith}
@@ -14,15 +14,20 @@ use Rattle.plain.specs.Coding.{Coding}
 use Rattle.plain.specs.CodingLaws.{CodingLaws}
 use Rattle.plain.specs.Table.{Table, Subgoal, Answer, subgoalAt, answerAt, subgoalOfAnswer, calledForms, answersTo, nodes, after, subgoalOf, answerOf}
 use Rattle.plain.specs.Consequences.{Kept}
+use Rattle.plain.proofs.Entries.{trie-has}
 use Rattle.plain.proofs.Keys.{key}
 use Rattle.plain.proofs.NumberLaws.{subgoalOf-none, answerOf-none}
 use Rattle.plain.proofs.LinkLaws.{linkOf}
 use Rattle.plain.proofs.Soundness.{Fit}
-use Rattle.store.specs.Views.{View}
+use Rattle.trie.specs.Paths.{longest}
+use Rattle.trie.proofs.PathLaws.{Within, gather-within}
+use Rattle.store.specs.Views.{View, subgoalTrie}
 use Rattle.store.specs.Decisions.{stateOf}
 use Rattle.agreement.specs.Whole.{wordOf, subgoalPath, answerPath, tableRead, ReadingAgain}
 use Rattle.agreement.proofs.RisingChains.{after-above}
 use Rattle.agreement.proofs.TrieLinks.{Links}
+use Rattle.agreement.proofs.FirstChildren.{Firsts}
+use Rattle.agreement.proofs.FirstLeaves.{test-firsts}
 use Rattle.agreement.proofs.SameRecords.{later, stateCell, LastSame, no-last, some-last, SubgoalSame, AnswerSame, Same}
 use Rattle.agreement.proofs.Callables.{Callable}
 use Rattle.agreement.proofs.WholeTests.{Leads, to-subgoal, to-answer, LastFacts, none-last, has-last, Whole}
@@ -127,6 +132,9 @@ module _ (c : Coding) (laws : CodingLaws c) (again : ReadingAgain c) (v : View) 
 
   -- ---- the table is sound
 
+  path-short : (s : ℕ) → 0 < s → s ≤ v .subgoals → length (wordOf (subgoalPath v s)) ≤ longest
+  path-short s h k = subst (Within longest) (W .subgoal s h k .path) (gather-within longest (subgoalTrie v) 0 (v .subgoal s .leaf))
+
   m-at : (s : ℕ) → 0 < s → s ≤ v .subgoals → subgoalAt t s .m ≡ v .subgoal s .variables
   m-at s h k = ap (λ (y : Subgoal). y .m) (subgoal-at v s h k)
 
@@ -202,6 +210,18 @@ module _ (c : Coding) (laws : CodingLaws c) (again : ReadingAgain c) (v : View) 
         next = f .next ∙ later-read a (v .answer a .subgoal) ∙ ap (later t a) (sym e);
       }
 
+  firsts : Firsts t K
+  firsts =
+      let e = entries c v W some in
+      let num = whole-numbering c v W some (e .0) (e .1) in
+      test-firsts c t v K (whole-tries c v W) (whole-different c v W)
+      (λ a u. num .members (0 ∷ a ∷ u) ∙ trie-has (e .0) (calledForms (t .subgoals)) 0 (e .1 .calls) a u)
+      (λ i w h k. links i h ∙ ap (linkOf t) k ∙ linkOf-called w)
+      (λ i h. W .node i h .lives)
+      (λ s h k. let l = sub-low s k in
+      let o = subgoal-read s h l in
+      (o .leaf-in, o .leaf-key, rw (form-at s h l) (path-short s h l), W .subgoal s h l .led))
+
   pub whole-same : Same c (tableRead v) v
   whole-same = record {
     es = entries c v W some .0;
@@ -210,6 +230,7 @@ module _ (c : Coding) (laws : CodingLaws c) (again : ReadingAgain c) (v : View) 
     numbering = whole-numbering c v W some (entries c v W some .0) (entries c v W some .1);
     tries = whole-tries c v W;
     links = links;
+    firsts = firsts;
     origin = whole-origin c v W some;
     some = some;
     N-same = refl;

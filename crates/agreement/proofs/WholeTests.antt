@@ -18,9 +18,9 @@ use Rattle.space.proofs.JudgingLaws.{NodeBounds, node-bounds, node-sound}
 use Rattle.trie.specs.Siblings.{sound, searchChildren}
 use Rattle.trie.specs.declared.Search.{Search}
 use Rattle.trie.specs.declared.Search.the-variants.{Found, Last, Damaged}
-use Rattle.trie.specs.Paths.{Path, none, tokens}
+use Rattle.trie.specs.Paths.{Path, none, tokens, longest}
 use Rattle.store.specs.Views.{View}
-use Rattle.agreement.specs.Whole.{everyBelow, wordOf, subgoalPath, answerPath, pathPasses, endsAt, allNodes, rootWhole, childWhole, linkWhole, nodeWhole, endsWhole, subgoalWhole, answerWhole, chains, wholeView}
+use Rattle.agreement.specs.Whole.{everyBelow, wordOf, subgoalPath, answerPath, pathPasses, endsAt, allNodes, rootWhole, childWhole, linkWhole, nodeWhole, endsWhole, ledUp, subgoalWhole, answerWhole, chains, wholeView}
 use Rattle.agreement.proofs.TrieNodes.{par, nextOf}
 
 -- ---- tests
@@ -82,6 +82,7 @@ pub record SubgoalFacts (c : Coding) (v : View) (s : ℕ) : Type 0 where
   pub variables : length (met [] (wordOf (subgoalPath v s))) ≡ v .subgoal s .variables
   pub first : v .subgoal s .first ≡ after (λ a. v .answer a .subgoal) (suc (v .answers)) 0 s
   pub last : LastFacts v s (v .subgoal s .first) (v .subgoal s .last)
+  pub led : ledUp c v longest s (v .subgoal s .leaf) ≡ true
 
 pub record AnswerFacts (c : Coding) (v : View) (a : ℕ) : Type 0 where
   pub low : 0 < v .answer a .subgoal
@@ -127,6 +128,7 @@ pub record SubgoalLocal (c : Coding) (v : View) (s : ℕ) : Type 0 where
   pub begins : predicate (wordOf (subgoalPath v s)) ≡ true
   pub variables : length (met [] (wordOf (subgoalPath v s))) ≡ v .subgoal s .variables
   pub ends : EndsFacts v s
+  pub led : ledUp c v longest s (v .subgoal s .leaf) ≡ true
 
 pub record AnswerLocal (c : Coding) (v : View) (a : ℕ) : Type 0 where
   pub low : 0 < v .answer a .subgoal
@@ -246,7 +248,8 @@ module _ (c : Coding) (v : View) where
   pub subgoal-local : (s : ℕ) → subgoalWhole c v s ≡ true → SubgoalLocal c v s
   unfolding subgoalWhole
   subgoal-local s e =
-      let a = and-both _ _ e in
+      let l = and-both _ (ledUp c v longest s (v .subgoal s .leaf)) e in
+      let a = and-both _ _ (l .0) in
       let d = and-both _ _ (a .0) in
       let f = and-both _ _ (d .0) in
       let g = and-both _ _ (f .0) in
@@ -266,6 +269,7 @@ module _ (c : Coding) (v : View) where
         begins = r .1;
         variables = eqb-true _ _ (q .1);
         ends = chain-ends s (a .1);
+        led = l .1;
       }
 
   pub answer-local : (a : ℕ) → answerWhole c v a ≡ true → AnswerLocal c v a
@@ -385,7 +389,7 @@ module _ (c : Coding) (v : View) where
   subgoal-test : (s : ℕ) → SubgoalLocal c v s → subgoalWhole c v s ≡ true
   unfolding subgoalWhole
   subgoal-test s f =
-      and-of (and-of (and-of (and-of (and-of (and-of
+      and-of (and-of (and-of (and-of (and-of (and-of (and-of
       (lt-ltb _ _ (f .root-in))
       (eq-eqb _ _ (f .root-next)))
       (eq-eqb _ _ (f .root-own)))
@@ -393,7 +397,8 @@ module _ (c : Coding) (v : View) where
       (le-leb _ _ (f .state)))
       (path-test (subgoalPath v s) (λ w. c .legal 1 w && predicate w && eqb (length (met [] w)) (v .subgoal s .variables)) (f .path)
       (and-of (and-of (f .legal) (f .begins)) (eq-eqb _ _ (f .variables)))))
-      (ends-test-of s (f .ends))
+      (ends-test-of s (f .ends)))
+      (f .led)
 
   answer-test : (a : ℕ) → AnswerLocal c v a → answerWhole c v a ≡ true
   unfolding answerWhole

@@ -16,6 +16,7 @@ use Rattle.space.specs.Layout.{Sizes, sizesOf}
 use Rattle.space.specs.Heading.{headerOf, spaceHeader}
 use Rattle.space.specs.Fresh.{freshAnswer, freshSpace, freshAnswerIn, freshSpaceIn}
 use Rattle.space.specs.declared.Header.{Header}
+use Rattle.space.specs.declared.Node.{Node}
 use Rattle.space.specs.declared.Header.the-variants as header
 use Rattle.space.specs.declared.FreshAnswer.the-variants.{Done}
 use Rattle.trie.specs.Siblings.{Trie, sound, searchChildren}
@@ -84,6 +85,12 @@ endsAt i (Found j) = eqb j i
 endsAt i (Last j) = false
 endsAt i Damaged = false
 
+-- where first children lead from node i, at most so many
+unfoldable pub firstLeaf : (ℕ → Node) → ℕ → ℕ → ℕ
+firstLeaf nodes zero i = i
+firstLeaf nodes (suc steps) i =
+    let later = firstLeaf nodes steps (nodes i .child) in pick (eqb (nodes i .child) 0) i later
+
 module _ (c : Coding) (v : View) where
   abbrev parent : ℕ → ℕ
   parent i = v .node i .parent
@@ -134,7 +141,16 @@ module _ (c : Coding) (v : View) where
       (ltb 0 (g .first) && leb (g .first) (v .answers) && eqb (owner (g .first)) s
       && leb (g .last) (v .answers) && eqb (owner (g .last)) s && eqb (v .answer (g .last) .next) 0)
 
-  -- its leaf is linked to it and its answer root follows the leaf; its path is one legal term to call with m variables
+  -- from each node above i, at most so many, the root apart, first children lead to a leaf whose number is at most s
+  unfoldable pub ledUp : ℕ → ℕ → ℕ → Bool
+  ledUp zero s i = true
+  ledUp (suc steps) s i =
+      let p = parent i in
+      let above = ledUp steps s p in
+      pick (eqb (parent p) p) true (leb (v .node (firstLeaf (v .node) (v .nodes) p) .link) s && above)
+
+  -- its leaf is linked to it and its answer root follows the leaf; its path is one legal term to call with m variables;
+  -- first children lead past it to no later subgoal
   unfoldable pub subgoalWhole : ℕ → Bool
   subgoalWhole s =
       let g = v .subgoal s in
@@ -145,6 +161,7 @@ module _ (c : Coding) (v : View) where
       && leb (g .state) 1
       && pathPasses (subgoalPath v s) (λ w. c .legal 1 w && predicate w && eqb (length (met [] w)) (g .variables))
       && endsWhole s
+      && ledUp longest s (g .leaf)
 
   -- its leaf is linked to it; its path is m legal terms; the next one is above it and names the same subgoal
   unfoldable pub answerWhole : ℕ → Bool

@@ -1,7 +1,7 @@
 -- The check on small spaces: one that calls leave, some that are damaged, two of them where no call refuses, and one
 -- with its nodes numbered otherwise.
 use mathlib.Core.Bool.{true, false}
-use mathlib.Core.List.{List, [], _∷_, map}
+use mathlib.Core.List.{List, [], _∷_, _++_, map}
 use mathlib.Core.Path.{_≡_, refl}
 use Prim.Native.Nat.{ℕ}
 use lib.ListN.{set}
@@ -15,7 +15,7 @@ use Rattle.forms.specs.Converting.{reading}
 use Rattle.forms.specs.Stored.{storedOf}
 use Rattle.plain.specs.Coding.{judged, handedOn, predicate, taken}
 use Rattle.plain.specs.Requests.{Request, answer, next, Reply, new, oldAnswer, at, noneYet, noMore, refused, lent}
-use Rattle.plain.specs.Requests.{trace}
+use Rattle.plain.specs.Requests.{trace, why, newPast, because}
 use Rattle.plain.specs.Examples.{var, atom, fun}
 use Rattle.space.specs.Layout.{subgoalWidth, answerWidth}
 use Rattle.space.specs.Heading.{inRange, capacity, whole, counted, headerOf, spaceHeader}
@@ -25,11 +25,12 @@ use Rattle.trie.specs.Walks.{walkBy, walkFromBy}
 use Rattle.trie.specs.Paths.{gather}
 use Rattle.trie.specs.Append.{leadCell, appendNode, appendPath}
 use Rattle.store.specs.Decisions.{answeredNew, answeredOld, answeredAt, answeredBy, starting, handed, onward, decideBy}
+use Rattle.store.specs.Decisions.{firstsFrom, namedBy, newAt, reasonedAt, reasonedBy}
 use Rattle.store.specs.Changes.{answerEntered, changeBy}
 use Rattle.store.specs.Calls.{reply, outAfter, underBy, underAnyBy, spaceStep, spaceStepBy, countedCells}
 use Rattle.agreement.specs.Whole.{everyBelow, upTo, rootWhole, childWhole, linkWhole, nodeWhole, endsWhole}
 use Rattle.agreement.specs.Whole.{subgoalWhole, answerWhole, chain, chains, wholeView, wholeUnder, wholeAny}
-use Rattle.agreement.specs.Whole.{wholeSpace}
+use Rattle.agreement.specs.Whole.{wholeSpace, ledUp, firstLeaf}
 use Rattle.agreement.specs.Faults as faults
 use Rattle.agreement.specs.Faults.{nothing, heading, firstFailing, among, chained, faultIn, faultUnder, faultOf}
 
@@ -112,6 +113,45 @@ groundIn state =
     ∷ 2 ∷ 3 ∷ 0 ∷ state ∷ 1 ∷ 1
     ∷ 3 ∷ 1 ∷ 0 ∷ []
 
+-- p(a) and p(b), subgoals 1 and 2: the nodes of p(b) are written before those of p(a), and so the first child of p
+-- leads to subgoal 2
+abbrev crossedWith : ℕ → ℕ → List ℕ
+crossedWith i j =
+    1 ∷ 6 ∷ 2 ∷ 0 ∷ 8 ∷ 38 ∷ 50 ∷ 50
+    ∷ 0 ∷ 1 ∷ 0 ∷ 0 ∷ 0
+    ∷ fun 1 1 ∷ 2 ∷ 0 ∷ 0 ∷ 0
+    ∷ atom 2 ∷ 0 ∷ 4 ∷ 1 ∷ i
+    ∷ 0 ∷ 0 ∷ 0 ∷ 3 ∷ 0
+    ∷ atom 1 ∷ 0 ∷ 0 ∷ 1 ∷ j
+    ∷ 0 ∷ 0 ∷ 0 ∷ 5 ∷ 0 ∷ []
+
+abbrev crossed : List ℕ
+crossed = crossedWith 2 1 ++ (4 ∷ 5 ∷ 0 ∷ 0 ∷ 0 ∷ 0 ∷ 2 ∷ 3 ∷ 0 ∷ 0 ∷ 0 ∷ 0 ∷ [])
+
+-- the same nodes, p(b) being subgoal 1
+abbrev straight : List ℕ
+straight = crossedWith 1 2 ++ (2 ∷ 3 ∷ 0 ∷ 0 ∷ 0 ∷ 0 ∷ 4 ∷ 5 ∷ 0 ∷ 0 ∷ 0 ∷ 0 ∷ [])
+
+-- crossed would say of p(c) that subgoal 2 is the lowest that shares p: it does not pass
+abbrev pub Crossed : Type 0
+Crossed =
+    (wholeSpace straight ≡ true)
+    × (replies straight (why (fun 1 1 ∷ atom 3 ∷ []) ∷ []) ≡ because (newPast 1 1) ∷ [])
+    × (wholeSpace crossed ≡ false)
+    × (replies crossed (why (fun 1 1 ∷ atom 3 ∷ []) ∷ []) ≡ because (newPast 1 2) ∷ [])
+
+pub crossing : Crossed
+unfolding upTo wholeSpace wholeAny wholeUnder wholeView chains chain answerWhole subgoalWhole ledUp firstLeaf
+    endsWhole nodeWhole linkWhole childWhole rootWhole everyBelow trace lent inRange capacity counted knownEdition
+    headerOf spaceHeader subgoalWidth answerWidth follows nodeSound bothOrNeither subgoalSound answerSound
+    searchSiblings searchChildren walkFromBy walkBy gather leadCell appendNode appendPath answeredNew answeredOld
+    answeredAt answeredBy starting handed onward decideBy answerEntered changeBy reply outAfter underBy underAnyBy
+    spaceStepBy areForms legalForm judged handedOn reading callable predicate taken storedOf compactForm areTerms
+    pairForm formTerms front symbolic tokenOf items entered filled lastOf tailOf into inside collected reads begun
+    applied paired shapeOf arityOf every compact elements pairs numbered renamed met seen rank same whole firstsFrom
+    namedBy newAt reasonedAt reasonedBy
+crossing = (refl, refl, refl, refl)
+
 -- unchained loses answer 2, and unlisted takes an answer that it holds for new: neither refuses, and neither passes
 abbrev pub Checked : Type 0
 Checked =
@@ -131,14 +171,14 @@ Checked =
     × (wholeSpace (inEdition 3 (fun 16 1)) ≡ false)
 
 pub checked : Checked
-unfolding upTo wholeSpace wholeAny wholeUnder wholeView chains chain answerWhole subgoalWhole endsWhole nodeWhole
-    linkWhole childWhole rootWhole everyBelow trace lent inRange capacity counted knownEdition headerOf spaceHeader
-    subgoalWidth answerWidth follows nodeSound bothOrNeither subgoalSound answerSound searchSiblings searchChildren
-    walkFromBy walkBy gather leadCell appendNode appendPath answeredNew answeredOld answeredAt answeredBy starting
-    handed onward decideBy answerEntered changeBy reply outAfter underBy underAnyBy spaceStepBy areForms legalForm
-    judged handedOn reading callable predicate taken storedOf compactForm areTerms pairForm formTerms front symbolic
-    tokenOf items entered filled lastOf tailOf into inside collected reads begun applied paired shapeOf arityOf every
-    compact elements pairs numbered renamed met seen rank same whole
+unfolding upTo wholeSpace wholeAny wholeUnder wholeView chains chain answerWhole subgoalWhole ledUp firstLeaf
+    endsWhole nodeWhole linkWhole childWhole rootWhole everyBelow trace lent inRange capacity counted knownEdition
+    headerOf spaceHeader subgoalWidth answerWidth follows nodeSound bothOrNeither subgoalSound answerSound
+    searchSiblings searchChildren walkFromBy walkBy gather leadCell appendNode appendPath answeredNew answeredOld
+    answeredAt answeredBy starting handed onward decideBy answerEntered changeBy reply outAfter underBy underAnyBy
+    spaceStepBy areForms legalForm judged handedOn reading callable predicate taken storedOf compactForm areTerms
+    pairForm formTerms front symbolic tokenOf items entered filled lastOf tailOf into inside collected reads begun
+    applied paired shapeOf arityOf every compact elements pairs numbered renamed met seen rank same whole
 checked = (refl, refl, refl, refl, refl, refl, refl, refl, refl, refl, refl, refl, refl, refl)
 
 -- what is broken in them
@@ -157,13 +197,14 @@ FirstBroken =
 
 pub first-broken : FirstBroken
 unfolding faultOf faultUnder faultIn firstFailing chained among wholeSpace wholeAny wholeUnder wholeView chains chain
-    answerWhole subgoalWhole endsWhole nodeWhole linkWhole childWhole rootWhole everyBelow trace lent inRange capacity
-    counted knownEdition headerOf spaceHeader subgoalWidth answerWidth follows nodeSound bothOrNeither subgoalSound
-    answerSound searchSiblings searchChildren walkFromBy walkBy gather leadCell appendNode appendPath answeredNew
-    answeredOld answeredAt answeredBy starting handed onward decideBy answerEntered changeBy reply outAfter underBy
-    underAnyBy spaceStepBy areForms legalForm judged handedOn reading callable predicate taken storedOf compactForm
-    areTerms pairForm formTerms front symbolic tokenOf items entered filled lastOf tailOf into inside collected reads
-    begun applied paired shapeOf arityOf every compact elements pairs numbered renamed met seen rank same whole
+    answerWhole subgoalWhole ledUp firstLeaf endsWhole nodeWhole linkWhole childWhole rootWhole everyBelow trace lent
+    inRange capacity counted knownEdition headerOf spaceHeader subgoalWidth answerWidth follows nodeSound bothOrNeither
+    subgoalSound answerSound searchSiblings searchChildren walkFromBy walkBy gather leadCell appendNode appendPath
+    answeredNew answeredOld answeredAt answeredBy starting handed onward decideBy answerEntered changeBy reply outAfter
+    underBy underAnyBy spaceStepBy areForms legalForm judged handedOn reading callable predicate taken storedOf
+    compactForm areTerms pairForm formTerms front symbolic tokenOf items entered filled lastOf tailOf into inside
+    collected reads begun applied paired shapeOf arityOf every compact elements pairs numbered renamed met seen rank
+    same whole
 first-broken = (refl, refl, refl, refl, refl, refl, refl, refl, refl, refl)
 
 -- a finished subgoal knows its own answers: 8 is for those that it lacks, and the last answer is judged (9) before it
@@ -178,12 +219,12 @@ Held =
     × (wholeSpace (groundIn 1) ≡ true)
 
 pub held : Held
-unfolding upTo wholeSpace wholeAny wholeUnder wholeView chains chain answerWhole subgoalWhole endsWhole nodeWhole
-    linkWhole childWhole rootWhole everyBelow trace lent inRange capacity counted knownEdition headerOf spaceHeader
-    subgoalWidth answerWidth follows nodeSound bothOrNeither subgoalSound answerSound searchSiblings searchChildren
-    walkFromBy walkBy gather leadCell appendNode appendPath answeredNew answeredOld answeredAt answeredBy starting
-    handed onward decideBy answerEntered changeBy reply outAfter underBy underAnyBy spaceStepBy areForms legalForm
-    judged handedOn reading callable predicate taken storedOf compactForm areTerms pairForm formTerms front symbolic
-    tokenOf items entered filled lastOf tailOf into inside collected reads begun applied paired shapeOf arityOf every
-    compact elements pairs numbered renamed met seen rank same whole
+unfolding upTo wholeSpace wholeAny wholeUnder wholeView chains chain answerWhole subgoalWhole ledUp firstLeaf
+    endsWhole nodeWhole linkWhole childWhole rootWhole everyBelow trace lent inRange capacity counted knownEdition
+    headerOf spaceHeader subgoalWidth answerWidth follows nodeSound bothOrNeither subgoalSound answerSound
+    searchSiblings searchChildren walkFromBy walkBy gather leadCell appendNode appendPath answeredNew answeredOld
+    answeredAt answeredBy starting handed onward decideBy answerEntered changeBy reply outAfter underBy underAnyBy
+    spaceStepBy areForms legalForm judged handedOn reading callable predicate taken storedOf compactForm areTerms
+    pairForm formTerms front symbolic tokenOf items entered filled lastOf tailOf into inside collected reads begun
+    applied paired shapeOf arityOf every compact elements pairs numbered renamed met seen rank same whole
 held = (refl, refl, refl, refl, refl, refl)

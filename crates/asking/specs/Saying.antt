@@ -1,7 +1,7 @@
 -- What is said of a line by its meaning, over any holder of a table: the line printed, and what is left.
 use Prim.Native.Nat.{ℕ}
 use mathlib.Core.List.{List}
-use Rattle.plain.specs.Requests.{Request, Result, call, answer, finish, next, load, instance, counts, join}
+use Rattle.plain.specs.Requests.{Request, Result, call, answer, finish, next, load, instance, counts, join, why}
 use Rattle.replies.specs.Texts.{textBad, replyText}
 use Rattle.asking.specs.Lines.{Meaning, bad, asks}
 
@@ -21,6 +21,7 @@ outLeft (load a o) out after = after
 outLeft (instance a o) out after = after
 outLeft counts out after = out
 outLeft (join f g ps s cs) out after = out
+outLeft (why cs) out after = out
 
 -- a line that means nothing prints bad and changes nothing
 unfoldable pub saidOf : {S : Type 0} → (S → Request → Result S) → Meaning → S → List ℕ → Said S

@@ -19,6 +19,7 @@ use Rattle.plain.specs.Table.{Table, Answer, noSubgoal, subgoalAt, answerAt, ca
 use Rattle.plain.proofs.LinkLaws.{linkOf}
 use Rattle.plain.proofs.Counted.{Forest}
 use Rattle.plain.proofs.Soundness.{Sound}
+use Rattle.plain.proofs.ReasonLaws.{lowest-forms}
 use Rattle.space.specs.Layout.{Sizes, subgoalOffset}
 use Rattle.space.specs.Heading.{headerOf}
 use Rattle.space.specs.Fresh.{freshAnswer, freshSpace}
@@ -139,6 +140,7 @@ module _ (c : Coding) (u : Table) (sound : Sound c u) (gs : List table.Subgoal) 
     F-same = S .F-same;
     A-same = S .A-same;
     sound = sound;
+    firsts = λ p x y i j some g k e. omega (arith, S .firsts p x y i j some g k e, lowest-forms (mixed u gs) u forms (p ++ (x ∷ [])), lowest-forms (mixed u gs) u forms (p ++ (y ∷ [])));
     subgoals = S .subgoals ∙ count;
     answers = S .answers;
     subgoal = λ s h k. rw (e s h k) (subgoal-same (S .K) (v .nodes) s (v .subgoal s) (S .subgoal s h (omega (arith, count))));

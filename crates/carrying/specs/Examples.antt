@@ -29,7 +29,7 @@ use Rattle.store.specs.Decisions.{calledOld, calledNew, calledAt, calledBy, ans
 use Rattle.store.specs.Changes.{subgoalEntered, answerEntered, answerGiven, formGivenBy, changeBy}
 use Rattle.agreement.specs.Whole.{everyBelow, upTo, rootWhole, childWhole, linkWhole, nodeWhole, endsWhole}
 use Rattle.agreement.specs.Whole.{subgoalWhole, answerWhole, chain, chains, wholeView, wholeUnder, wholeAny}
-use Rattle.agreement.specs.Whole.{wholeSpace}
+use Rattle.agreement.specs.Whole.{wholeSpace, ledUp, firstLeaf}
 use Rattle.carrying.specs.Recoding.{wider, nameFits, takesWord}
 use Rattle.carrying.specs.Carrying.{takesWords, takesTable, holdable, carrying, allDifferent, noneAlike}
 use Rattle.carrying.specs.Copying.{subgoalLoads, answerLoads, sourceLoads, subgoalGiven, subgoalsGiven}
@@ -129,16 +129,17 @@ CopyExamples =
     × (resizeSpace 2 7 2 2 (copied 1) lent ≡ copied 1)
 
 pub examples : CopyExamples
-unfolding copySpace copyBuilt copyReply copyUnder built statesGiven answersGiven subgoalsGiven subgoalGiven sourceLoads
-    answerLoads subgoalLoads noneAlike allDifferent carrying holdable takesTable takesWords takesWord nameFits wider
-    upTo wholeSpace wholeAny wholeUnder wholeView chains chain answerWhole subgoalWhole endsWhole nodeWhole linkWhole
-    childWhole rootWhole everyBelow inRange capacity counted knownEdition headerOf spaceHeader freshCells freshFits
-    freshAnswer freshSpace freshAnswerIn subgoalWidth answerWidth follows nodeSound bothOrNeither subgoalSound
-    answerSound searchSiblings searchChildren walkFromBy walkBy gather leadCell appendNode appendPath calledOld
-    calledNew calledAt calledBy answeredNew answeredOld answeredAt subgoalEntered answerEntered answerGiven formGivenBy
-    changeBy areForms legalForm has add union inits allInits prefixes distinct answersTo answerNodes nodes predicate
-    callable pairForm formTerms front symbolic tokenOf items entered filled lastOf tailOf into inside collected shapeOf
-    arityOf storedOf every compact elements pairs numbered renamed met seen rank same whole heading.whole
+unfolding ledUp firstLeaf copySpace copyBuilt copyReply copyUnder built statesGiven answersGiven subgoalsGiven
+    subgoalGiven sourceLoads answerLoads subgoalLoads noneAlike allDifferent carrying holdable takesTable takesWords
+    takesWord nameFits wider upTo wholeSpace wholeAny wholeUnder wholeView chains chain answerWhole subgoalWhole
+    endsWhole nodeWhole linkWhole childWhole rootWhole everyBelow inRange capacity counted knownEdition headerOf
+    spaceHeader freshCells freshFits freshAnswer freshSpace freshAnswerIn subgoalWidth answerWidth follows nodeSound
+    bothOrNeither subgoalSound answerSound searchSiblings searchChildren walkFromBy walkBy gather leadCell appendNode
+    appendPath calledOld calledNew calledAt calledBy answeredNew answeredOld answeredAt subgoalEntered answerEntered
+    answerGiven formGivenBy changeBy areForms legalForm has add union inits allInits prefixes distinct answersTo
+    answerNodes nodes predicate callable pairForm formTerms front symbolic tokenOf items entered filled lastOf tailOf
+    into inside collected shapeOf arityOf storedOf every compact elements pairs numbered renamed met seen rank same
+    whole heading.whole
 examples = (
   refl,
   refl,

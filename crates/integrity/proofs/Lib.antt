@@ -1,5 +1,6 @@
 pub mod FormCases
 pub mod NodeCases
+pub mod FirstCases
 pub mod RecordCases
 pub mod ChainCases
 pub mod CheckCases

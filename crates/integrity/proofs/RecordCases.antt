@@ -17,7 +17,7 @@ use Rattle.trie.specs.Runs.{pathTo}
 use Rattle.trie.specs.declared.End.{End}
 use Rattle.store.specs.Views.{View}
 use Rattle.store.specs.Contracts.{viewIn}
-use Rattle.agreement.specs.Whole.{pathPasses, endsWhole, subgoalWhole, answerWhole}
+use Rattle.agreement.specs.Whole.{pathPasses, endsWhole, ledUp, subgoalWhole, answerWhole}
 use Rattle.agreement.proofs.WholeTests.{and-both}
 use Rattle.integrity.specs.Tests.{calledForm, formWhole, subgoalStands, answersTo, answerStands, nextWhole, subgoalTest, answerTest}
 
@@ -110,7 +110,7 @@ module _ (cs : List ℕ) (h : Head) (s : ℕ) (g : Subgoal) (e : g ≡ subgoalUn
   abbrev subgoalFormed : Bool
   subgoalFormed = pathPasses (pathTo cs (subgoalEnd h g)) (formWhole (codingOf (h .edition)) true (g .variables))
 
-  subgoal-is : subgoalTest cs h s ≡ (subgoalStands (viewIn cs h) s && subgoalFormed && endsWhole (codingOf (h .edition)) (viewIn cs h) s)
+  subgoal-is : subgoalTest cs h s ≡ (subgoalStands (viewIn cs h) s && subgoalFormed && endsWhole (codingOf (h .edition)) (viewIn cs h) s && ledUp (codingOf (h .edition)) (viewIn cs h) 383 s (g .leaf))
   unfolding subgoalWhole subgoalStands formWhole calledForm
   subgoal-is = rw e
 
@@ -121,8 +121,12 @@ module _ (cs : List ℕ) (h : Head) (s : ℕ) (g : Subgoal) (e : g ≡ subgoalUn
     pub subgoal-unformed : subgoalFormed ≡ false → false ≡ subgoalTest cs h s
     subgoal-unformed p = rw (subgoal-is, k, p)
 
-    pub subgoal-formed : subgoalFormed ≡ true → endsWhole (codingOf (h .edition)) (viewIn cs h) s ≡ subgoalTest cs h s
-    subgoal-formed p = rw (subgoal-is, k, p)
+    module _ (p : subgoalFormed ≡ true) where
+      pub subgoal-unended : endsWhole (codingOf (h .edition)) (viewIn cs h) s ≡ false → false ≡ subgoalTest cs h s
+      subgoal-unended f = rw (subgoal-is, k, p, f)
+
+      pub subgoal-ended : endsWhole (codingOf (h .edition)) (viewIn cs h) s ≡ true → ledUp (codingOf (h .edition)) (viewIn cs h) 383 s (g .leaf) ≡ subgoalTest cs h s
+      subgoal-ended f = rw (subgoal-is, k, p, f)
 
 -- ---- an answer
 

@@ -10,7 +10,7 @@ use Rattle.forms.specs.Numbering.{met}
 use Rattle.plain.specs.Words.{Word}
 use Rattle.plain.specs.Coding.{Coding, predicate, codingOf}
 use Rattle.space.specs.Layout.{sizes, nodeIn}
-use Rattle.space.specs.Sound.{Bounds, subgoalUnder, answerUnder}
+use Rattle.space.specs.Sound.{Bounds, SubgoalUsed, subgoalUnder, answerUnder}
 use Rattle.space.specs.declared.Head.{Head}
 use Rattle.space.specs.declared.Node.{Node}
 use Rattle.space.specs.declared.Subgoal.{Subgoal}
@@ -18,7 +18,7 @@ use Rattle.space.specs.declared.Answer.{Answer}
 use Rattle.trie.specs.Siblings.{Trie, trieIn, sound}
 use Rattle.store.specs.Views.{View}
 use Rattle.store.specs.Contracts.{viewIn}
-use Rattle.agreement.specs.Whole.{everyBelow, nodeWhole, subgoalWhole, answerWhole, chain, chains}
+use Rattle.agreement.specs.Whole.{everyBelow, firstLeaf, nodeWhole, subgoalWhole, answerWhole, chain, chains}
 use Rattle.agreement.specs.Faults.{Fault, nothing, heading, node, subgoal, answer, among, chained, answerLost}
 use Rattle.integrity.specs.declared.CheckAnswer.{CheckAnswer}
 use Rattle.integrity.specs.declared.CheckAnswer.the-variants as said
@@ -153,6 +153,18 @@ module _ (cs : List ℕ) (h : Head) where
   -- a number that a record can have
   abbrev pub RecordNumber : ℕ → Type 0
   RecordNumber k = Bounds cs h × (1 ≤ k)
+
+  -- node i, where all nodes are whole
+  abbrev pub NodeAmongWhole : ℕ → Type 0
+  NodeAmongWhole i = Bounds cs h × NodesWhole (h .nodes) × (i < h .nodes)
+
+  -- where first children lead from it
+  abbrev pub LeafReached : ℕ → ℕ → Type 0
+  LeafReached i r = (r ≡ firstLeaf (viewIn cs h .node) (h .nodes) i) × (r < h .nodes)
+
+  -- a subgoal's number, where all nodes are whole
+  abbrev pub SubgoalAmongWhole : ℕ → Type 0
+  SubgoalAmongWhole s = SubgoalUsed cs h s × NodesWhole (h .nodes)
 
   -- a record that was read under its number
   abbrev pub NodeOfNumber : ℕ → Node → Type 0

@@ -1,6 +1,7 @@
 // A check of a whole space: whether its records are those of some table, or which of them is the first that is not. It
 // takes a pass over the nodes, the subgoals and the answers, a search among its siblings for each node, and no memory.
 mod chains;
+mod firsts;
 mod nodes;
 mod paths;
 mod records;

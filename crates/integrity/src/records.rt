@@ -1,5 +1,6 @@
 // The subgoals and the answers, one after another: each is linked from its leaf, its path is a form of legal terms, and
 // the answers that it names are answers to the same subgoal.
+use super::firsts::led_up;
 use super::paths::path_whole;
 use space::Answer;
 use space::Head;
@@ -11,12 +12,13 @@ use trie::End;
 ghost use mathlib.Core.Path.{_≡_};
 ghost use Rattle.basis.specs.Moments.{old};
 ghost use Rattle.plain.specs.Coding.{codingOf};
-ghost use Rattle.space.specs.Sound.{Bounds, SubgoalUsed, AnswerUsed};
+ghost use Rattle.space.specs.Sound.{Bounds, AnswerUsed};
 ghost use Rattle.store.specs.Contracts.{viewIn};
 ghost use Rattle.agreement.specs.Whole.{endsWhole};
 ghost use Rattle.agreement.specs.Faults.{subgoalBroken, answerBroken};
 ghost use Rattle.integrity.specs.Tests.{subgoalStands, answersTo, answerStands, nextWhole};
 ghost use Rattle.integrity.specs.Tests.{subgoalTest, answerTest, SubgoalOfNumber, AnswerOfNumber};
+ghost use Rattle.integrity.specs.Tests.{NodesWhole, SubgoalAmongWhole};
 
 // Its leaf is linked to it, its answer root follows the leaf, and its state is one that there is.
 fn subgoal_stands(space: &[u32], h: Head, s: usize, g: Subgoal) -> bool
@@ -77,9 +79,9 @@ fn ends_whole(space: &[u32], h: Head, s: usize, g: Subgoal) -> bool
     false
 }
 
-// Subgoal s.
+// Subgoal s, where all nodes are whole.
 fn subgoal_whole(space: &[u32], h: Head, s: usize) -> bool
-    requires { ⌜ SubgoalUsed (now space) h s ⌝ }
+    requires { ⌜ SubgoalAmongWhole (now space) h s ⌝ }
     ensures { λ r. ⌜ r ≡ subgoalTest (old space) h s ⌝ }
 {
     let g = subgoal_in(space, h, s);
@@ -91,15 +93,17 @@ fn subgoal_whole(space: &[u32], h: Head, s: usize) -> bool
             leaf: g.leaf,
         };
         if path_whole(space, end, g.variables, true, h.edition) {
-            return ends_whole(space, h, s, g);
+            if ends_whole(space, h, s, g) {
+                return led_up(space, h, s, g.leaf);
+            }
         }
     }
     false
 }
 
-// One less than the first subgoal that is not whole; the subgoals used where all are.
+// One less than the first subgoal that is not whole; the subgoals used where all are. All nodes are whole.
 pub fn first_subgoal(space: &[u32], h: Head) -> usize
-    requires { ⌜ Bounds (now space) h ⌝ }
+    requires { ⌜ Bounds (now space) h × NodesWhole (now space) h (h .nodes) ⌝ }
     ensures { λ r. ⌜ r ≡ subgoalBroken (codingOf (h .edition)) (viewIn (old space) h) ⌝ }
 {
     let mut i = 0;

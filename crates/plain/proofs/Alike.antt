@@ -15,11 +15,11 @@ use Rattle.plain.specs.Words.{Word}
 use Rattle.plain.specs.Coding.{Coding, Reading, refused, accepted}
 use Rattle.plain.specs.CodingLaws.{CodingLaws}
 use Rattle.plain.specs.Joins.{Forms, declined, formed, Side, Terms, combined, before, allRead, isOpen, ground, named, joinOf}
-use Rattle.plain.specs.Requests.{State, Open, Finished, Request, call, answer, finish, next, load, instance, counts, join}
+use Rattle.plain.specs.Requests.{State, Open, Finished, Request, call, answer, finish, next, load, instance, counts, join, why}
 use Rattle.plain.specs.Requests.{Reply, new, oldSubgoal, oldAnswer, done, at, noneYet, noMore, cells, used, joined, refused, short, lacksNext, Result, Seen, trace}
 use Rattle.plain.specs.Table.{Table, Subgoal, Answer, fresh, noSubgoal, noAnswer, subgoalAt, answerAt, subgoalOfAnswer, answersTo, nodes, counted, number, subgoalOf, answerOf, after, following}
-use Rattle.plain.specs.Table.{withSubgoal, withAnswer, withFinished, settled, withEntry, stays, becomes, known, fits, appended, called, answered, whileOpen, starting, onward, writes, given, entered, sideOf, joining, step, tableTrace}
-use Rattle.plain.specs.Alike.{nodesApart, replyApart, seenApart, isTen, upToTen, AnswerAlike, readAs, ReadAlike}
+use Rattle.plain.specs.Table.{withSubgoal, withAnswer, withFinished, settled, withEntry, stays, becomes, known, fits, appended, called, answered, whileOpen, starting, onward, writes, given, entered, sideOf, joining, newness, reasoned, step, tableTrace}
+use Rattle.plain.specs.Alike.{nodesApart, reasonApart, replyApart, seenApart, isTen, upToTen, AnswerAlike, readAs, ReadAlike}
 use Rattle.plain.proofs.Changes.{Readable, Read, all-read, join-cases, AnswerEnters, AnswersEnter, no-more, one-more, Changed, stayed, subgoal-enters, answer-enters, finishes, answers-enter, step-changed}
 
 map-set : {A B : Type 0} (f : A → B) (l : List A) (i : ℕ) (v : A) → map f (set l i v) ≡ set (map f l) i (f v)
@@ -464,6 +464,15 @@ module _ (c d : Coding) (laws : CodingLaws c) (alike : ReadAlike c d) where
           subst (λ (x : Forms). Agree (joining t s (joins c t f g ps s cs)) (joining (imaged k t) s x)) (sym (joins-as f g ps s cs))
           (joining-agree s (joins c t f g ps s cs) (join-legal (sideOf t f) (sideOf t g) ps (subgoalAt t s .state) (subgoalAt t s .m) cs))
 
+      reasoned-agree : (cs : List ℕ) (x : Reading) → ReadLegal x → Agree (becomes t (reasoned t cs x)) (becomes (imaged k t) (reasoned (imaged k t) cs (readAs τ x)))
+      unfolding reasoned readAs newness replyApart reasonApart
+      reasoned-agree cs (refused r) h = stays-agree t [] (refused r)
+      reasoned-agree cs (accepted w m) h =
+          let e : subgoalOf (imaged k t) (τ w) ≡ subgoalOf t w = subgoalOf-imaged t legal w h in
+          by-cases (eqb (subgoalOf t w) 0)
+          (λ f. rw (e, f) (λ x y. (refl, refl, refl)))
+          (λ f. rw (e, f) (λ x y. (refl, refl, refl)))
+
       answer-agree : (s : ℕ) (cs : List ℕ) → Agree (answered t s (c .answered (subgoalAt t s .m) cs)) (answered (imaged k t) s (d .answered (subgoalAt (imaged k t) s .m) cs))
       answer-agree s cs =
           let m : ℕ = subgoalAt t s .m in
@@ -489,6 +498,9 @@ module _ (c d : Coding) (laws : CodingLaws c) (alike : ReadAlike c d) where
           known-agree t [] (length (t .subgoals)) (length (imaged k t .subgoals)) f _ _ (goals-many t)
           (known-agree t [] (length (t .subgoals)) (length (imaged k t .subgoals)) g _ _ (goals-many t)
           (known-agree t [] (length (t .subgoals)) (length (imaged k t .subgoals)) s _ _ (goals-many t) (join-agree f g ps s cs)))
+      step-agree (why cs) =
+          subst (λ (x : Reading). Agree (becomes t (reasoned t cs (c .called cs))) (becomes (imaged k t) (reasoned (imaged k t) cs x))) (sym (alike .called cs))
+          (reasoned-agree cs (c .called cs) (called-legally cs (c .called cs) refl))
 
     -- ---- every list of calls
 

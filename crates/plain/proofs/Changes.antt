@@ -13,8 +13,8 @@ use Rattle.basis.proofs.Cases.{by-cases}
 use Rattle.plain.specs.Words.{Word, has}
 use Rattle.plain.specs.Coding.{Coding, Reading, refused, accepted}
 use Rattle.plain.specs.CodingLaws.{CodingLaws}
-use Rattle.plain.specs.Requests.{State, Open, Finished, Request, call, answer, finish, next, load, instance, counts, join, new, oldSubgoal, oldAnswer, cells, joined, refused, short, lacksNext, Result, lent}
-use Rattle.plain.specs.Table.{Table, subgoalAt, answerAt, subgoalOfAnswer, calledForms, answersTo, nodes, subgoalOf, answerOf, following, withSubgoal, withAnswer, withFinished, withEntry, stays, becomes, known, fits, appended, called, answered, whileOpen, starting, onward, writes, entered, sideOf, joining, step}
+use Rattle.plain.specs.Requests.{State, Open, Finished, Request, call, answer, finish, next, load, instance, counts, join, why, new, oldSubgoal, oldAnswer, cells, joined, refused, short, lacksNext, Result, lent}
+use Rattle.plain.specs.Table.{Table, subgoalAt, answerAt, subgoalOfAnswer, calledForms, answersTo, nodes, subgoalOf, answerOf, following, withSubgoal, withAnswer, withFinished, withEntry, stays, becomes, known, fits, appended, called, answered, whileOpen, starting, onward, writes, entered, sideOf, joining, reasoned, step}
 use Rattle.plain.specs.Joins.{Forms, declined, formed, Side, combined, before, allRead, isOpen, ground, named, joinOf}
 use Rattle.plain.specs.Consequences.{RefusedBy, Known, Refusing, RefusingBy}
 use Rattle.plain.proofs.NumberLaws.{Called, subgoalOf-none, subgoalOf-some, Given, answerOf-none, answerOf-some}
@@ -223,6 +223,7 @@ module _ (c : Coding) (t : Table) where
       join-cases (λ x. Leaves (joining t s x)) c (sideOf t f) (sideOf t g) ps (subgoalAt t s .state) (subgoalAt t s .m) cs
       (unfold joining in stayed) (unfold joining in stayed) (unfold joining in stayed) (unfold joining in stayed)
       (λ is-open. joining-changed s low high is-open _ (all-read c (subgoalAt t s .m) _)))))
+  step-changed (why cs) = stayed
 
 -- ---- refusals
 
@@ -267,6 +268,11 @@ module _ (c : Coding) (t : Table) (Q : ℕ → Type 0)
   joining-keeps s m (declined r) e = unfold joining in keeps [] r (answered-by m (e .0) r (e .1))
   joining-keeps s m (formed ws) e = joining-cases (Keeps []) t s ws (λ full. keeps [] 10 ten) (λ room full. keeps [] 11 eleven) (λ room free r h. absurd h)
 
+  reasoned-keeps : (cs : List ℕ) (x : Reading) → ((r : ℕ) → x ≡ refused r → Q r) → Keeps [] (becomes t (reasoned t cs x))
+  unfolding reasoned
+  reasoned-keeps cs (refused n) f = keeps [] n (f n refl)
+  reasoned-keeps cs (accepted w m) f = λ r h. absurd h
+
   pub step-keeps : (q : Request) → Keeps (lent q) (step c t q)
   unfolding step lent
   step-keeps (call cs) = called-keeps (c .called cs) (called-by cs)
@@ -287,6 +293,7 @@ module _ (c : Coding) (t : Table) (Q : ℕ → Type 0)
       join-cases (λ x. Keeps [] (joining t s x)) c (sideOf t f) (sideOf t g) ps (subgoalAt t s .state) (subgoalAt t s .m) cs
       (unfold joining in keeps [] 8 eight) (unfold joining in keeps [] 14 fourteen) (unfold joining in keeps [] 15 fifteen) (unfold joining in keeps [] 16 sixteen)
       (λ is-open. joining-keeps s (subgoalAt t s .m) _ (all-read c (subgoalAt t s .m) _)))))
+  step-keeps (why cs) = reasoned-keeps cs (c .called cs) (called-by cs)
 
 pub refusing : (c : Coding) → Refusing c
 refusing c t q r h = let k = step-keeps c t (λ n. Unit {0}) (λ cs n e. tt) (λ m cs n e. tt) tt tt tt tt tt tt tt tt q r h in (k .0, k .1)

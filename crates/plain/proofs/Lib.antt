@@ -17,6 +17,7 @@ pub mod JoinLaws
 pub mod Growth
 pub mod Soundness
 pub mod StoredForms
+pub mod ReasonLaws
 pub mod JoinRefusals
 pub mod NextLaws
 pub mod Endings

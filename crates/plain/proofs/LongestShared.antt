@@ -48,7 +48,7 @@ common-le [] w = omega arith
 common-le (x ∷ v) [] = omega arith
 common-le (x ∷ v) (y ∷ w) = by-cases (eqb x y) (λ e. rw e (omega (arith, common-le v w))) (λ e. rw e (omega arith))
 
-starts-common : (v w : Word) (k : ℕ) → k ≤ length w → starts (take k w) v ≡ leb k (common v w)
+pub starts-common : (v w : Word) (k : ℕ) → k ≤ length w → starts (take k w) v ≡ leb k (common v w)
 unfolding starts common
 starts-common v w zero h = sym (leb·zero (common v w))
 starts-common v [] (suc k) h = absurd (omega arith)
@@ -69,7 +69,7 @@ leb-max k a b = by-cases (leb k a)
     (λ f. let p : k ≤ b = leb-true k b f in rw (e, f) (le-leb k (max a b) (omega arith)))
     (λ f. let p : a < k = leb-false k a e in let q : b < k = leb-false k b f in rw (e, f) (lt-leb k (max a b) (omega arith))))
 
-begins-most : (vs : List Word) (w : Word) (k : ℕ) → 0 < k → k ≤ length w → begins vs (take k w) ≡ leb k (most vs w)
+pub begins-most : (vs : List Word) (w : Word) (k : ℕ) → 0 < k → k ≤ length w → begins vs (take k w) ≡ leb k (most vs w)
 unfolding begins most
 begins-most [] w zero p h = absurd (omega arith)
 begins-most [] w (suc k) p h = sym (leb·suc-zero k)

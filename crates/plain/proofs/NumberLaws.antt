@@ -6,7 +6,7 @@ use Prim.Native.Nat.{ℕ, zero, suc, _+_, _-_, _≤_, _<_}
 use native.Mathlib.Omega.{arith}
 use lib.Dec.{eqb}
 use lib.ListN.{length, getD}
-use borrow.Author.Tests.{eqb-true}
+use borrow.Author.Tests.{eqb-true, eqb-false}
 use Rattle.basis.specs.Choice.{pick}
 use Rattle.basis.proofs.Cases.{by-cases}
 use Rattle.forms.specs.Compact.{same}
@@ -53,6 +53,28 @@ module _ {R : Type 0} (test : R → Bool) where
       less : (k n : ℕ) → suc n ≤ k → suc (k - suc n) ≡ k - n
       less k n h = omega arith
 
+  -- it holds of none before
+  pub number-before : (n : ℕ) (rs : List R) (d : R) (i : ℕ) → n ≤ i → i < number test n rs → test (getD rs (i - n) d) ≡ false
+  unfolding number
+  number-before n [] d i h k = absurd (omega arith)
+  number-before n (r ∷ rs) d i h k = by-cases (test r)
+      (λ p. absurd (below (rw p at k)))
+      (λ p. by-cases (eqb i n)
+      (λ e. rw (first (eqb-true i n e)) p)
+      (λ e. subst (λ (j : ℕ). test (getD (r ∷ rs) j d) ≡ false) (later (eqb-false i n e)) (number-before (suc n) rs d i (over (eqb-false i n e)) (rw p at k))))
+    where
+      below : i < n → ⊥
+      below l = omega arith
+
+      first : i ≡ n → i - n ≡ 0
+      first e = omega arith
+
+      later : (i ≡ n → ⊥) → suc (i - suc n) ≡ i - n
+      later e = omega arith
+
+      over : (i ≡ n → ⊥) → suc n ≤ i
+      over e = omega arith
+
   -- a record more, of which the test holds only where it holds of no other
   pub number-snoc : (n : ℕ) (rs : List R) (r : R) → (test r ≡ true → holds rs ≡ false) → 0 < n
       → number test n (rs ++ (r ∷ [])) ≡ pick (test r) (n + length rs) (number test n rs)
@@ -64,6 +86,18 @@ module _ {R : Type 0} (test : R → Bool) where
       (λ e. rw (p, e)))
       (λ p. let w = number-snoc (suc n) rs r (λ e. or-false-both (test x) (holds rs) (h e) .1) (omega arith) in
       rw p (w ∙ by-cases (test r) (λ e. rw e (omega arith)) (λ e. rw e)))
+
+-- records of which two tests say the same
+pub number-same : {R : Type 0} (test other : R → Bool) (n : ℕ) (rs : List R) → ((r : R) → test r ≡ other r) → number test n rs ≡ number other n rs
+unfolding number
+number-same test other n [] e = refl
+number-same test other n (r ∷ rs) e = rw (e r, number-same test other (suc n) rs e)
+
+-- records behind change nothing where the test holds already
+pub number-kept : {R : Type 0} (test : R → Bool) (n : ℕ) (rs qs : List R) → holds test rs ≡ true → number test n (rs ++ qs) ≡ number test n rs
+unfolding holds number
+number-kept test n [] qs e = absurd (false≢true e)
+number-kept test n (r ∷ rs) qs e = by-cases (test r) (λ p. rw p) (λ p. rw p (number-kept test (suc n) rs qs (or-right (test r) (holds test rs) e p)))
 
 -- records are numbered from 1
 pub getD-from-one : {R : Type 0} (rs : List R) (x d : R) (k : ℕ) → 0 < k → getD (x ∷ rs) k d ≡ getD rs (k - 1) d

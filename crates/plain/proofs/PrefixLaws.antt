@@ -124,6 +124,14 @@ has-begins (v ∷ ws) w e = by-cases (same v w)
     (λ s. rw (same-true v w s, starts-self w))
     (λ s. rw (has-begins ws w (or-right (same v w) (has ws w) e s), or-true (starts w v)))
 
+-- a word that only the list with one more begins, the last begins with
+pub begins-last : (ws : List Word) (w u : Word) → begins ws u ≡ false → begins (ws ++ (w ∷ [])) u ≡ true → starts u w ≡ true
+unfolding begins
+begins-last [] w u e h = by-cases (starts u w) (λ s. s) (λ s. absurd (false≢true (rw s at h)))
+begins-last (v ∷ ws) w u e h =
+    let b = or-false-both (starts u v) (begins ws u) e in
+    begins-last ws w u (b .1) (or-right (starts u v) (begins (ws ++ (w ∷ [])) u) h (b .0))
+
 pub begins-witness : (ws : List Word) (w : Word) → begins ws w ≡ true → (v : Word) × (has ws v ≡ true) × (starts w v ≡ true)
 unfolding has begins
 begins-witness [] w e = absurd (false≢true e)

@@ -13,10 +13,10 @@ use Rattle.plain.specs.Words.{Word, has}
 use Rattle.plain.specs.Coding.{Coding, Reading, refused, accepted}
 use Rattle.plain.specs.Joins.{Forms, declined, formed, joinOf}
 use Rattle.plain.specs.Requests.{State, Open, Finished, Request, call, answer, finish, next, load, instance}
-use Rattle.plain.specs.Requests.{counts, join, Reply, used, joined, refused, Result}
+use Rattle.plain.specs.Requests.{counts, join, why, Reply, used, joined, refused, Result}
 use Rattle.plain.specs.Table.{Table, Answer, subgoalAt, answersTo, answerNodes, nodes, calledForms, counted}
 use Rattle.plain.specs.Table.{subgoalOf, answerOf, withSubgoal, withAnswer, withFinished, settled, withEntry, stays, becomes, known}
-use Rattle.plain.specs.Table.{fits, appended, called, answered, whileOpen, given, entered, sideOf, joining, step}
+use Rattle.plain.specs.Table.{fits, appended, called, answered, whileOpen, given, entered, sideOf, joining, sharing, newness, reasoned, step}
 use Rattle.plain.specs.Order.{Renumbered, unnumbered, compared}
 use Rattle.plain.proofs.NumberLaws.{answerOf-none, answerOf-some}
 use Rattle.plain.proofs.Changes.{known-cases, writes-cases}
@@ -201,6 +201,11 @@ module _ (t : Table) (l : List Answer) (many : length (t .answers) ≡ length l)
       (λ k. rw (← e, g, ← (h .answers), k) (stays-parallel t l many each (λ r. r) [] (refused 11))))
       (λ g. rw (← e, g) (stays-parallel t l many each (λ r. r) [] (refused 10)))
 
+  reasoned-parallel : (cs : List ℕ) (x : Reading) → Parallel (λ r. r) (becomes t (reasoned t cs x)) (becomes (withAnswers t l) (reasoned (withAnswers t l) cs x))
+  unfolding reasoned newness sharing subgoalOf
+  reasoned-parallel cs (refused r) = stays-parallel t l many each (λ r. r) [] (refused r)
+  reasoned-parallel cs (accepted w m) = record { replies = refl; states = renumbered-other t l many each }
+
   joining-parallel : (s : ℕ) (ws : Forms) → Parallel (λ r. r) (joining t s ws) (joining (withAnswers t l) s ws)
   unfolding joining
   joining-parallel s (declined r) = stays-parallel t l many each (λ r. r) [] (refused r)
@@ -262,6 +267,7 @@ module _ (c : Coding) (t : Table) (l : List Answer) (many : length (t .answers) 
       known-parallel t l many each (λ x. x) [] (length (t .subgoals)) f _ _
       (known-parallel t l many each (λ x. x) [] (length (t .subgoals)) g _ _
       (known-parallel t l many each (λ x. x) [] (length (t .subgoals)) s _ _ (join-parallel t l many each c f g ps s cs)))
+  step-with (why cs) = reasoned-parallel t l many each cs (c .called cs)
 
 -- every call keeps tables that differ in answer numbers alone so, and replies alike
 pub step-parallel : (c : Coding) (t u : Table) → Renumbered t u → (q : Request)

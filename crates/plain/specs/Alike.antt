@@ -10,7 +10,7 @@ use Rattle.forms.specs.Numbering.{met}
 use Rattle.plain.specs.Words.{Word}
 use Rattle.plain.specs.Coding.{Coding, Reading, refused, accepted}
 use Rattle.plain.specs.Requests.{Request, Counts, Reply, new, oldSubgoal, oldAnswer, done, at, noneYet, noMore}
-use Rattle.plain.specs.Requests.{cells, used, joined, refused, short, Seen}
+use Rattle.plain.specs.Requests.{cells, used, joined, Reason, oldAs, newPast, because, refused, short, Seen}
 use Rattle.plain.specs.Table.{fresh, tableTrace}
 
 -- ---- what is compared
@@ -18,6 +18,11 @@ use Rattle.plain.specs.Table.{fresh, tableTrace}
 -- the nodes used belong to each form
 abbrev pub nodesApart : Counts → Counts
 nodesApart n = record { nodes = 0; subgoals = n .subgoals; answers = n .answers }
+
+-- of a term that is new, so do the tokens shared and the subgoal that shares them; all of old is compared
+unfoldable pub reasonApart : Reason → Reason
+reasonApart (oldAs n vs) = oldAs n vs
+reasonApart (newPast k s) = newPast 0 0
 
 unfoldable pub replyApart : Reply → Reply
 replyApart (new n) = new n
@@ -30,6 +35,7 @@ replyApart noMore = noMore
 replyApart (cells n) = cells n
 replyApart (used n) = used (nodesApart n)
 replyApart (joined n) = joined n
+replyApart (because y) = because (reasonApart y)
 replyApart (refused n) = refused n
 replyApart (short n) = short n
 
@@ -49,6 +55,7 @@ isTen noMore = false
 isTen (cells n) = false
 isTen (used n) = false
 isTen (joined n) = false
+isTen (because y) = false
 isTen (refused n) = eqb n 10
 isTen (short n) = false
 

@@ -11,7 +11,7 @@ use Rattle.plain.specs.Words.{Word, distinct, most, brings, newcomers}
 use Rattle.plain.specs.Coding.{Coding}
 use Rattle.plain.specs.Requests.{Finished, Request, call, answer, finish, next, load, instance, join}
 use Rattle.plain.specs.Requests.{Reply, new, oldSubgoal, oldAnswer, done, at, noneYet, noMore, cells, used}
-use Rattle.plain.specs.Requests.{joined, refused, short, lacksNext, lent, left}
+use Rattle.plain.specs.Requests.{joined, because, refused, short, lacksNext, lent, left}
 use Rattle.plain.specs.Joins.{combined}
 use Rattle.plain.specs.Table.{Table, Answer, fresh, subgoalAt, answerAt, subgoalOfAnswer, answersTo, nodes}
 use Rattle.plain.specs.Table.{writes, entered, step}
@@ -42,6 +42,7 @@ Gives i noMore = ⊥
 Gives i (cells n) = ⊥
 Gives i (used n) = ⊥
 Gives i (joined n) = ⊥
+Gives i (because y) = ⊥
 Gives i (refused n) = ⊥
 Gives i (short n) = ⊥
 
@@ -57,6 +58,7 @@ RefusedBy r noMore = ⊥
 RefusedBy r (cells n) = ⊥
 RefusedBy r (used n) = ⊥
 RefusedBy r (joined n) = ⊥
+RefusedBy r (because y) = ⊥
 RefusedBy r (refused n) = n ≡ r
 RefusedBy r (short n) = 12 ≡ r
 

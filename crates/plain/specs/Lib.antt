@@ -7,10 +7,12 @@ pub mod Table
 pub mod Consequences
 pub mod Alike
 pub mod ListNodes
+pub mod Reasons
 pub mod Order
 pub mod Examples
 pub mod InstanceMeaning
 pub mod InstanceExamples
 pub mod JoinExamples
+pub mod ReasonExamples
 pub mod OrderExamples
 pub mod PairExamples

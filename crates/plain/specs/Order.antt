@@ -11,9 +11,9 @@ use lib.Dec.{eqb}
 use lib.ListN.{length}
 use Rattle.basis.specs.Choice.{pick}
 use Rattle.plain.specs.Coding.{Coding}
-use Rattle.plain.specs.Requests.{State, Request, call, answer, finish, next, load, instance, counts, join}
+use Rattle.plain.specs.Requests.{State, Request, call, answer, finish, next, load, instance, counts, join, why}
 use Rattle.plain.specs.Requests.{Counts, Reply, new, oldSubgoal, oldAnswer, done, at, noneYet, noMore, cells}
-use Rattle.plain.specs.Requests.{used, joined, refused, short, lacksNext, Result, Seen, trace, left}
+use Rattle.plain.specs.Requests.{used, joined, because, refused, short, lacksNext, Result, Seen, trace, left}
 use Rattle.plain.specs.Table.{Table, fresh, answersTo, counted, step}
 use Rattle.plain.specs.Consequences.{Gives, reached}
 
@@ -56,11 +56,13 @@ unnumbered noMore = noMore
 unnumbered (cells n) = cells 0
 unnumbered (used n) = used n
 unnumbered (joined n) = joined n
+unnumbered (because y) = because y
 unnumbered (refused n) = refused n
 unnumbered (short n) = short 0
 
--- Of an answer's reply all but its number. Of call, finish, join and counts the whole reply: a subgoal's number and
--- state, how many answers of a join are new, every refusal. Nothing of the calls that are given an answer number.
+-- Of an answer's reply all but its number. Of call, finish, join, counts and why the whole reply: a subgoal's number
+-- and state, how many answers of a join are new, every reason and every refusal. Nothing of the calls that are given an
+-- answer number.
 unfoldable pub compared : Request → Reply → Reply
 compared (call cs) r = r
 compared (answer s cs) r = unnumbered r
@@ -70,6 +72,7 @@ compared (load a out) r = done
 compared (instance a out) r = done
 compared counts r = r
 compared (join f g ps s cs) r = r
+compared (why cs) r = r
 
 -- false for an answer to another subgoal than i, true for every other call
 unfoldable pub concerns : ℕ → Request → Bool
@@ -81,6 +84,7 @@ concerns i (load a out) = true
 concerns i (instance a out) = true
 concerns i counts = true
 concerns i (join f g ps x cs) = true
+concerns i (why cs) = true
 
 -- a call and what is compared of its reply
 pub record Heard : Type 0 where

@@ -17,6 +17,7 @@ pub data Request : Type 0 where
   instance : (a : ℕ) (out : List ℕ) → Request
   counts : Request
   join : (first second : ℕ) (pairs : List ℕ) (target : ℕ) (copies : List ℕ) → Request
+  why : (term : List ℕ) → Request
 
 -- nodes, subgoals and answers used
 pub record Counts : Type 0 where
@@ -24,8 +25,15 @@ pub record Counts : Type 0 where
   pub subgoals : ℕ
   pub answers : ℕ
 
+-- Why a term is old: the number of its subgoal, and the offered variables in order of rank, so that variable i for the
+-- i-th of them makes the stored term of the offered one. Why it is new: how many leading tokens of its stored form
+-- some subgoal shares, and the lowest-numbered subgoal that shares so many; 0 and 0 where none shares any.
+pub data Reason : Type 0 where
+  oldAs : (subgoal : ℕ) (variables : List ℕ) → Reason
+  newPast : (shared subgoal : ℕ) → Reason
+
 -- What a call answers: numbers of subgoals or answers, the cells written, the counts, how many answers of a join are
--- new, a refusal's number; for refusal 12 (short) the cells that out would need.
+-- new, the reason of why, a refusal's number; for refusal 12 (short) the cells that out would need.
 pub data Reply : Type 0 where
   new : ℕ → Reply
   oldSubgoal : ℕ → State → Reply
@@ -37,6 +45,7 @@ pub data Reply : Type 0 where
   cells : ℕ → Reply
   used : Counts → Reply
   joined : ℕ → Reply
+  because : Reason → Reply
   refused : ℕ → Reply
   short : ℕ → Reply
 
@@ -61,6 +70,7 @@ lent (load a out) = out
 lent (instance a out) = out
 lent counts = []
 lent (join f g ps s cs) = []
+lent (why cs) = []
 
 -- what is compared after a call: its answer, the three counts, every cell of out
 pub record Seen : Type 0 where

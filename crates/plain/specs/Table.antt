@@ -5,13 +5,15 @@ use Prim.Native.Nat.{ℕ, zero, suc, _+_, _-_, pred}
 use lib.Dec.{eqb, leb, ltb}
 use lib.ListN.{length, getD, drop, set}
 use Rattle.basis.specs.Choice.{pick}
+use Rattle.forms.specs.Numbering.{met}
 use Rattle.forms.specs.Compact.{same}
-use Rattle.plain.specs.Words.{Word, trieNodes}
+use Rattle.plain.specs.Words.{Word, trieNodes, common, most}
 use Rattle.plain.specs.Coding.{Coding, Reading, refused, accepted, codingOf}
 use Rattle.plain.specs.Joins.{Forms, declined, formed, Side, joinOf}
 use Rattle.plain.specs.Requests.{State, Open, Finished, Request, call, answer, finish, next, load, instance}
-use Rattle.plain.specs.Requests.{counts, join, Counts, Reply, new, oldSubgoal, oldAnswer, done, at, cells, used}
-use Rattle.plain.specs.Requests.{joined, refused, short, lacksNext, Result, Seen, trace}
+use Rattle.plain.specs.Requests.{counts, join, why, Counts, Reason, oldAs, newPast, Reply, new, oldSubgoal}
+use Rattle.plain.specs.Requests.{oldAnswer, done, at, cells, used, joined, because, refused, short, lacksNext}
+use Rattle.plain.specs.Requests.{Result, Seen, trace}
 
 -- ---- state
 
@@ -226,6 +228,21 @@ joining t s (formed ws) =
     (becomes t (refused 11)))
     (becomes t (refused 10))
 
+-- ---- why
+
+-- the lowest-numbered subgoal that shares k leading tokens with w, or 0
+unfoldable pub sharing : Table → Word → ℕ → ℕ
+sharing t w k = number (λ g. leb k (common (g .form) w)) 1 (t .subgoals)
+
+-- a form that the table lacks: the most leading tokens that it shares with a subgoal's, and the first that shares them
+unfoldable pub newness : Table → Word → Reason
+newness t w = let k = most (calledForms (t .subgoals)) w in newPast k (pick (eqb k 0) 0 (sharing t w k))
+
+-- the reason for the cells that were read so
+unfoldable pub reasoned : Table → List ℕ → Reading → Reply
+reasoned t cs (refused r) = refused r
+reasoned t cs (accepted w m) = let n = subgoalOf t w in because (pick (eqb n 0) (newness t w) (oldAs n (met [] cs)))
+
 -- what each call leaves; 7 is checked before the cells are read, a join's 8 too
 unfoldable pub step : Coding → Table → Request → Result Table
 step c t (call cs) = called t (c .called cs)
@@ -243,6 +260,7 @@ step c t (join f g ps s cs) =
     (known t [] (length (t .subgoals)) g
     (known t [] (length (t .subgoals)) s
     (joining t s (joinOf c (sideOf t f) (sideOf t g) ps (subgoalAt t s .state) (subgoalAt t s .m) cs))))
+step c t (why cs) = becomes t (reasoned t cs (c .called cs))
 
 -- what is seen of a list of calls
 abbrev pub tableTrace : Coding → Table → List Request → List Seen

@@ -4,7 +4,7 @@ use mathlib.Core.List.{List, _∷_, _++_}
 use lib.ListN.{take}
 use Rattle.plain.specs.Requests.{State, Open, Finished}
 use Rattle.plain.specs.Requests.{Reply, new, oldSubgoal, oldAnswer, done, at, noneYet, noMore, cells, used, joined}
-use Rattle.plain.specs.Requests.{refused, short}
+use Rattle.plain.specs.Requests.{Reason, oldAs, newPast, because, refused, short}
 use Rattle.text.specs.Letters.{letters}
 use Rattle.text.specs.Fields.{space, cellDigits}
 use Rattle.text.specs.Digits.{cellTexts, wordAndNumber, Puts}
@@ -55,6 +55,11 @@ stateText Finished = textFinished
 abbrev pub countsText : ℕ → ℕ → ℕ → List ℕ
 countsText nodes subgoals answers = wordAndNumber (wordAndNumber (wordAndNumber textCounts nodes) subgoals) answers
 
+-- old, the number and the variables as cells; or new and the two numbers
+unfoldable pub reasonText : Reason → List ℕ
+reasonText (oldAs n vs) = wordAndNumber textOld n ++ cellTexts vs
+reasonText (newPast k s) = wordAndNumber (wordAndNumber textNew k) s
+
 -- the refusal of an out that is too short
 abbrev pub refusedShort : ℕ
 refusedShort = 12
@@ -72,6 +77,7 @@ replyText noMore out = textNoMore
 replyText (cells n) out = textCells ++ cellTexts (take n out)
 replyText (used y) out = countsText (y .nodes) (y .subgoals) (y .answers)
 replyText (joined n) out = wordAndNumber textJoined n
+replyText (because y) out = reasonText y
 replyText (refused r) out = wordAndNumber textRefused r
 replyText (short n) out = wordAndNumber textRefused refusedShort
 

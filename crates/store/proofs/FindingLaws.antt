@@ -7,11 +7,12 @@ use Prim.Native.Nat.{ℕ, _≤_, _<_}
 use lib.Dec.{leb, ltb}
 use borrow.Author.Tests.{ltb-true, leb-true}
 use Rattle.basis.proofs.Cases.{by-cases}
+use Rattle.forms.specs.Numbering.{met}
 use Rattle.plain.specs.Words.{Word}
 use Rattle.plain.specs.Coding as coding
 use Rattle.plain.specs.Coding.{Coding, codingOf, Reading}
 use Rattle.plain.specs.Joins.{Forms, declined, formed, joinOf}
-use Rattle.plain.specs.Requests.{Request, Reply, Result, call, answer, finish, next, load, instance, counts, join}
+use Rattle.plain.specs.Requests.{Request, Reply, Result, call, answer, finish, next, load, instance, counts, join, why}
 use Rattle.space.specs.Layout.{Sizes, sizesOf}
 use Rattle.space.specs.Heading.{headerOf, spaceHeader}
 use Rattle.space.specs.declared.Head.{Head}
@@ -22,7 +23,7 @@ use Rattle.trie.specs.Walks.{Walk, Finding, walk, walkBy}
 use Rattle.trie.specs.Index.{searchIndexed}
 use Rattle.trie.proofs.IndexLaws.{walk-none}
 use Rattle.store.specs.Views.{View, subgoalTrie, answerTrie, viewOf}
-use Rattle.store.specs.Decisions.{Decision, says, gives, entersSubgoal, entersAnswer, entersEmpty, finishes, entersAnswers, known, sound, stateOf, soundSubgoal, soundTarget, chainOf, sideIn, Chain, broken, unbroken, onChains, calledAt, answeredAt, called, calledBy, answered, answeredBy, walkTo, walkToBy, allSound, allSoundBy, nodesNeeded, nodesNeededBy, answersNeeded, answersNeededBy, joining, joiningBy, decide, decideBy}
+use Rattle.store.specs.Decisions.{Decision, says, gives, entersSubgoal, entersAnswer, entersEmpty, finishes, entersAnswers, known, sound, stateOf, soundSubgoal, soundTarget, chainOf, sideIn, Chain, broken, unbroken, onChains, calledAt, answeredAt, called, calledBy, answered, answeredBy, walkTo, walkToBy, allSound, allSoundBy, nodesNeeded, nodesNeededBy, answersNeeded, answersNeededBy, joining, joiningBy, reasoned, reasonedBy, reasonedAt, decide, decideBy}
 use Rattle.store.specs.Changes.{answerGiven, formGiven, formGivenBy, formsGiven, formsGivenBy, change, changeBy}
 use Rattle.store.specs.Calls.{underBy, underAny, underAnyBy, spaceStep, spaceStepBy, indexedStep, Answers, AnswersIndexed}
 
@@ -45,6 +46,11 @@ module _ (c : Coding) (find : Finding) (v : View) (call-walks : (w : Word) → w
   unfolding calledBy
   called-alike (coding.refused r) = refl
   called-alike (coding.accepted w m) = ap (λ (k : Walk). calledAt v k m) (call-walks w)
+
+  reasoned-alike : (ks : List ℕ) (x : Reading) → reasonedBy find v ks x ≡ reasoned v ks x
+  unfolding reasonedBy
+  reasoned-alike ks (coding.refused r) = refl
+  reasoned-alike ks (coding.accepted w m) = ap (reasonedAt v (met [] ks) w) (call-walks w)
 
   module _ (s : ℕ) (low : 0 < s) (high : s ≤ v .subgoals) where
     answered-alike : (x : Reading) → answeredBy find v s x ≡ answered v s x
@@ -87,6 +93,7 @@ module _ (c : Coding) (find : Finding) (v : View) (call-walks : (w : Word) → w
       known-alike (v .subgoals) s _ _ (λ low high.
       ap (sound (soundSubgoal v i && soundSubgoal v j && soundTarget v s)) (chains-alike (chainOf c v i) (chainOf c v j) _ _ (λ us vs.
       joining-alike s low high (joinOf c (sideIn v i us) (sideIn v j vs) ps (stateOf (v .subgoal s .state)) (v .subgoal s .variables) ks))))))
+  decide-alike (why ks) = reasoned-alike ks (c .called ks)
 
 -- ---- where every walk is that by the chains
 

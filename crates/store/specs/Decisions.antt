@@ -1,6 +1,6 @@
 -- What a call comes to, before anything is written: refusals 3 to 11 and 14 to 16 in their order, each record judged
--- where it is read. Call, answer and join search a trie: what they come to is defined once, with the way of finding a
--- child as a parameter.
+-- where it is read. Call, answer, join and why search a trie: what they come to is defined once, with the way of
+-- finding a child as a parameter.
 use Prim.Native.Nat.{ℕ, zero, suc, _+_, _-_, min}
 use mathlib.Core.Bool.{Bool, true, false, _&&_}
 use mathlib.Core.List.{List, [], _∷_}
@@ -12,9 +12,10 @@ use Rattle.plain.specs.Words.{Word, has, most}
 use Rattle.plain.specs.Coding.{Coding, Reading, refused, accepted}
 use Rattle.plain.specs.Requests.{State, Open, Finished, Request, call, answer, finish, next, load, instance, counts}
 use Rattle.plain.specs.Requests.{Reply, oldSubgoal, oldAnswer, at, used, refused}
-use Rattle.plain.specs.Requests.{lacksNext, join}
+use Rattle.plain.specs.Requests.{lacksNext, join, why, oldAs, newPast, because}
 use Rattle.plain.specs.Joins.{Forms, declined, formed, Side, joinOf}
 use Rattle.space.specs.Judging.{subgoalSound, answerSound}
+use Rattle.trie.specs.Siblings as siblings
 use Rattle.trie.specs.Siblings.{searchChildren}
 use Rattle.trie.specs.Walks.{Walk, whole, stopped, damaged, Finding, rootSound, walkBy}
 use Rattle.trie.specs.Paths.{Path, none, tokens, gather, longest}
@@ -250,7 +251,48 @@ joiningBy find v s (formed ws) =
 abbrev pub soundTarget : View → ℕ → Bool
 soundTarget v s = soundSubgoal v s && rootSound (answerTrie v) (v .subgoal s .root)
 
--- ---- the eight calls
+-- ---- why
+
+-- where first children lead: to a node that has none; or lost, where a damaged record was met
+pub data Way : Type 0 where
+  astray : Way
+  leads : ℕ → Way
+
+-- from node i on, each child judged as a node compared is. Children rise, so no way has more steps than there are
+-- nodes.
+unfoldable pub firstsFrom : View → ℕ → ℕ → Way
+firstsFrom v zero i = astray
+firstsFrom v (suc steps) i =
+    let child = v .node i .child in
+    let later = firstsFrom v steps child in
+    pick (eqb child 0) (leads i)
+    (pick (siblings.sound (subgoalTrie v) child && eqb (v .node child .parent) i) later astray)
+
+-- a leaf of the subgoal trie: what is said of the subgoal that it is linked to, whose record names that leaf
+unfoldable pub namedBy : View → ℕ → (ℕ → Reply) → Decision
+namedBy v leaf say =
+    let s = v .node leaf .link in
+    sound (ltb 0 s && soundSubgoal v s && eqb (v .subgoal s .leaf) leaf) (says (say s))
+
+-- n leading tokens were found, and first children lead on from there
+unfoldable pub newAt : View → ℕ → Way → Decision
+newAt v n astray = refuses 9
+newAt v n (leads leaf) = namedBy v leaf (λ s. because (newPast n s))
+
+-- where no token was found nothing further is read
+unfoldable pub reasonedAt : View → List ℕ → Word → Walk → Decision
+reasonedAt v vs w (whole leaf) = namedBy v leaf (λ s. because (oldAs s vs))
+reasonedAt v vs w (stopped parent last left) =
+    let n = length w - length left in
+    pick (eqb n 0) (says (because (newPast 0 0))) (newAt v n (firstsFrom v (v .nodes) parent))
+reasonedAt v vs w damaged = refuses 9
+
+-- why for the cells that were read so
+unfoldable pub reasonedBy : Finding → View → List ℕ → Reading → Decision
+reasonedBy find v cs (refused r) = refuses r
+reasonedBy find v cs (accepted w m) = reasonedAt v (met [] cs) w (walkBy find (subgoalTrie v) 0 w)
+
+-- ---- the nine calls
 
 unfoldable pub decideBy : Finding → Coding → View → Request → Decision
 decideBy find c v (call cs) = calledBy find v (c .called cs)
@@ -271,6 +313,7 @@ decideBy find c v (join f g ps s cs) =
     (onChains (chainOf c v f) (chainOf c v g) (λ us vs.
     joiningBy find v s
     (joinOf c (sideIn v f us) (sideIn v g vs) ps (stateOf (v .subgoal s .state)) (v .subgoal s .variables) cs))))))
+decideBy find c v (why cs) = reasonedBy find v cs (c .called cs)
 
 -- ---- by the sibling chains
 
@@ -294,6 +337,9 @@ answersNeeded = answersNeededBy searchChildren
 
 abbrev pub joining : View → ℕ → Forms → Decision
 joining = joiningBy searchChildren
+
+abbrev pub reasoned : View → List ℕ → Reading → Decision
+reasoned = reasonedBy searchChildren
 
 abbrev pub decide : Coding → View → Request → Decision
 decide = decideBy searchChildren

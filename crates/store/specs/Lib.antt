@@ -8,3 +8,4 @@ pub mod Replies
 pub mod Examples
 pub mod JoinExamples
 pub mod BuildExamples
+pub mod WhyExamples

@@ -1,5 +1,5 @@
 -- Every answer of the calls and of fresh is one that a result word holds: no refusal above 16, and at most 256 * 257 cells.
-use Prim.Native.Nat.{ℕ, zero, suc, _+_, _*_, _^_, _≤_, _<_}
+use Prim.Native.Nat.{ℕ, zero, suc, _+_, _*_, _-_, _^_, _≤_, _<_}
 use mathlib.Core.Bool.{Bool, true, false, _&&_}
 use mathlib.Core.List.{List, [], _∷_, map}
 use mathlib.Core.Path.{_≡_, refl, ap}
@@ -20,7 +20,7 @@ use Rattle.forms.specs.declared.Reading.the-variants.{Form, Refusal}
 use Rattle.forms.proofs.StoredLaws.{stored-of}
 use Rattle.forms.specs.Stored.{storedOf}
 use Rattle.plain.specs.Coding.{Reading, refused, accepted, handedOn, judged, predicate, taken, substituted, codingOf}
-use Rattle.plain.specs.Requests.{State, Open, Finished, Request, call, answer, finish, next, load, instance, counts, join, lent, oldSubgoal, oldAnswer, at, lacksNext, refused}
+use Rattle.plain.specs.Requests.{State, Open, Finished, Request, call, answer, finish, next, load, instance, counts, join, why, lent, Reply, oldSubgoal, oldAnswer, at, lacksNext, refused}
 use Rattle.plain.specs.Words.{Word}
 use Rattle.plain.specs.Joins.{Forms, declined, formed, joinOf}
 use Rattle.plain.proofs.Changes.{Read, all-read, join-cases}
@@ -38,7 +38,7 @@ use Rattle.trie.specs.Walks.{Walk, whole, stopped, damaged, rootSound, Finding,
 use Rattle.trie.specs.Paths.{Path, tokens, gather, longest}
 use Rattle.trie.specs.Paths as path
 use Rattle.store.specs.Views.{View, viewOf, subgoalTrie, answerTrie}
-use Rattle.store.specs.Decisions.{Decision, says, gives, entersSubgoal, entersAnswer, entersEmpty, finishes, entersAnswers, refuses, soundSubgoal, soundAnswer, soundAnswerOf, sound, known, stateOf, soundLast, whileOpen, calledOld, calledNew, calledAt, calledBy, answeredNew, answeredOld, answeredAt, answeredBy, starting, handed, onward, onPath, loaded, instanced, soundPair, Chain, broken, unbroken, chainOf, onChains, sideIn, allSoundBy, nodesNeededBy, answersNeededBy, joiningBy, soundTarget, decideBy}
+use Rattle.store.specs.Decisions.{Decision, says, gives, entersSubgoal, entersAnswer, entersEmpty, finishes, entersAnswers, refuses, soundSubgoal, soundAnswer, soundAnswerOf, sound, known, stateOf, soundLast, whileOpen, calledOld, calledNew, calledAt, calledBy, answeredNew, answeredOld, answeredAt, answeredBy, starting, handed, onward, onPath, loaded, instanced, soundPair, Chain, broken, unbroken, chainOf, onChains, sideIn, allSoundBy, nodesNeededBy, answersNeededBy, joiningBy, Way, astray, leads, firstsFrom, namedBy, newAt, reasonedAt, reasonedBy, soundTarget, decideBy}
 use Rattle.store.specs.Calls.{reply, underBy, underAnyBy, spaceStepBy}
 use Rattle.words.specs.Words.{saidFresh}
 use Rattle.words.specs.Bounded.{Bounded}
@@ -120,6 +120,23 @@ module _ (v : View) where
       small-tests (leb (v .nodes + length left + 1) (v .N)) (ltb (v .subgoals) (v .F)) (entersSubgoal parent last left m) 11 10 (omega arith) (omega arith) tt
   small-called-at damaged m = omega arith
 
+  small-named : (leaf : ℕ) (say : ℕ → Reply) → ((s : ℕ) → Bounded (say s)) → Small (namedBy v leaf say)
+  unfolding namedBy
+  small-named leaf say f =
+      let s = v .node leaf .link in small-sound (says (say s)) (ltb 0 s && soundSubgoal v s && eqb (v .subgoal s .leaf) leaf) (λ q. f s)
+
+  small-new-at : (n : ℕ) (x : Way) → Small (newAt v n x)
+  unfolding newAt
+  small-new-at n astray = omega arith
+  small-new-at n (leads leaf) = small-named leaf _ (λ s. tt)
+
+  small-reasoned-at : (vs : List ℕ) (w : Word) (x : Walk) → Small (reasonedAt v vs w x)
+  unfolding reasonedAt
+  small-reasoned-at vs w (whole leaf) = small-named leaf _ (λ s. tt)
+  small-reasoned-at vs w (stopped parent last left) =
+      small-either (eqb (length w - length left) 0) _ (newAt v (length w - length left) (firstsFrom v (v .nodes) parent)) tt (small-new-at (length w - length left) (firstsFrom v (v .nodes) parent))
+  small-reasoned-at vs w damaged = omega arith
+
   small-answered-new : (s more : ℕ) (d : Decision) → Small d → Small (answeredNew v s more d)
   unfolding answeredNew
   small-answered-new s more d f =
@@ -197,6 +214,11 @@ module _ (find : Finding) (ed : ℕ) where
   unfolding calledBy
   small-called v (refused r) f = f
   small-called v (accepted w m) f = small-called-at v (walkBy find (subgoalTrie v) 0 w) m
+
+  small-reasoned : (v : View) (cs : List ℕ) (r : Reading) → SmallReading r → Small (reasonedBy find v cs r)
+  unfolding reasonedBy
+  small-reasoned v cs (refused r) f = f
+  small-reasoned v cs (accepted w m) f = small-reasoned-at v (met [] cs) w (walkBy find (subgoalTrie v) 0 w)
 
   small-answered : (v : View) (s : ℕ) (r : Reading) → SmallReading r → Small (answeredBy find v s r)
   unfolding answeredBy
@@ -299,6 +321,8 @@ module _ (find : Finding) (ed : ℕ) where
   decide-small v (join f g ps s cs) =
       small-known _ (v .subgoals) f (small-known _ (v .subgoals) g (small-known _ (v .subgoals) s
       (small-sound _ (soundSubgoal v f && soundSubgoal v g && soundTarget v s) (λ q. small-chains v s f g ps cs (chainOf (codingOf ed) v f) (chainOf (codingOf ed) v g)))))
+  decide-small v (why cs) =
+      small-reasoned v cs ((codingOf ed) .called cs) (judged-small 1 cs (pick (predicate cs) (taken (storedOf ed) cs) (refused 6)) (callable-small (predicate cs) cs))
 
   reply-bounded : (v : View) (d : Decision) (room after : ℕ) → Small d → Bounded (reply v d room after)
   unfolding reply

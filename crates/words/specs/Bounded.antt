@@ -1,7 +1,7 @@
 -- Answers that a result word holds: their refusal's number and their count of cells are small. Every call gives such.
 use Prim.Native.Nat.{_^_, _≤_, _<_}
 use Rattle.plain.specs.Requests.{Reply, new, oldSubgoal, oldAnswer, done, at, noneYet, noMore, cells, used, joined}
-use Rattle.plain.specs.Requests.{refused, short}
+use Rattle.plain.specs.Requests.{because, refused, short}
 use Rattle.store.specs.Building.{BuildReply}
 use Rattle.store.specs.Building as build
 use Rattle.agreement.specs.Faults.{Fault, nothing, heading, node, subgoal, answer}
@@ -19,6 +19,7 @@ Bounded noneYet = Unit {0}
 Bounded noMore = Unit {0}
 Bounded (used c) = Unit {0}
 Bounded (joined n) = Unit {0}
+Bounded (because y) = Unit {0}
 
 -- Faults that it holds: every record's number is small.
 abbrev pub FaultBounded : Fault → Type 0

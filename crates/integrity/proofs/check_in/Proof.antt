@@ -1,5 +1,6 @@
 -- `integrity::check_in` meets its contract.
-use Rattle.integrity.proofs.CheckCases.{fault-node, fault-subgoal, fault-answer, fault-chains, all-whole}
+use Rattle.integrity.proofs.CheckCases.{pass-whole, fault-node, fault-subgoal, fault-answer, fault-chains, all-whole}
+use Rattle.integrity.specs.Tests.{nodeTest}
 use mathlib.Core.Path.{_∙_}
 use borrow.Author.Needs.{needs}
 use Rattle.integrity.proofs.check_in.Statement.{statement}
@@ -15,7 +16,7 @@ returns : tie.Need-returns
 returns c = fault-node ((c .before .before .before .before .args .space .now)) ((c .before .before .before .before .args .h)) ((c .before .before .first-node .result)) ((c .before .before .first-node .ensures)) (search needs)
 
 first-subgoal-requires : tie.Need-first-subgoal-requires
-first-subgoal-requires c κs = search needs
+first-subgoal-requires c κs = ((c .before .before .before .before .pre), pass-whole (nodeTest ((c .before .before .before .before .args .space .now)) ((c .before .before .before .before .args .h))) ((c .before .before .before .before .args .h .nodes)) ((c .before .before .first-node .result)) ((c .before .before .first-node .ensures)) (search needs))
 
 add-t8 : tie.Need-add-t8
 add-t8 c = search needs

@@ -21,7 +21,7 @@ add-subgoal-whole : tie.Need-add-subgoal-whole Inv-loop μ-loop
 add-subgoal-whole c = omega arith
 
 subgoal-whole-requires : tie.Need-subgoal-whole-requires Inv-loop μ-loop
-subgoal-whole-requires c κs = ((c .before .before .before .before .pre), omega arith, omega arith)
+subgoal-whole-requires c κs = (((c .before .before .before .before .pre .0), omega arith, omega arith), (c .before .before .before .before .pre .1))
 
 returns : tie.Need-returns Inv-loop μ-loop
 returns c = later-failed (subgoalTest ((c .before .before .before .before .before .before .args .space .now)) ((c .before .before .before .before .before .before .args .h))) ((c .before .before .before .before .before .before .args .h .subgoals)) ((c .before .before .before .before .loop .i)) ((c .before .before .before .before .loop .inv .1)) (omega arith) (told ((c .before .subgoal-whole .ensures)) (not-true _ ((c .if2 .taken))))
