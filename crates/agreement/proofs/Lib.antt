@@ -12,6 +12,7 @@ pub mod SameRecords
 pub mod Agreeing
 pub mod Calling
 pub mod Reasoning
+pub mod Detouring
 pub mod Answering
 pub mod Holding
 pub mod ChainSteps

@@ -4,7 +4,7 @@ use mathlib.Core.Path.{_≡_}
 use Prim.Native.Nat.{ℕ}
 use Rattle.plain.specs.Coding.{Coding}
 use Rattle.plain.specs.CodingLaws.{CodingLaws}
-use Rattle.plain.specs.Requests.{Request, call, answer, finish, next, load, instance, counts, join, why, lent}
+use Rattle.plain.specs.Requests.{Request, call, answer, finish, next, load, instance, counts, join, why, detours, lent}
 use Rattle.plain.specs.Table.{Table, step}
 use Rattle.space.specs.Layout.{Sizes}
 use Rattle.space.specs.Heading.{headerOf}
@@ -16,6 +16,7 @@ use Rattle.agreement.proofs.SameRecords.{Same}
 use Rattle.agreement.proofs.Agreeing.{counts-agrees, finish-agrees, next-agrees, load-agrees, instance-agrees}
 use Rattle.agreement.proofs.Calling.{call-agrees}
 use Rattle.agreement.proofs.Reasoning.{why-agrees}
+use Rattle.agreement.proofs.Detouring.{detours-agrees}
 use Rattle.agreement.proofs.Answering.{answer-agrees}
 use Rattle.agreement.proofs.Holding.{Cells, AnswersAlike, agrees-answers}
 use Rattle.agreement.proofs.Joining.{join-answers}
@@ -35,3 +36,4 @@ module _ (z : Sizes) (c : Coding) (cells : Cells z) (laws : CodingLaws c) (t : T
   step-answers counts = agrees-answers z c cells cs h e (counts-agrees c laws t v S)
   step-answers (join f g ps s ks) = join-answers z c cells laws t cs h e S f g ps s ks
   step-answers (why ks) = agrees-answers z c cells cs h e (why-agrees c laws t v S ks)
+  step-answers (detours ss b) = agrees-answers z c cells cs h e (detours-agrees c laws t v S ss b)

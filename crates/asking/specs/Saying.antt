@@ -2,6 +2,7 @@
 use Prim.Native.Nat.{ℕ}
 use mathlib.Core.List.{List}
 use Rattle.plain.specs.Requests.{Request, Result, call, answer, finish, next, load, instance, counts, join, why}
+use Rattle.plain.specs.Requests.{detours}
 use Rattle.replies.specs.Texts.{textBad, replyText}
 use Rattle.asking.specs.Lines.{Meaning, bad, asks}
 
@@ -22,6 +23,7 @@ outLeft (instance a o) out after = after
 outLeft counts out after = out
 outLeft (join f g ps s cs) out after = out
 outLeft (why cs) out after = out
+outLeft (detours gs b) out after = out
 
 -- a line that means nothing prints bad and changes nothing
 unfoldable pub saidOf : {S : Type 0} → (S → Request → Result S) → Meaning → S → List ℕ → Said S

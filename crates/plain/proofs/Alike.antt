@@ -15,10 +15,11 @@ use Rattle.plain.specs.Words.{Word}
 use Rattle.plain.specs.Coding.{Coding, Reading, refused, accepted}
 use Rattle.plain.specs.CodingLaws.{CodingLaws}
 use Rattle.plain.specs.Joins.{Forms, declined, formed, Side, Terms, combined, before, allRead, isOpen, ground, named, joinOf}
-use Rattle.plain.specs.Requests.{State, Open, Finished, Request, call, answer, finish, next, load, instance, counts, join, why}
+use Rattle.plain.specs.Requests.{State, Open, Finished, Request, call, answer, finish, next, load, instance, counts, join, why, detours}
 use Rattle.plain.specs.Requests.{Reply, new, oldSubgoal, oldAnswer, done, at, noneYet, noMore, cells, used, joined, refused, short, lacksNext, Result, Seen, trace}
 use Rattle.plain.specs.Table.{Table, Subgoal, Answer, fresh, noSubgoal, noAnswer, subgoalAt, answerAt, subgoalOfAnswer, answersTo, nodes, counted, number, subgoalOf, answerOf, after, following}
-use Rattle.plain.specs.Table.{withSubgoal, withAnswer, withFinished, settled, withEntry, stays, becomes, known, fits, appended, called, answered, whileOpen, starting, onward, writes, given, entered, sideOf, joining, newness, reasoned, step, tableTrace}
+use Rattle.plain.specs.Table.{withSubgoal, withAnswer, withFinished, settled, withEntry, stays, becomes, known, fits, appended, called, answered, whileOpen, starting, onward, writes, given, entered, sideOf, joining, newness, reasoned, liveAnswers, goalOf, detouring, step, tableTrace}
+use Rattle.plain.specs.Detours.{Live, Goal, Option, offers, allOffer, goalsFit, anyOpen, fewGoals, optionOf, optionsOf, detoursOf, allWithin}
 use Rattle.plain.specs.Alike.{nodesApart, reasonApart, replyApart, seenApart, isTen, upToTen, AnswerAlike, readAs, ReadAlike}
 use Rattle.plain.proofs.Changes.{Readable, Read, all-read, join-cases, AnswerEnters, AnswersEnter, no-more, one-more, Changed, stayed, subgoal-enters, answer-enters, finishes, answers-enter, step-changed}
 
@@ -66,6 +67,15 @@ module _ (c : Coding) where
   unfolding answersTo
   forms-to [] s h = tt
   forms-to (a ∷ l) s h = by-cases (eqb (a .subgoal) s) (λ e. rw e (h .0, forms-to l s (h .1))) (λ e. rw e (forms-to l s (h .1)))
+
+  abbrev LegalLives : List Live → Type 0
+  LegalLives [] = Unit {0}
+  LegalLives (a ∷ l) = LegalForm (a .form) × LegalLives l
+
+  lives-legal : (s n : ℕ) (l : List Answer) → LegalAnswers l → LegalLives (liveAnswers s n l)
+  unfolding liveAnswers
+  lives-legal s n [] h = tt
+  lives-legal s n (a ∷ l) h = by-cases (eqb (a .subgoal) s) (λ e. rw e (h .0, lives-legal s (suc n) l (h .1))) (λ e. rw e (lives-legal s (suc n) l (h .1)))
 
   module _ (none : c .legal 0 [] ≡ true) where
     goal-legal : (gs : List Subgoal) (s : ℕ) → LegalGoals gs → LegalForm (getD gs s noSubgoal .form)
@@ -473,6 +483,74 @@ module _ (c d : Coding) (laws : CodingLaws c) (alike : ReadAlike c d) where
           (λ f. rw (e, f) (λ x y. (refl, refl, refl)))
           (λ f. rw (e, f) (λ x y. (refl, refl, refl)))
 
+      -- ---- detours
+
+      abbrev liveAs : Live → Live
+      liveAs l = record { number = l .number; form = τ (l .form) }
+
+      abbrev goalAs : Goal → Goal
+      goalAs g = record { state = g .state; m = g .m; answers = map liveAs (g .answers) }
+
+      lives-imaged : (s n : ℕ) (l : List Answer) → liveAnswers s n (map reply l) ≡ map liveAs (liveAnswers s n l)
+      unfolding liveAnswers
+      lives-imaged s n [] = refl
+      lives-imaged s n (a ∷ l) = by-cases (eqb (a .subgoal) s)
+          (λ e. rw e (ap (λ (r : List Live). record { number = n; form = τ (a .form) } ∷ r) (lives-imaged s (suc n) l)))
+          (λ e. rw e (lives-imaged s (suc n) l))
+
+      goal-as : (s : ℕ) → goalOf (imaged k t) s ≡ goalAs (goalOf t s)
+      unfolding goalOf
+      goal-as s = rw (state-imaged t s, m-imaged t s, lives-imaged s 1 (t .answers))
+
+      goals-as : (ss : List ℕ) → map (goalOf (imaged k t)) ss ≡ map goalAs (map (goalOf t) ss)
+      goals-as [] = refl
+      goals-as (s ∷ ss) = ap (λ (g : Goal). g ∷ map (goalOf (imaged k t)) ss) (goal-as s) ∙ ap (λ (gs : List Goal). goalAs (goalOf t s) ∷ gs) (goals-as ss)
+
+      abbrev LegalIn : List Goal → Type 0
+      LegalIn [] = Unit {0}
+      LegalIn (g ∷ gs) = LegalLives c (g .answers) × LegalIn gs
+
+      goals-legal : (ss : List ℕ) → LegalIn (map (goalOf t) ss)
+      unfolding goalOf
+      goals-legal [] = tt
+      goals-legal (s ∷ ss) = (lives-legal c s 1 (t .answers) (legal .answers), goals-legal ss)
+
+      offer-as : (ls : List Live) → LegalLives c ls → allOffer d (map liveAs ls) ≡ allOffer c ls
+      unfolding allOffer
+      offer-as [] h = refl
+      offer-as (l ∷ ls) h = rw (alike .terms (h .0 .0) (l .form) (h .0 .1), offer-as ls (h .1))
+
+      options-as : (ls : List Live) → LegalLives c ls → map (optionOf d) (map liveAs ls) ≡ map (optionOf c) ls
+      options-as [] h = refl
+      options-as (l ∷ ls) h = rw (alike .terms (h .0 .0) (l .form) (h .0 .1), options-as ls (h .1))
+
+      fit-as : (gs : List Goal) → LegalIn gs → goalsFit d (map goalAs gs) ≡ goalsFit c gs
+      unfolding goalsFit
+      fit-as [] h = refl
+      fit-as (g ∷ gs) h = rw (offer-as (g .answers) (h .0), fit-as gs (h .1))
+
+      open-as : (gs : List Goal) → anyOpen (map goalAs gs) ≡ anyOpen gs
+      unfolding anyOpen
+      open-as [] = refl
+      open-as (g ∷ gs) = rw (open-as gs)
+
+      few-as : (gs : List Goal) → fewGoals (map goalAs gs) ≡ fewGoals gs
+      unfolding fewGoals
+      few-as gs = rw (length-map gs goalAs)
+
+      all-options : (gs : List Goal) → LegalIn gs → map (optionsOf d) (map goalAs gs) ≡ map (optionsOf c) gs
+      all-options [] h = refl
+      all-options (g ∷ gs) h =
+          ap (λ (os : List Option). os ∷ map (optionsOf d) (map goalAs gs)) (options-as (g .answers) (h .0)) ∙ ap (λ (os : List (List Option)). optionsOf c g ∷ os) (all-options gs (h .1))
+
+      detours-as : (gs : List Goal) (b : ℕ) → LegalIn gs → detoursOf d (map goalAs gs) b ≡ detoursOf c gs b
+      unfolding detoursOf
+      detours-as gs b h = rw (open-as gs, few-as gs, fit-as gs h, all-options gs h)
+
+      detouring-as : (ss : List ℕ) (b : ℕ) → detouring d (imaged k t) ss b ≡ detouring c t ss b
+      unfolding detouring
+      detouring-as ss b = rw (goals-many t, goals-as ss, detours-as (map (goalOf t) ss) b (goals-legal ss))
+
       answer-agree : (s : ℕ) (cs : List ℕ) → Agree (answered t s (c .answered (subgoalAt t s .m) cs)) (answered (imaged k t) s (d .answered (subgoalAt (imaged k t) s .m) cs))
       answer-agree s cs =
           let m : ℕ = subgoalAt t s .m in
@@ -501,6 +579,7 @@ module _ (c d : Coding) (laws : CodingLaws c) (alike : ReadAlike c d) where
       step-agree (why cs) =
           subst (λ (x : Reading). Agree (becomes t (reasoned t cs (c .called cs))) (becomes (imaged k t) (reasoned (imaged k t) cs x))) (sym (alike .called cs))
           (reasoned-agree cs (c .called cs) (called-legally cs (c .called cs) refl))
+      step-agree (detours ss b) = rw (detouring-as ss b) (stays-agree t [] (detouring c t ss b))
 
     -- ---- every list of calls
 

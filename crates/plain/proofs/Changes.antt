@@ -1,6 +1,6 @@
 -- What a call may leave, case by case; what it changes, and that a refused one changes nothing.
 use mathlib.Core.Path.{_≡_, refl, sym, subst}
-use mathlib.Core.Bool.{Bool, true, false}
+use mathlib.Core.Bool.{Bool, true, false, _&&_}
 use mathlib.Core.List.{List, [], _∷_, _++_, map}
 use mathlib.Core.Logic.{_⊎_, inl, inr}
 use Prim.Native.Nat.{ℕ, suc, _-_, _≤_, _<_}
@@ -13,8 +13,9 @@ use Rattle.basis.proofs.Cases.{by-cases}
 use Rattle.plain.specs.Words.{Word, has}
 use Rattle.plain.specs.Coding.{Coding, Reading, refused, accepted}
 use Rattle.plain.specs.CodingLaws.{CodingLaws}
-use Rattle.plain.specs.Requests.{State, Open, Finished, Request, call, answer, finish, next, load, instance, counts, join, why, new, oldSubgoal, oldAnswer, cells, joined, refused, short, lacksNext, Result, lent}
-use Rattle.plain.specs.Table.{Table, subgoalAt, answerAt, subgoalOfAnswer, calledForms, answersTo, nodes, subgoalOf, answerOf, following, withSubgoal, withAnswer, withFinished, withEntry, stays, becomes, known, fits, appended, called, answered, whileOpen, starting, onward, writes, entered, sideOf, joining, reasoned, step}
+use Rattle.plain.specs.Requests.{State, Open, Finished, Request, call, answer, finish, next, load, instance, counts, join, why, detours, new, oldSubgoal, oldAnswer, cells, joined, refused, short, lacksNext, Result, lent}
+use Rattle.plain.specs.Table.{Table, subgoalAt, answerAt, subgoalOfAnswer, calledForms, answersTo, nodes, subgoalOf, answerOf, following, withSubgoal, withAnswer, withFinished, withEntry, stays, becomes, known, fits, appended, called, answered, whileOpen, starting, onward, writes, entered, sideOf, joining, reasoned, goalOf, detouring, step}
+use Rattle.plain.specs.Detours.{anyOpen, fewGoals, goalsFit, detoursOf, allWithin}
 use Rattle.plain.specs.Joins.{Forms, declined, formed, Side, combined, before, allRead, isOpen, ground, named, joinOf}
 use Rattle.plain.specs.Consequences.{RefusedBy, Known, Refusing, RefusingBy}
 use Rattle.plain.proofs.NumberLaws.{Called, subgoalOf-none, subgoalOf-some, Given, answerOf-none, answerOf-some}
@@ -224,6 +225,7 @@ module _ (c : Coding) (t : Table) where
       (unfold joining in stayed) (unfold joining in stayed) (unfold joining in stayed) (unfold joining in stayed)
       (λ is-open. joining-changed s low high is-open _ (all-read c (subgoalAt t s .m) _)))))
   step-changed (why cs) = stayed
+  step-changed (detours gs b) = stayed
 
 -- ---- refusals
 
@@ -231,7 +233,7 @@ module _ (c : Coding) (t : Table) where
 module _ (c : Coding) (t : Table) (Q : ℕ → Type 0)
     (called-by : (cs : List ℕ) (r : ℕ) → c .called cs ≡ refused r → Q r)
     (answered-by : (m : ℕ) (cs : List ℕ) (r : ℕ) → c .answered m cs ≡ refused r → Q r)
-    (seven : Q 7) (eight : Q 8) (ten : Q 10) (eleven : Q 11) (twelve : Q 12) (fourteen : Q 14) (fifteen : Q 15) (sixteen : Q 16) where
+    (seven : Q 7) (eight : Q 8) (ten : Q 10) (eleven : Q 11) (twelve : Q 12) (fourteen : Q 14) (fifteen : Q 15) (sixteen : Q 16) (twenty-two : Q 22) where
   abbrev Keeps : List ℕ → Result Table → Type 0
   Keeps out x = (r : ℕ) → RefusedBy r (x .reply) → (x .state ≡ t) × (x .out ≡ out) × Q r
 
@@ -273,6 +275,16 @@ module _ (c : Coding) (t : Table) (Q : ℕ → Type 0)
   reasoned-keeps cs (refused n) f = keeps [] n (f n refl)
   reasoned-keeps cs (accepted w m) f = λ r h. absurd h
 
+  detours-keeps : (gs : List ℕ) (b : ℕ) → Keeps [] (becomes t (detouring c t gs b))
+  unfolding detouring detoursOf
+  detours-keeps gs b = by-cases (allWithin (length (t .subgoals)) gs)
+      (λ e. by-cases (anyOpen (map (goalOf t) gs))
+      (λ f. rw (e, f) (keeps [] 14 fourteen))
+      (λ f. by-cases (fewGoals (map (goalOf t) gs) && goalsFit c (map (goalOf t) gs))
+      (λ g. rw (e, f, g) (λ r h. absurd h))
+      (λ g. rw (e, f, g) (keeps [] 22 twenty-two))))
+      (λ e. rw e (keeps [] 7 seven))
+
   pub step-keeps : (q : Request) → Keeps (lent q) (step c t q)
   unfolding step lent
   step-keeps (call cs) = called-keeps (c .called cs) (called-by cs)
@@ -294,9 +306,10 @@ module _ (c : Coding) (t : Table) (Q : ℕ → Type 0)
       (unfold joining in keeps [] 8 eight) (unfold joining in keeps [] 14 fourteen) (unfold joining in keeps [] 15 fifteen) (unfold joining in keeps [] 16 sixteen)
       (λ is-open. joining-keeps s (subgoalAt t s .m) _ (all-read c (subgoalAt t s .m) _)))))
   step-keeps (why cs) = reasoned-keeps cs (c .called cs) (called-by cs)
+  step-keeps (detours gs b) = detours-keeps gs b
 
 pub refusing : (c : Coding) → Refusing c
-refusing c t q r h = let k = step-keeps c t (λ n. Unit {0}) (λ cs n e. tt) (λ m cs n e. tt) tt tt tt tt tt tt tt tt q r h in (k .0, k .1)
+refusing c t q r h = let k = step-keeps c t (λ n. Unit {0}) (λ cs n e. tt) (λ m cs n e. tt) tt tt tt tt tt tt tt tt tt q r h in (k .0, k .1)
 
 pub refusing-by : (c : Coding) → CodingLaws c → RefusingBy c
 refusing-by c laws t q r h =
@@ -304,4 +317,4 @@ refusing-by c laws t q r h =
     step-keeps c t Known (λ cs n e. low 6 (omega arith) n (laws .called-refused cs n e)) (λ m cs n e. low 5 (omega arith) n (laws .answered-refused m cs n e))
     (inl (omega arith, omega arith)) (inl (omega arith, omega arith))
     (inr (inl (omega arith, omega arith))) (inr (inl (omega arith, omega arith))) (inr (inl (omega arith, omega arith)))
-    (inr (inr (omega arith, omega arith))) (inr (inr (omega arith, omega arith))) (inr (inr (omega arith, omega arith))) q r h .2
+    (inr (inr (inl (omega arith, omega arith)))) (inr (inr (inl (omega arith, omega arith)))) (inr (inr (inl (omega arith, omega arith)))) (inr (inr (inr refl))) q r h .2

@@ -18,9 +18,11 @@ pub mod Growth
 pub mod Soundness
 pub mod StoredForms
 pub mod ReasonLaws
+pub mod DetourLaws
 pub mod JoinRefusals
 pub mod NextLaws
 pub mod Endings
+pub mod DetourOrder
 pub mod Renumbering
 pub mod Exchanges
 pub mod OrderRuledOut

@@ -13,13 +13,15 @@ use Rattle.plain.specs.Words.{Word, has}
 use Rattle.plain.specs.Coding.{Coding, Reading, refused, accepted}
 use Rattle.plain.specs.Joins.{Forms, declined, formed, joinOf}
 use Rattle.plain.specs.Requests.{State, Open, Finished, Request, call, answer, finish, next, load, instance}
-use Rattle.plain.specs.Requests.{counts, join, why, Reply, used, joined, refused, Result}
+use Rattle.plain.specs.Requests.{counts, join, why, detours, Reply, used, joined, refused, Result}
 use Rattle.plain.specs.Table.{Table, Answer, subgoalAt, answersTo, answerNodes, nodes, calledForms, counted}
 use Rattle.plain.specs.Table.{subgoalOf, answerOf, withSubgoal, withAnswer, withFinished, settled, withEntry, stays, becomes, known}
-use Rattle.plain.specs.Table.{fits, appended, called, answered, whileOpen, given, entered, sideOf, joining, sharing, newness, reasoned, step}
+use Rattle.plain.specs.Table.{fits, appended, called, answered, whileOpen, given, entered, sideOf, joining, sharing, newness, reasoned, detouring, step}
 use Rattle.plain.specs.Order.{Renumbered, unnumbered, compared}
 use Rattle.plain.proofs.NumberLaws.{answerOf-none, answerOf-some}
 use Rattle.plain.proofs.Changes.{known-cases, writes-cases}
+use Rattle.plain.proofs.DetourOrder.{detours-alike}
+use Rattle.plain.specs.Detours.{allWithin}
 
 -- ---- the table with other answers
 
@@ -206,6 +208,12 @@ module _ (t : Table) (l : List Answer) (many : length (t .answers) ≡ length l)
   reasoned-parallel cs (refused r) = stays-parallel t l many each (λ r. r) [] (refused r)
   reasoned-parallel cs (accepted w m) = record { replies = refl; states = renumbered-other t l many each }
 
+  detours-parallel : (c : Coding) (gs : List ℕ) (b : ℕ) → Parallel unnumbered (becomes t (detouring c t gs b)) (becomes (withAnswers t l) (detouring c (withAnswers t l) gs b))
+  unfolding detouring
+  detours-parallel c gs b = by-cases (allWithin (length (t .subgoals)) gs)
+      (λ e. rw e (record { replies = detours-alike t (withAnswers t l) refl each c gs b; states = renumbered-other t l many each }))
+      (λ e. rw e (stays-parallel t l many each unnumbered [] (refused 7)))
+
   joining-parallel : (s : ℕ) (ws : Forms) → Parallel (λ r. r) (joining t s ws) (joining (withAnswers t l) s ws)
   unfolding joining
   joining-parallel s (declined r) = stays-parallel t l many each (λ r. r) [] (refused r)
@@ -268,6 +276,7 @@ module _ (c : Coding) (t : Table) (l : List Answer) (many : length (t .answers) 
       (known-parallel t l many each (λ x. x) [] (length (t .subgoals)) g _ _
       (known-parallel t l many each (λ x. x) [] (length (t .subgoals)) s _ _ (join-parallel t l many each c f g ps s cs)))
   step-with (why cs) = reasoned-parallel t l many each cs (c .called cs)
+  step-with (detours gs b) = detours-parallel t l many each c gs b
 
 -- every call keeps tables that differ in answer numbers alone so, and replies alike
 pub step-parallel : (c : Coding) (t u : Table) → Renumbered t u → (q : Request)

@@ -10,7 +10,8 @@ use Rattle.forms.specs.Numbering.{met}
 use Rattle.plain.specs.Words.{Word}
 use Rattle.plain.specs.Coding.{Coding, Reading, refused, accepted}
 use Rattle.plain.specs.Requests.{Request, Counts, Reply, new, oldSubgoal, oldAnswer, done, at, noneYet, noMore}
-use Rattle.plain.specs.Requests.{cells, used, joined, Reason, oldAs, newPast, because, refused, short, Seen}
+use Rattle.plain.specs.Requests.{cells, used, joined, Reason, oldAs, newPast, because, detoured, refused, short}
+use Rattle.plain.specs.Requests.{Seen}
 use Rattle.plain.specs.Table.{fresh, tableTrace}
 
 -- ---- what is compared
@@ -36,6 +37,7 @@ replyApart (cells n) = cells n
 replyApart (used n) = used (nodesApart n)
 replyApart (joined n) = joined n
 replyApart (because y) = because (reasonApart y)
+replyApart (detoured y) = detoured y
 replyApart (refused n) = refused n
 replyApart (short n) = short n
 
@@ -56,6 +58,7 @@ isTen (cells n) = false
 isTen (used n) = false
 isTen (joined n) = false
 isTen (because y) = false
+isTen (detoured y) = false
 isTen (refused n) = eqb n 10
 isTen (short n) = false
 

@@ -11,7 +11,7 @@ use Rattle.plain.specs.Words.{Word, distinct, most, brings, newcomers}
 use Rattle.plain.specs.Coding.{Coding}
 use Rattle.plain.specs.Requests.{Finished, Request, call, answer, finish, next, load, instance, join}
 use Rattle.plain.specs.Requests.{Reply, new, oldSubgoal, oldAnswer, done, at, noneYet, noMore, cells, used}
-use Rattle.plain.specs.Requests.{joined, because, refused, short, lacksNext, lent, left}
+use Rattle.plain.specs.Requests.{joined, because, detoured, refused, short, lacksNext, lent, left}
 use Rattle.plain.specs.Joins.{combined}
 use Rattle.plain.specs.Table.{Table, Answer, fresh, subgoalAt, answerAt, subgoalOfAnswer, answersTo, nodes}
 use Rattle.plain.specs.Table.{writes, entered, step}
@@ -43,6 +43,7 @@ Gives i (cells n) = ⊥
 Gives i (used n) = ⊥
 Gives i (joined n) = ⊥
 Gives i (because y) = ⊥
+Gives i (detoured y) = ⊥
 Gives i (refused n) = ⊥
 Gives i (short n) = ⊥
 
@@ -59,6 +60,7 @@ RefusedBy r (cells n) = ⊥
 RefusedBy r (used n) = ⊥
 RefusedBy r (joined n) = ⊥
 RefusedBy r (because y) = ⊥
+RefusedBy r (detoured y) = ⊥
 RefusedBy r (refused n) = n ≡ r
 RefusedBy r (short n) = 12 ≡ r
 
@@ -68,7 +70,7 @@ OldOrRefused r = ((i : ℕ) × (r ≡ oldAnswer i)) ⊎ ((k : ℕ) × (r ≡ ref
 
 -- the numbers of the refusals that the plain table knows
 abbrev pub Known : ℕ → Type 0
-Known r = ((3 ≤ r) × (r ≤ 8)) ⊎ (((10 ≤ r) × (r ≤ 12)) ⊎ ((14 ≤ r) × (r ≤ 16)))
+Known r = ((3 ≤ r) × (r ≤ 8)) ⊎ (((10 ≤ r) × (r ≤ 12)) ⊎ (((14 ≤ r) × (r ≤ 16)) ⊎ (r ≡ 22)))
 
 -- and those that a join knows
 abbrev pub JoinKnown : ℕ → Type 0
@@ -112,7 +114,7 @@ module _ (c : Coding) where
   Refusing = (t : Table) (q : Request) (r : ℕ) → RefusedBy r (step c t q .reply)
       → (step c t q .state ≡ t) × (step c t q .out ≡ lent q)
 
-  -- calls are refused by 3 to 8, 10 to 12 and 14 to 16, never by 1, 2 or 9
+  -- calls are refused by 3 to 8, 10 to 12, 14 to 16 and 22, never by 1, 2 or 9
   abbrev pub RefusingBy : Type 0
   RefusingBy = (t : Table) (q : Request) (r : ℕ) → RefusedBy r (step c t q .reply) → Known r
 

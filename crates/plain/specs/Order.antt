@@ -12,8 +12,9 @@ use lib.ListN.{length}
 use Rattle.basis.specs.Choice.{pick}
 use Rattle.plain.specs.Coding.{Coding}
 use Rattle.plain.specs.Requests.{State, Request, call, answer, finish, next, load, instance, counts, join, why}
-use Rattle.plain.specs.Requests.{Counts, Reply, new, oldSubgoal, oldAnswer, done, at, noneYet, noMore, cells}
-use Rattle.plain.specs.Requests.{used, joined, because, refused, short, lacksNext, Result, Seen, trace, left}
+use Rattle.plain.specs.Requests.{detours, Counts, Reply, new, oldSubgoal, oldAnswer, done, at, noneYet, noMore}
+use Rattle.plain.specs.Requests.{cells, used, joined, because, Best, noneFound, found, detoured, refused, short}
+use Rattle.plain.specs.Requests.{lacksNext, Result, Seen, trace, left}
 use Rattle.plain.specs.Table.{Table, fresh, answersTo, counted, step}
 use Rattle.plain.specs.Consequences.{Gives, reached}
 
@@ -44,6 +45,11 @@ module _ {S : Type 0} (step : S → Request → Result S) where
 
 -- ---- what is compared of replies
 
+-- what was found without the answers' numbers
+abbrev pub unnumberedBest : Best → Best
+unnumberedBest noneFound = noneFound
+unnumberedBest (found total ns) = found total []
+
 -- the reply without its number
 unfoldable pub unnumbered : Reply → Reply
 unnumbered (new n) = new 0
@@ -57,12 +63,13 @@ unnumbered (cells n) = cells 0
 unnumbered (used n) = used n
 unnumbered (joined n) = joined n
 unnumbered (because y) = because y
+unnumbered (detoured d) = detoured (record { best = unnumberedBest (d .best); tried = d .tried; ended = d .ended })
 unnumbered (refused n) = refused n
 unnumbered (short n) = short 0
 
--- Of an answer's reply all but its number. Of call, finish, join, counts and why the whole reply: a subgoal's number
--- and state, how many answers of a join are new, every reason and every refusal. Nothing of the calls that are given an
--- answer number.
+-- Of an answer's reply all but its number, and of detours' all but its answers' numbers. Of call, finish, join, counts
+-- and why the whole reply: a subgoal's number and state, how many answers of a join are new, every reason and every
+-- refusal. Nothing of the calls that are given an answer number.
 unfoldable pub compared : Request → Reply → Reply
 compared (call cs) r = r
 compared (answer s cs) r = unnumbered r
@@ -73,6 +80,7 @@ compared (instance a out) r = done
 compared counts r = r
 compared (join f g ps s cs) r = r
 compared (why cs) r = r
+compared (detours gs b) r = unnumbered r
 
 -- false for an answer to another subgoal than i, true for every other call
 unfoldable pub concerns : ℕ → Request → Bool
@@ -85,6 +93,7 @@ concerns i (instance a out) = true
 concerns i counts = true
 concerns i (join f g ps x cs) = true
 concerns i (why cs) = true
+concerns i (detours gs b) = true
 
 -- a call and what is compared of its reply
 pub record Heard : Type 0 where

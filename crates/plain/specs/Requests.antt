@@ -1,4 +1,5 @@
 -- The calls with all that is lent to them, what they answer, and what is compared after each call of a list.
+use mathlib.Core.Bool.{Bool}
 use mathlib.Core.List.{List, [], _∷_}
 use Prim.Native.Nat.{ℕ}
 
@@ -18,6 +19,7 @@ pub data Request : Type 0 where
   counts : Request
   join : (first second : ℕ) (pairs : List ℕ) (target : ℕ) (copies : List ℕ) → Request
   why : (term : List ℕ) → Request
+  detours : (goals : List ℕ) (budget : ℕ) → Request
 
 -- nodes, subgoals and answers used
 pub record Counts : Type 0 where
@@ -32,8 +34,19 @@ pub data Reason : Type 0 where
   oldAs : (subgoal : ℕ) (variables : List ℕ) → Reason
   newPast : (shared subgoal : ℕ) → Reason
 
+-- What a search for detours found: nothing, or the first least total that it met, with the numbers of its answers in
+-- the order of the goals. And how many choices were tried, and whether the search ended: no choice was left to try.
+pub data Best : Type 0 where
+  noneFound : Best
+  found : (total : ℕ) (answers : List ℕ) → Best
+
+pub record Detour : Type 0 where
+  pub best : Best
+  pub tried : ℕ
+  pub ended : Bool
+
 -- What a call answers: numbers of subgoals or answers, the cells written, the counts, how many answers of a join are
--- new, the reason of why, a refusal's number; for refusal 12 (short) the cells that out would need.
+-- new, the reason of why, what detours found, a refusal's number; for refusal 12 (short) the cells that out would need.
 pub data Reply : Type 0 where
   new : ℕ → Reply
   oldSubgoal : ℕ → State → Reply
@@ -46,6 +59,7 @@ pub data Reply : Type 0 where
   used : Counts → Reply
   joined : ℕ → Reply
   because : Reason → Reply
+  detoured : Detour → Reply
   refused : ℕ → Reply
   short : ℕ → Reply
 
@@ -71,6 +85,7 @@ lent (instance a out) = out
 lent counts = []
 lent (join f g ps s cs) = []
 lent (why cs) = []
+lent (detours gs b) = []
 
 -- what is compared after a call: its answer, the three counts, every cell of out
 pub record Seen : Type 0 where

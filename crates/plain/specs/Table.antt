@@ -10,10 +10,11 @@ use Rattle.forms.specs.Compact.{same}
 use Rattle.plain.specs.Words.{Word, trieNodes, common, most}
 use Rattle.plain.specs.Coding.{Coding, Reading, refused, accepted, codingOf}
 use Rattle.plain.specs.Joins.{Forms, declined, formed, Side, joinOf}
+use Rattle.plain.specs.Detours.{Live, Goal, detoursOf, allWithin}
 use Rattle.plain.specs.Requests.{State, Open, Finished, Request, call, answer, finish, next, load, instance}
-use Rattle.plain.specs.Requests.{counts, join, why, Counts, Reason, oldAs, newPast, Reply, new, oldSubgoal}
-use Rattle.plain.specs.Requests.{oldAnswer, done, at, cells, used, joined, because, refused, short, lacksNext}
-use Rattle.plain.specs.Requests.{Result, Seen, trace}
+use Rattle.plain.specs.Requests.{counts, join, why, detours, Counts, Reason, oldAs, newPast, Reply, new}
+use Rattle.plain.specs.Requests.{oldSubgoal, oldAnswer, done, at, cells, used, joined, because, refused, short}
+use Rattle.plain.specs.Requests.{lacksNext, Result, Seen, trace}
 
 -- ---- state
 
@@ -243,6 +244,23 @@ unfoldable pub reasoned : Table → List ℕ → Reading → Reply
 reasoned t cs (refused r) = refused r
 reasoned t cs (accepted w m) = let n = subgoalOf t w in because (pick (eqb n 0) (newness t w) (oldAs n (met [] cs)))
 
+-- ---- detours
+
+-- the answers to subgoal s, in table order, each with its number, the first of the list having number n
+unfoldable pub liveAnswers : ℕ → ℕ → List Answer → List Live
+liveAnswers s n [] = []
+liveAnswers s n (a ∷ l) =
+    let r = liveAnswers s (suc n) l in pick (eqb (a .subgoal) s) (record { number = n; form = a .form } ∷ r) r
+
+-- a subgoal as a goal
+unfoldable pub goalOf : Table → ℕ → Goal
+goalOf t s = record { state = subgoalAt t s .state; m = subgoalAt t s .m; answers = liveAnswers s 1 (t .answers) }
+
+-- 7 for any of the goals, however many they are; then 14 and 22
+unfoldable pub detouring : Coding → Table → List ℕ → ℕ → Reply
+detouring c t gs budget =
+    pick (allWithin (length (t .subgoals)) gs) (detoursOf c (map (goalOf t) gs) budget) (refused 7)
+
 -- what each call leaves; 7 is checked before the cells are read, a join's 8 too
 unfoldable pub step : Coding → Table → Request → Result Table
 step c t (call cs) = called t (c .called cs)
@@ -261,6 +279,7 @@ step c t (join f g ps s cs) =
     (known t [] (length (t .subgoals)) s
     (joining t s (joinOf c (sideOf t f) (sideOf t g) ps (subgoalAt t s .state) (subgoalAt t s .m) cs))))
 step c t (why cs) = becomes t (reasoned t cs (c .called cs))
+step c t (detours gs budget) = becomes t (detouring c t gs budget)
 
 -- what is seen of a list of calls
 abbrev pub tableTrace : Coding → Table → List Request → List Seen

@@ -4,7 +4,7 @@ use mathlib.Core.List.{List, _∷_, _++_}
 use lib.ListN.{take}
 use Rattle.plain.specs.Requests.{State, Open, Finished}
 use Rattle.plain.specs.Requests.{Reply, new, oldSubgoal, oldAnswer, done, at, noneYet, noMore, cells, used, joined}
-use Rattle.plain.specs.Requests.{Reason, oldAs, newPast, because, refused, short}
+use Rattle.plain.specs.Requests.{Reason, oldAs, newPast, because, detoured, refused, short}
 use Rattle.text.specs.Letters.{letters}
 use Rattle.text.specs.Fields.{space, cellDigits}
 use Rattle.text.specs.Digits.{cellTexts, wordAndNumber, Puts}
@@ -45,6 +45,9 @@ textRefused = letters "refused"
 abbrev pub textJoined : List ℕ
 textJoined = letters "joined"
 
+abbrev pub textTried : List ℕ
+textTried = letters "tried"
+
 abbrev pub textBad : List ℕ
 textBad = letters "bad"
 
@@ -65,7 +68,7 @@ abbrev pub refusedShort : ℕ
 refusedShort = 12
 
 -- the cells printed are those written to out; an out that is too short has its need not printed; no line asks for a
--- join
+-- join or for detours
 unfoldable pub replyText : Reply → List ℕ → List ℕ
 replyText (new n) out = wordAndNumber textNew n
 replyText (oldSubgoal n s) out = wordAndNumber textOld n ++ (space ∷ stateText s)
@@ -78,6 +81,7 @@ replyText (cells n) out = textCells ++ cellTexts (take n out)
 replyText (used y) out = countsText (y .nodes) (y .subgoals) (y .answers)
 replyText (joined n) out = wordAndNumber textJoined n
 replyText (because y) out = reasonText y
+replyText (detoured d) out = wordAndNumber textTried (d .tried)
 replyText (refused r) out = wordAndNumber textRefused r
 replyText (short n) out = wordAndNumber textRefused refusedShort
 

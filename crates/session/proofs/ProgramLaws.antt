@@ -12,7 +12,7 @@ use Rattle.basis.specs.Choice.{pick}
 use Rattle.basis.specs.Editions.{knownEdition}
 use Rattle.basis.proofs.Cases.{by-cases}
 use Rattle.forms.specs.Compact.{same}
-use Rattle.plain.specs.Requests.{Request, call, answer, finish, next, load, instance, counts, join, why, lent}
+use Rattle.plain.specs.Requests.{Request, call, answer, finish, next, load, instance, counts, join, why, detours, lent}
 use Rattle.space.specs.Layout.{sizesOf, subgoalWidth, answerWidth}
 use Rattle.space.specs.Heading.{inRange}
 use Rattle.space.specs.Fresh.{freshFits, freshAnswer, freshAnswerIn}
@@ -78,6 +78,7 @@ left-alike (instance a o′) out o p e = e
 left-alike counts out o p e = refl
 left-alike (join f g ps s ks) out o p e = refl
 left-alike (why ks) out o p e = refl
+left-alike (detours gs b) out o p e = refl
 
 said-out : (m : Meaning) (space out : List ℕ) → Lends out m → length (saidOf spaceStep m space out .out) ≡ length out
 unfolding saidOf

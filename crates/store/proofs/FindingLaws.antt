@@ -12,7 +12,7 @@ use Rattle.plain.specs.Words.{Word}
 use Rattle.plain.specs.Coding as coding
 use Rattle.plain.specs.Coding.{Coding, codingOf, Reading}
 use Rattle.plain.specs.Joins.{Forms, declined, formed, joinOf}
-use Rattle.plain.specs.Requests.{Request, Reply, Result, call, answer, finish, next, load, instance, counts, join, why}
+use Rattle.plain.specs.Requests.{Request, Reply, Result, call, answer, finish, next, load, instance, counts, join, why, detours}
 use Rattle.space.specs.Layout.{Sizes, sizesOf}
 use Rattle.space.specs.Heading.{headerOf, spaceHeader}
 use Rattle.space.specs.declared.Head.{Head}
@@ -94,6 +94,7 @@ module _ (c : Coding) (find : Finding) (v : View) (call-walks : (w : Word) → w
       ap (sound (soundSubgoal v i && soundSubgoal v j && soundTarget v s)) (chains-alike (chainOf c v i) (chainOf c v j) _ _ (λ us vs.
       joining-alike s low high (joinOf c (sideIn v i us) (sideIn v j vs) ps (stateOf (v .subgoal s .state)) (v .subgoal s .variables) ks))))))
   decide-alike (why ks) = reasoned-alike ks (c .called ks)
+  decide-alike (detours ss b) = refl
 
 -- ---- where every walk is that by the chains
 

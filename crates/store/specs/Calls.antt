@@ -1,4 +1,4 @@
--- The nine calls on the cells of a space, sound or damaged: refusal 1, then the decision, then the change. The way of
+-- The ten calls on the cells of a space, sound or damaged: refusal 1, then the decision, then the change. The way of
 -- finding a child is a parameter; by the sibling chains they are the calls without an index.
 use Prim.Native.Nat.{ℕ, _+_, _-_}
 use mathlib.Core.List.{List, _++_}

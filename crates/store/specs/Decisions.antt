@@ -1,5 +1,5 @@
--- What a call comes to, before anything is written: refusals 3 to 11 and 14 to 16 in their order, each record judged
--- where it is read. Call, answer, join and why search a trie: what they come to is defined once, with the way of
+-- What a call comes to, before anything is written: refusals 3 to 11, 14 to 16 and 22 in their order, each record
+-- judged where it is read. Call, answer, join and why search a trie: what they come to is defined once, with the way of
 -- finding a child as a parameter.
 use Prim.Native.Nat.{ℕ, zero, suc, _+_, _-_, min}
 use mathlib.Core.Bool.{Bool, true, false, _&&_}
@@ -12,8 +12,9 @@ use Rattle.plain.specs.Words.{Word, has, most}
 use Rattle.plain.specs.Coding.{Coding, Reading, refused, accepted}
 use Rattle.plain.specs.Requests.{State, Open, Finished, Request, call, answer, finish, next, load, instance, counts}
 use Rattle.plain.specs.Requests.{Reply, oldSubgoal, oldAnswer, at, used, refused}
-use Rattle.plain.specs.Requests.{lacksNext, join, why, oldAs, newPast, because}
+use Rattle.plain.specs.Requests.{lacksNext, join, why, detours, oldAs, newPast, because}
 use Rattle.plain.specs.Joins.{Forms, declined, formed, Side, joinOf}
+use Rattle.plain.specs.Detours.{Live, Goal, detoursOf, allWithin}
 use Rattle.space.specs.Judging.{subgoalSound, answerSound}
 use Rattle.trie.specs.Siblings as siblings
 use Rattle.trie.specs.Siblings.{searchChildren}
@@ -292,7 +293,55 @@ unfoldable pub reasonedBy : Finding → View → List ℕ → Reading → Decisi
 reasonedBy find v cs (refused r) = refuses r
 reasonedBy find v cs (accepted w m) = reasonedAt v (met [] cs) w (walkBy find (subgoalTrie v) 0 w)
 
--- ---- the nine calls
+-- ---- detours
+
+-- the answers of a subgoal with their numbers; or severed, where a damaged record was met
+pub data Lives : Type 0 where
+  severed : Lives
+  lives : List Live → Lives
+
+-- answer a, by its path, before those that follow it
+unfoldable pub livesBehind : (Word → Bool) → ℕ → Path → Lives → Lives
+livesBehind test a none later = severed
+livesBehind test a (tokens w) severed = severed
+livesBehind test a (tokens w) (lives ls) = pick (test w) (lives (record { number = a; form = w } ∷ ls)) severed
+
+-- from answer a on, judged as a join's sources are
+unfoldable pub livesFrom : Coding → View → ℕ → ℕ → ℕ → Lives
+livesFrom c v s zero a = pick (eqb a 0) (lives []) severed
+livesFrom c v s (suc steps) a =
+    let g = v .subgoal s in
+    let later = livesFrom c v s steps (v .answer a .next) in
+    pick (eqb a 0) (lives [])
+    (pick (soundAnswerOf v s a)
+    (livesBehind (λ w. c .legal (g .variables) w) a
+    (gather longest (answerTrie v) (g .root) (v .answer a .leaf)) later) severed)
+
+abbrev pub livesOf : Coding → View → ℕ → Lives
+livesOf c v s = livesFrom c v s (v .answers) (v .subgoal s .first)
+
+-- subgoals as goals; or unsound, where a damaged record was met
+pub data Goals : Type 0 where
+  unsound : Goals
+  goals : List Goal → Goals
+
+unfoldable pub goalBefore : View → ℕ → Lives → Goals → Goals
+goalBefore v s severed later = unsound
+goalBefore v s (lives ls) unsound = unsound
+goalBefore v s (lives ls) (goals gs) =
+    goals (record { state = stateOf (v .subgoal s .state); m = v .subgoal s .variables; answers = ls } ∷ gs)
+
+unfoldable pub goalsIn : Coding → View → List ℕ → Goals
+goalsIn c v [] = goals []
+goalsIn c v (s ∷ ss) =
+    let later = goalsIn c v ss in pick (soundSubgoal v s) (goalBefore v s (livesOf c v s) later) unsound
+
+-- the rule, where all goals are read
+unfoldable pub detoursIn : Coding → Goals → ℕ → Decision
+detoursIn c unsound budget = refuses 9
+detoursIn c (goals gs) budget = says (detoursOf c gs budget)
+
+-- ---- the ten calls
 
 unfoldable pub decideBy : Finding → Coding → View → Request → Decision
 decideBy find c v (call cs) = calledBy find v (c .called cs)
@@ -314,6 +363,8 @@ decideBy find c v (join f g ps s cs) =
     joiningBy find v s
     (joinOf c (sideIn v f us) (sideIn v g vs) ps (stateOf (v .subgoal s .state)) (v .subgoal s .variables) cs))))))
 decideBy find c v (why cs) = reasonedBy find v cs (c .called cs)
+decideBy find c v (detours ss budget) =
+    pick (allWithin (v .subgoals) ss) (detoursIn c (goalsIn c v ss) budget) (refuses 7)
 
 -- ---- by the sibling chains
 

@@ -9,3 +9,4 @@ pub mod Examples
 pub mod JoinExamples
 pub mod BuildExamples
 pub mod WhyExamples
+pub mod DetourExamples

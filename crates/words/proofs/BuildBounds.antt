@@ -1,4 +1,4 @@
--- Every answer of the build is one that a result word holds: no refusal above 17, and no more children than nodes.
+-- Every answer of the build is one that a result word holds: no refusal above 22, and no more children than nodes.
 use Prim.Native.Nat.{ℕ, _≤_}
 use mathlib.Core.Bool.{Bool, true, false}
 use mathlib.Core.List.{List}

@@ -1,4 +1,4 @@
--- Every answer of the calls and of fresh is one that a result word holds: no refusal above 16, and at most 256 * 257 cells.
+-- Every answer of the calls and of fresh is one that a result word holds: no refusal above 22, and at most 256 * 257 cells.
 use Prim.Native.Nat.{ℕ, zero, suc, _+_, _*_, _-_, _^_, _≤_, _<_}
 use mathlib.Core.Bool.{Bool, true, false, _&&_}
 use mathlib.Core.List.{List, [], _∷_, map}
@@ -20,8 +20,9 @@ use Rattle.forms.specs.declared.Reading.the-variants.{Form, Refusal}
 use Rattle.forms.proofs.StoredLaws.{stored-of}
 use Rattle.forms.specs.Stored.{storedOf}
 use Rattle.plain.specs.Coding.{Reading, refused, accepted, handedOn, judged, predicate, taken, substituted, codingOf}
-use Rattle.plain.specs.Requests.{State, Open, Finished, Request, call, answer, finish, next, load, instance, counts, join, why, lent, Reply, oldSubgoal, oldAnswer, at, lacksNext, refused}
+use Rattle.plain.specs.Requests.{State, Open, Finished, Request, call, answer, finish, next, load, instance, counts, join, why, detours, lent, Reply, oldSubgoal, oldAnswer, at, lacksNext, refused}
 use Rattle.plain.specs.Words.{Word}
+use Rattle.plain.specs.Detours.{anyOpen, fewGoals, goalsFit, detoursOf, allWithin}
 use Rattle.plain.specs.Joins.{Forms, declined, formed, joinOf}
 use Rattle.plain.proofs.Changes.{Read, all-read, join-cases}
 use Rattle.plain.proofs.StoredCoding.{coding-laws}
@@ -38,7 +39,7 @@ use Rattle.trie.specs.Walks.{Walk, whole, stopped, damaged, rootSound, Finding,
 use Rattle.trie.specs.Paths.{Path, tokens, gather, longest}
 use Rattle.trie.specs.Paths as path
 use Rattle.store.specs.Views.{View, viewOf, subgoalTrie, answerTrie}
-use Rattle.store.specs.Decisions.{Decision, says, gives, entersSubgoal, entersAnswer, entersEmpty, finishes, entersAnswers, refuses, soundSubgoal, soundAnswer, soundAnswerOf, sound, known, stateOf, soundLast, whileOpen, calledOld, calledNew, calledAt, calledBy, answeredNew, answeredOld, answeredAt, answeredBy, starting, handed, onward, onPath, loaded, instanced, soundPair, Chain, broken, unbroken, chainOf, onChains, sideIn, allSoundBy, nodesNeededBy, answersNeededBy, joiningBy, Way, astray, leads, firstsFrom, namedBy, newAt, reasonedAt, reasonedBy, soundTarget, decideBy}
+use Rattle.store.specs.Decisions.{Decision, says, gives, entersSubgoal, entersAnswer, entersEmpty, finishes, entersAnswers, refuses, soundSubgoal, soundAnswer, soundAnswerOf, sound, known, stateOf, soundLast, whileOpen, calledOld, calledNew, calledAt, calledBy, answeredNew, answeredOld, answeredAt, answeredBy, starting, handed, onward, onPath, loaded, instanced, soundPair, Chain, broken, unbroken, chainOf, onChains, sideIn, allSoundBy, nodesNeededBy, answersNeededBy, joiningBy, Way, astray, leads, firstsFrom, namedBy, newAt, reasonedAt, reasonedBy, Goals, unsound, goals, goalsIn, detoursIn, soundTarget, decideBy}
 use Rattle.store.specs.Calls.{reply, underBy, underAnyBy, spaceStepBy}
 use Rattle.words.specs.Words.{saidFresh}
 use Rattle.words.specs.Bounded.{Bounded}
@@ -83,12 +84,12 @@ Small (finishes s) = Unit {0}
 Small (entersAnswers s ws) = Unit {0}
 
 -- a test and its refusal
-small-pick : (b : Bool) (d : Decision) (r : ℕ) → r ≤ 16 → (b ≡ true → Small d) → Small (pick b d (refuses r))
+small-pick : (b : Bool) (d : Decision) (r : ℕ) → r ≤ 22 → (b ≡ true → Small d) → Small (pick b d (refuses r))
 small-pick true d r h f = f refl
 small-pick false d r h f = h
 
 -- two tests, each with its refusal
-small-tests : (a b : Bool) (d : Decision) (i j : ℕ) → i ≤ 16 → j ≤ 16 → Small d → Small (pick a (pick b d (refuses i)) (refuses j))
+small-tests : (a b : Bool) (d : Decision) (i j : ℕ) → i ≤ 22 → j ≤ 22 → Small d → Small (pick a (pick b d (refuses i)) (refuses j))
 small-tests true b d i j h k f = small-pick b d i h (λ q. f)
 small-tests false b d i j h k f = k
 
@@ -184,12 +185,12 @@ small-path (tokens w) test d f = small-sound (d w) (test w) (f w)
 -- ---- readings
 
 abbrev SmallReading : Reading → Type 0
-SmallReading (refused r) = r ≤ 16
+SmallReading (refused r) = r ≤ 22
 SmallReading (accepted w m) = Unit {0}
 
 abbrev pub SmallHeader : Header → Type 0
 SmallHeader (header.Sound h) = Unit {0}
-SmallHeader (header.Refused r) = r ≤ 16
+SmallHeader (header.Refused r) = r ≤ 22
 
 -- the calls on a space of edition ed, by any way of finding a child
 module _ (find : Finding) (ed : ℕ) where
@@ -283,7 +284,7 @@ module _ (find : Finding) (ed : ℕ) where
       small-sound _ (allSoundBy find v s ws && pick (eqb (answersNeededBy find v s [] ws) 0) true (soundLast v s)) (λ q.
       small-tests (leb (v .nodes + nodesNeededBy find v s [] ws) (v .N)) (leb (v .answers + answersNeededBy find v s [] ws) (v .A)) (entersAnswers s ws) 11 10 (omega arith) (omega arith) tt)
 
-  small-declined : (v : View) (s r : ℕ) → r ≤ 16 → Small (joiningBy find v s (declined r))
+  small-declined : (v : View) (s r : ℕ) → r ≤ 22 → Small (joiningBy find v s (declined r))
   unfolding joiningBy
   small-declined v s r h = h
 
@@ -295,6 +296,13 @@ module _ (find : Finding) (ed : ℕ) where
       join-cases (λ x. Small (joiningBy find v s x)) (codingOf ed) (sideIn v f us) (sideIn v g vs) ps (stateOf (v .subgoal s .state)) (v .subgoal s .variables) cs
       (small-declined v s 8 (omega arith)) (small-declined v s 14 (omega arith)) (small-declined v s 15 (omega arith)) (small-declined v s 16 (omega arith))
       (λ o. small-joining v s (v .subgoal s .variables) _ (all-read (codingOf ed) (v .subgoal s .variables) _))
+
+  small-detours : (x : Goals) (b : ℕ) → Small (detoursIn (codingOf ed) x b)
+  unfolding detoursIn detoursOf
+  small-detours unsound b = omega arith
+  small-detours (goals gs) b = by-cases (anyOpen gs)
+      (λ e. rw e (omega arith))
+      (λ e. by-cases (fewGoals gs && goalsFit (codingOf ed) gs) (λ f. rw (e, f) tt) (λ f. rw (e, f) (omega arith)))
 
   decide-small : (v : View) (q : Request) → Small (decideBy find (codingOf ed) v q)
   unfolding decideBy
@@ -323,6 +331,8 @@ module _ (find : Finding) (ed : ℕ) where
       (small-sound _ (soundSubgoal v f && soundSubgoal v g && soundTarget v s) (λ q. small-chains v s f g ps cs (chainOf (codingOf ed) v f) (chainOf (codingOf ed) v g)))))
   decide-small v (why cs) =
       small-reasoned v cs ((codingOf ed) .called cs) (judged-small 1 cs (pick (predicate cs) (taken (storedOf ed) cs) (refused 6)) (callable-small (predicate cs) cs))
+  decide-small v (detours ss b) =
+      small-pick (allWithin (v .subgoals) ss) (detoursIn (codingOf ed) (goalsIn (codingOf ed) v ss) b) 7 (omega arith) (λ q. small-detours (goalsIn (codingOf ed) v ss) b)
 
   reply-bounded : (v : View) (d : Decision) (room after : ℕ) → Small d → Bounded (reply v d room after)
   unfolding reply

@@ -5,7 +5,7 @@ use mathlib.Core.Path.{_≡_}
 use lib.Dec.{leb}
 use lib.ListN.{length, drop}
 use Rattle.basis.specs.Choice.{pick}
-use Rattle.plain.specs.Requests.{Open, Finished, Request, counts, Counts, oldAs, newPast, because}
+use Rattle.plain.specs.Requests.{Open, Finished, Request, counts, Counts, oldAs, newPast, because, detoured}
 use Rattle.plain.specs.Requests.{Reply, new, oldSubgoal, oldAnswer, done, at, noneYet, noMore, cells, used, joined}
 use Rattle.plain.specs.Requests.{refused, short}
 use Rattle.space.specs.declared.FreshAnswer.{FreshAnswer}
@@ -23,7 +23,8 @@ use Rattle.agreement.specs.Faults.{Fault, nothing, heading, node, subgoal, answ
 abbrev pub worded : ℕ → ℕ → ℕ
 worded what value = what * 2 ^ 32 + value
 
--- the value is a number, the cells written, or for 12 the cells that out would need; of a reason it is the subgoal
+-- the value is a number, the cells written, or for 12 the cells that out would need; of a reason it is the subgoal,
+-- of detours the choices tried
 unfoldable pub word : Reply → ℕ
 word done = worded 0 0
 word (new n) = worded 1 n
@@ -38,6 +39,7 @@ word noMore = worded 9 0
 word (joined n) = worded 10 n
 word (because (oldAs n vs)) = worded 12 n
 word (because (newPast k s)) = worded 13 s
+word (detoured d) = worded 14 (d .tried)
 word (refused r) = worded (256 + r) 0
 word (short n) = worded (256 + 12) n
 
@@ -79,6 +81,7 @@ counting noMore f x = x
 counting (cells n) f x = x
 counting (joined n) f x = x
 counting (because y) f x = x
+counting (detoured y) f x = x
 counting (refused r) f x = x
 counting (short n) f x = x
 

@@ -74,7 +74,7 @@ pub fn result_word(what: u32, value: u32) -> u64
 
 // The word of a refusal without a value: of every one but 12. A bound keeps the sum within a cell.
 pub fn refusal_word(r: u32) -> u64
-    requires { ⌜ r ≤ 17 ⌝ }
+    requires { ⌜ r ≤ 22 ⌝ }
     ensures { λ w. ⌜ w ≡ word (request.refused r) ⌝ }
 {
     result_word(REFUSED + r, 0)
