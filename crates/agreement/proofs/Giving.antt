@@ -21,11 +21,12 @@ use Rattle.plain.proofs.NumberLaws.{answerOf-none, answerOf-some}
 use Rattle.plain.proofs.EnteringLaws.{most-whole, nodes-brought, given-subgoals, given-stays, Taking, taking-open, given-taking, entering}
 use Rattle.plain.proofs.Changes.{Readable}
 use Rattle.plain.proofs.JoinLaws.{taken, ground-empty}
-use Rattle.space.specs.Layout.{Sizes}
+use Rattle.space.specs.Layout.{Sizes, nodeIn}
 use Rattle.space.specs.Heading.{headerOf}
 use Rattle.space.specs.declared.Head.{Head}
 use Rattle.trie.specs.Walks.{Walk, whole, Finding}
-use Rattle.trie.proofs.IndexLaws.{AsChains}
+use Rattle.trie.specs.Ledger.{Grown}
+use Rattle.trie.proofs.IndexLaws.{AsChains, grown-same, grown-on, as-chains-on}
 use Rattle.trie.specs.Siblings.{searchChildren}
 use Rattle.store.specs.Views.{View, viewOf}
 use Rattle.store.specs.Decisions as decisions
@@ -122,52 +123,59 @@ module _ (c : Coding) (laws : CodingLaws c) (t : Table) (v : View) (S : Same c t
 -- ---- one form, entered as a single answer is
 
 module _ (z : Sizes) (c : Coding) (cells : Cells z) (laws : CodingLaws c) (s : ℕ) (low : 0 < s) where
-  form-holds : (t : Table) (cs : List ℕ) → Holds z c t cs → s ≤ length (t .subgoals) → Taking t s → (w : Word) (n : ℕ) (ks : List ℕ) → c .answered (subgoalAt t s .m) ks ≡ accepted w n
-      → nodes (given t s w) ≤ t .N → length (given t s w .answers) ≤ t .A → Holds z c (given t s w) (formGiven z cs s w (headerOf z cs))
+  -- it holds the table with the form, and every node is still there
+  pub record Given (t : Table) (cs cs′ : List ℕ) (k : Holds z c t cs) (u : Table) : Type 0 where
+    pub holds : Holds z c u cs′
+    pub grows : Grown (nodeIn z cs) (k .head .nodes) (nodeIn z cs′) (holds .head .nodes)
+
+  form-given : (t : Table) (cs : List ℕ) (k : Holds z c t cs) → s ≤ length (t .subgoals) → Taking t s → (w : Word) (n : ℕ) (ks : List ℕ) → c .answered (subgoalAt t s .m) ks ≡ accepted w n
+      → nodes (given t s w) ≤ t .N → length (given t s w .answers) ≤ t .A → Given t cs (formGiven z cs s w (headerOf z cs)) k (given t s w)
   unfolding formGivenBy
-  form-holds t cs k high ready w n ks e room free =
+  form-given t cs k high ready w n ks e room free =
       let h : Head = k .head in
       let x : Walk = walkTo (viewOf z cs h) s w in
       let d : Decision = answeredAt (viewOf z cs h) s w x in
       let a : Agrees c (viewOf z cs h) [] (table.answered t s (accepted w n)) d = unfold decisions.answeredBy in answered-read c laws t (viewOf z cs h) (k .same) s low high ks (accepted w n) e in
       let g = taken t s low high w n (taking-open t s w ready (ground-empty c laws (subgoalAt t s .m) ks w n e)) room free in
       let b = agrees-answers z c cells cs h (k .sound) a in
-      rw (k .sound) (subst (λ (u : Table). Holds z c u (answerGiven z cs h d)) g (subst (Holds z c (table.answered t s (accepted w n) .state)) (given-written searchChildren z cs h s w x) (b .holds)))
+      rw (k .sound) (subst (λ (u : Table). Given t cs (answerGiven z cs h d) k u) g
+      (subst (λ (cs′ : List ℕ). Given t cs cs′ k (table.answered t s (accepted w n) .state)) (given-written searchChildren z cs h s w x) (record { holds = b .holds; grows = b .grows })))
 
   -- all of them, where there is room at the end
-  pub forms-hold : (ws : List Word) (t : Table) (cs : List ℕ) → Holds z c t cs → s ≤ length (t .subgoals) → Taking t s → Readable c (subgoalAt t s .m) ws
-      → nodes (entered t s ws) ≤ t .N → length (entered t s ws .answers) ≤ t .A → Holds z c (entered t s ws) (formsGiven z cs s ws)
+  pub forms-given : (ws : List Word) (t : Table) (cs : List ℕ) (k : Holds z c t cs) → s ≤ length (t .subgoals) → Taking t s → Readable c (subgoalAt t s .m) ws
+      → nodes (entered t s ws) ≤ t .N → length (entered t s ws .answers) ≤ t .A → Given t cs (formsGiven z cs s ws) k (entered t s ws)
   unfolding entered formsGivenBy
-  forms-hold [] t cs k high ready e room free = k
-  forms-hold (w ∷ ws) t cs k high ready e room free =
+  forms-given [] t cs k high ready e room free = record { holds = k; grows = grown-same (nodeIn z cs) (k .head .nodes) }
+  forms-given (w ∷ ws) t cs k high ready e room free =
       let u : Table = given t s w in
       let kept = given-stays t s low high w in
       let high′ : s ≤ length (u .subgoals) = rw (given-subgoals t s low high w) high in
       let more = entering u s ws low high′ in
-      let here : Holds z c u (formGiven z cs s w (headerOf z cs)) =
-      form-holds t cs k high ready w (e .0 .1) (e .0 .0) (e .0 .2) (omega (arith, more .0)) (omega (arith, more .1)) in
-      forms-hold ws u (formGiven z cs s w (headerOf z cs)) here high′ (given-taking t s low high w ready (ground-empty c laws (subgoalAt t s .m) (e .0 .0) w (e .0 .1) (e .0 .2))) (rw (kept .2) (e .1))
-      (subst (λ (m : ℕ). nodes (entered u s ws) ≤ m) (sym (kept .0)) room) (subst (λ (m : ℕ). length (entered u s ws .answers) ≤ m) (sym (kept .1)) free)
+      let here : Given t cs (formGiven z cs s w (headerOf z cs)) k u =
+      form-given t cs k high ready w (e .0 .1) (e .0 .0) (e .0 .2) (omega (arith, more .0)) (omega (arith, more .1)) in
+      let rest = forms-given ws u (formGiven z cs s w (headerOf z cs)) (here .holds) high′ (given-taking t s low high w ready (ground-empty c laws (subgoalAt t s .m) (e .0 .0) w (e .0 .1) (e .0 .2))) (rw (kept .2) (e .1))
+      (subst (λ (m : ℕ). nodes (entered u s ws) ≤ m) (sym (kept .0)) room) (subst (λ (m : ℕ). length (entered u s ws .answers) ≤ m) (sym (kept .1)) free) in
+      record { holds = rest .holds; grows = grown-on (here .grows) (rest .grows) }
 
   -- and another way of finding a child gives them alike
-  module _ (find : Finding) (as-chains : AsChains find) where
-    form-same : (t : Table) (cs : List ℕ) → Holds z c t cs → s ≤ length (t .subgoals) → (w : Word) → formGivenBy find z cs s w (headerOf z cs) ≡ formGiven z cs s w (headerOf z cs)
+  module _ (find : Finding) where
+    form-same : (t : Table) (cs : List ℕ) (k : Holds z c t cs) → AsChains (nodeIn z cs) (k .head .nodes) find → s ≤ length (t .subgoals) → (w : Word) → formGivenBy find z cs s w (headerOf z cs) ≡ formGiven z cs s w (headerOf z cs)
     unfolding formGivenBy
-    form-same t cs k high w =
+    form-same t cs k as-chains high w =
         let h : Head = k .head in
         rw (k .sound) (ap (λ (x : Walk). answerGiven z cs h (answeredAt (viewOf z cs h) s w x)) (answer-as-chains c laws t (viewOf z cs h) (k .same) s low high find as-chains w))
 
-    pub forms-same : (ws : List Word) (t : Table) (cs : List ℕ) → Holds z c t cs → s ≤ length (t .subgoals) → Taking t s → Readable c (subgoalAt t s .m) ws
+    pub forms-same : (ws : List Word) (t : Table) (cs : List ℕ) (k : Holds z c t cs) → AsChains (nodeIn z cs) (k .head .nodes) find → s ≤ length (t .subgoals) → Taking t s → Readable c (subgoalAt t s .m) ws
         → nodes (entered t s ws) ≤ t .N → length (entered t s ws .answers) ≤ t .A → formsGivenBy find z cs s ws ≡ formsGiven z cs s ws
     unfolding entered formsGivenBy
-    forms-same [] t cs k high ready e room free = refl
-    forms-same (w ∷ ws) t cs k high ready e room free =
+    forms-same [] t cs k as-chains high ready e room free = refl
+    forms-same (w ∷ ws) t cs k as-chains high ready e room free =
         let u : Table = given t s w in
         let kept = given-stays t s low high w in
         let high′ : s ≤ length (u .subgoals) = rw (given-subgoals t s low high w) high in
         let more = entering u s ws low high′ in
-        let here : Holds z c u (formGiven z cs s w (headerOf z cs)) =
-        form-holds t cs k high ready w (e .0 .1) (e .0 .0) (e .0 .2) (omega (arith, more .0)) (omega (arith, more .1)) in
-        ap (λ (ds : List ℕ). formsGivenBy find z ds s ws) (form-same t cs k high w)
-        ∙ forms-same ws u (formGiven z cs s w (headerOf z cs)) here high′ (given-taking t s low high w ready (ground-empty c laws (subgoalAt t s .m) (e .0 .0) w (e .0 .1) (e .0 .2))) (rw (kept .2) (e .1))
+        let here : Given t cs (formGiven z cs s w (headerOf z cs)) k u =
+        form-given t cs k high ready w (e .0 .1) (e .0 .0) (e .0 .2) (omega (arith, more .0)) (omega (arith, more .1)) in
+        ap (λ (ds : List ℕ). formsGivenBy find z ds s ws) (form-same t cs k as-chains high w)
+        ∙ forms-same ws u (formGiven z cs s w (headerOf z cs)) (here .holds) (as-chains-on find (here .grows) as-chains) high′ (given-taking t s low high w ready (ground-empty c laws (subgoalAt t s .m) (e .0 .0) w (e .0 .1) (e .0 .2))) (rw (kept .2) (e .1))
         (subst (λ (m : ℕ). nodes (entered u s ws) ≤ m) (sym (kept .0)) room) (subst (λ (m : ℕ). length (entered u s ws .answers) ≤ m) (sym (kept .1)) free)

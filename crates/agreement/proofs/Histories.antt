@@ -18,11 +18,11 @@ use Rattle.agreement.proofs.IndexSteps.{step-indexed, state-holds, fres
 use Rattle.agreement.proofs.Theorem.{fresh-in, promise}
 use Rattle.agreement.proofs.WholeSpaces.{space-holds, whole-known, space-checking}
 
-abbrev shows : List ℕ → List Request → List Seen
+abbrev pub shows : List ℕ → List Request → List Seen
 shows cs qs = trace spaceStep countedCells cs qs
 
 -- a call that meets its contract, before calls that show their trace
-made-shown : (cs : List ℕ) (q : Request) (r : Reply) (out after : List ℕ) (qs : List Request) (seen : List Seen)
+pub made-shown : (cs : List ℕ) (q : Request) (r : Reply) (out after : List ℕ) (qs : List Request) (seen : List Seen)
     → Answers cs q r out after → seen ≡ shows after qs
     → record { reply = r; counted = countedCells after; out = out } ∷ seen ≡ shows cs (q ∷ qs)
 unfolding trace

@@ -6,13 +6,14 @@ use lib.ListN.{length}
 use Rattle.plain.specs.Coding.{Coding}
 use Rattle.plain.specs.Requests.{Result}
 use Rattle.plain.specs.Table.{Table}
-use Rattle.space.specs.Layout.{Sizes}
+use Rattle.space.specs.Layout.{Sizes, nodeIn}
 use Rattle.space.specs.Heading.{headerOf}
 use Rattle.space.specs.Fresh.{freshAnswer, freshSpace}
 use Rattle.space.specs.declared.Head.{Head}
 use Rattle.space.specs.declared.Header.the-variants as header
 use Rattle.space.specs.declared.FreshAnswer.the-variants.{Done}
 use Rattle.trie.specs.Walks.{Finding}
+use Rattle.trie.specs.Ledger.{Grown}
 use Rattle.trie.proofs.IndexLaws.{AsChains}
 use Rattle.store.specs.Views.{View, viewOf}
 use Rattle.store.specs.Decisions.{Decision}
@@ -21,6 +22,7 @@ use Rattle.store.specs.Calls.{usedAnswers, reply, outAfter, countedCells}
 use Rattle.agreement.specs.Records.{Alike, freshView, changedView, Fits, says-fits, gives-fits, subgoal-fits, answer-fits, empty-fits, finish-fits}
 use Rattle.agreement.proofs.SameRecords.{Same, same-alike}
 use Rattle.agreement.proofs.Agreeing.{Agrees}
+use Rattle.agreement.proofs.Growing.{changed-grown, alike-grown}
 
 -- what holds of the cells of a space: a decision that fits makes of them what it makes of their view, the header counts,
 -- and a fresh space is a fresh view
@@ -43,7 +45,8 @@ pub record AnswersAlike (z : Sizes) (c : Coding) (cs : List ℕ) (h : Head) (out
   pub replies : reply (viewOf z cs h) d (length out) (usedAnswers (change z cs h d)) ≡ r .reply
   pub leaves : outAfter d out ≡ r .out
   pub holds : Holds z c (r .state) (change z cs h d)
-  pub change-same : (find : Finding) → AsChains find → changeBy find z cs h d ≡ change z cs h d
+  pub grows : Grown (nodeIn z cs) (h .nodes) (nodeIn z (change z cs h d)) (holds .head .nodes)
+  pub change-same : (find : Finding) → AsChains (nodeIn z cs) (h .nodes) find → changeBy find z cs h d ≡ change z cs h d
 
 -- a decision that fits is written alike by any: it names what was found
 fits-same : (find : Finding) (z : Sizes) (cs : List ℕ) (h : Head) (v : View) {d : Decision} → Fits v d → changeBy find z cs h d ≡ change z cs h d
@@ -68,5 +71,6 @@ agrees-answers z c cells cs h e {out} {r} {d} a =
         sound = more .1;
         same = same-alike c (r .state) (changedView (viewOf z cs h) d) (viewOf z (change z cs h d) (more .0)) (a .same) (more .2);
       };
+      grows = alike-grown (viewOf z cs h) (changedView (viewOf z cs h) d) (viewOf z (change z cs h d) (more .0)) (more .2) (changed-grown (viewOf z cs h) (a .fits));
       change-same = λ find as-chains. fits-same find z cs h (viewOf z cs h) (a .fits);
     }

@@ -129,7 +129,7 @@ module _ (c : Coding) (laws : CodingLaws c) (t : Table) (v : View) (S : Same c t
 -- ---- on the cells
 
 module _ (e : ℕ) (known : knownEdition e ≡ true) (t : Table) (cs : List ℕ) (k : Holds (sizesOf e) (codingOf e) t cs) where
-  nodes-held : nodesOf cs ≡ subgoalTrie (viewOf (sizesOf e) cs (k .head))
+  pub nodes-held : nodesOf cs ≡ subgoalTrie (viewOf (sizesOf e) cs (k .head))
   unfolding nodesUnder
   nodes-held =
       let a = header-any e known cs (k .head) (k .sound) in

@@ -12,7 +12,7 @@ use Rattle.plain.specs.CodingLaws.{CodingLaws}
 use Rattle.plain.specs.Requests.{Request, Result, Seen, trace, left}
 use Rattle.plain.specs.Table.{Table, fresh, step}
 use Rattle.plain.proofs.StoredCoding.{coding-laws}
-use Rattle.space.specs.Layout.{Sizes, sizesOf}
+use Rattle.space.specs.Layout.{Sizes, sizesOf, nodeIn}
 use Rattle.space.specs.Heading.{headerOf}
 use Rattle.space.specs.Fresh.{freshAnswer, freshSpace}
 use Rattle.space.specs.declared.FreshAnswer.the-variants.{Done}
@@ -35,10 +35,10 @@ use Rattle.agreement.proofs.Theorem.{cells-hold, header-any, deciding, 
 
 -- ---- a call on the cells
 
-module _ (z : Sizes) (c : Coding) (cells : Cells z) (laws : CodingLaws c) (find : Finding) (as-chains : AsChains find) where
-  pub under-alike : (t : Table) (cs : List ℕ) (h : Head) → headerOf z cs ≡ header.Sound h → Same c t (viewOf z cs h) → (q : Request) → underBy find z c cs q (header.Sound h) ≡ under z c cs q (header.Sound h)
+module _ (z : Sizes) (c : Coding) (cells : Cells z) (laws : CodingLaws c) (find : Finding) where
+  pub under-alike : (t : Table) (cs : List ℕ) (h : Head) → AsChains (nodeIn z cs) (h .nodes) find → headerOf z cs ≡ header.Sound h → Same c t (viewOf z cs h) → (q : Request) → underBy find z c cs q (header.Sound h) ≡ under z c cs q (header.Sound h)
   unfolding underBy
-  under-alike t cs h e S q =
+  under-alike t cs h as-chains e S q =
       let v : View = viewOf z cs h in
       rw (
         decide-alike c find v (call-as-chains c laws t v S find as-chains) (λ s low high w. answer-as-chains c laws t v S s low (omega (arith, S .subgoals)) find as-chains w) q,
@@ -46,15 +46,19 @@ module _ (z : Sizes) (c : Coding) (cells : Cells z) (laws : CodingLaws c) (find 
       )
 
 module _ (e : ℕ) (known : knownEdition e ≡ true) where
-  abbrev cells-in : Cells (sizesOf e)
+  abbrev pub cells-in : Cells (sizesOf e)
   cells-in = cells-hold (sizesOf e) (sizes-wide e)
 
-  pub step-indexed : (t : Table) (cs : List ℕ) → Holds (sizesOf e) (codingOf e) t cs → (index : List ℕ) (q : Request) → indexedStep index cs q ≡ spaceStep cs q
+  -- by any way of finding a child that ends as the chains do
+  pub step-alike : (find : Finding) (t : Table) (cs : List ℕ) (k : Holds (sizesOf e) (codingOf e) t cs) → AsChains (nodeIn (sizesOf e) cs) (k .head .nodes) find → (q : Request) → spaceStepBy find cs q ≡ spaceStep cs q
   unfolding spaceStepBy underAnyBy
-  step-indexed t cs k index q =
+  step-alike find t cs k as-chains q =
       let a = header-any e known cs (k .head) (k .sound) in
-      rw (a .0) (subst (λ (i : ℕ). underBy (searchIndexed index) (sizesOf i) (codingOf i) cs q (header.Sound (k .head)) ≡ under (sizesOf i) (codingOf i) cs q (header.Sound (k .head))) (sym (a .1))
-      (under-alike (sizesOf e) (codingOf e) cells-in (coding-laws e) (searchIndexed index) (indexes-as-chains index) t cs (k .head) (k .sound) (k .same) q))
+      rw (a .0) (subst (λ (i : ℕ). underBy find (sizesOf i) (codingOf i) cs q (header.Sound (k .head)) ≡ under (sizesOf i) (codingOf i) cs q (header.Sound (k .head))) (sym (a .1))
+      (under-alike (sizesOf e) (codingOf e) cells-in (coding-laws e) find t cs (k .head) as-chains (k .sound) (k .same) q))
+
+  pub step-indexed : (t : Table) (cs : List ℕ) → Holds (sizesOf e) (codingOf e) t cs → (index : List ℕ) (q : Request) → indexedStep index cs q ≡ spaceStep cs q
+  step-indexed t cs k index q = step-alike (searchIndexed index) t cs k (indexes-as-chains index (nodeIn (sizesOf e) cs) (k .head .nodes)) q
 
   pub state-holds : (t : Table) (cs : List ℕ) (q : Request) → Holds (sizesOf e) (codingOf e) t cs → Holds (sizesOf e) (codingOf e) (step (codingOf e) t q .state) (spaceStep cs q .state)
   state-holds = step-state (sizesOf e) (codingOf e) cells-in (coding-laws e) spaceStep (deciding e known)

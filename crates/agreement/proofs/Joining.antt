@@ -32,7 +32,7 @@ use Rattle.agreement.proofs.SameRecords.{Same, same-counts, nodes-count
 use Rattle.agreement.proofs.Agreeing.{agrees-says}
 use Rattle.agreement.proofs.Holding.{Cells, Holds, AnswersAlike, agrees-answers}
 use Rattle.agreement.proofs.Chains.{chain-forms}
-use Rattle.agreement.proofs.Giving.{all-judged, needed-nodes, needed-answers, forms-hold, forms-same}
+use Rattle.agreement.proofs.Giving.{all-judged, needed-nodes, needed-answers, forms-given, forms-same}
 
 either : (b : Bool) → pick b true true ≡ true
 either true = refl
@@ -73,14 +73,16 @@ module _ (z : Sizes) (c : Coding) (cells : Cells z) (laws : CodingLaws c) (t : T
     joining-accepted is-open ws k room free =
         let u : Table = entered t s ws in
         let cs′ : List ℕ = formsGiven z cs s ws in
-        let left : Holds z c u cs′ = forms-hold z c cells laws s low ws t cs (record { head = h; sound = e; same = S }) high (inl is-open) k room free in
+        let entry = forms-given z c cells laws s low ws t cs (record { head = h; sound = e; same = S }) high (inl is-open) k room free in
+        let left : Holds z c u cs′ = entry .holds in
         let count : countedCells cs′ ≡ counted u = cells .cells-counts cs′ (left .head) (left .sound) ∙ sym (same-counts c laws u (viewOf z cs′ (left .head)) (left .same)) in
         let used : usedAnswers cs′ ≡ length (u .answers) = ap (λ (n : Counts). n .answers) count in
         record {
           replies = rw (used, S .answers);
           leaves = refl;
           holds = left;
-          change-same = λ find as-chains. forms-same z c cells laws s low find as-chains ws t cs (record { head = h; sound = e; same = S }) high (inl is-open) k room free;
+          grows = entry .grows;
+          change-same = λ find as-chains. forms-same z c cells laws s low find ws t cs (record { head = h; sound = e; same = S }) as-chains high (inl is-open) k room free;
         }
 
     -- every form or none

@@ -14,6 +14,7 @@ pub mod Calling
 pub mod Reasoning
 pub mod Detouring
 pub mod Answering
+pub mod Growing
 pub mod Holding
 pub mod ChainSteps
 pub mod Chains
@@ -50,3 +51,4 @@ pub mod Hollow
 pub mod Histories
 pub mod Alike
 pub mod Bounds
+pub mod Keeping

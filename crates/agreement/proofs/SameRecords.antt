@@ -270,7 +270,7 @@ module _ (c : Coding) (laws : CodingLaws c) (t : Table) (v : View) (S : Same c t
   pub walked-call : (w : Word) → Walked (S .K) (v .node) (v .nodes) 0 w (walk (subgoalTrie v) 0 w)
   walked-call w = walked K (v .node) (v .nodes) (S .tries) different (v .subgoals) 0 called-links 0 w (S .some) (S .origin)
 
-  pub call-as-chains : (find : Finding) → AsChains find → (w : Word) → walkBy find (subgoalTrie v) 0 w ≡ walk (subgoalTrie v) 0 w
+  pub call-as-chains : (find : Finding) → AsChains (v .node) (v .nodes) find → (w : Word) → walkBy find (subgoalTrie v) 0 w ≡ walk (subgoalTrie v) 0 w
   call-as-chains find as-chains w =
       walk-as-chains K (v .node) (v .nodes) (S .tries) different (v .subgoals) 0 called-links find as-chains 0 w (S .some) (S .origin)
 
@@ -285,7 +285,7 @@ module _ (c : Coding) (laws : CodingLaws c) (t : Table) (v : View) (S : Same c t
         let o = S .subgoal s low high in
         walked K (v .node) (v .nodes) (S .tries) different (v .answers) s (answered-links s low) (v .subgoal s .root) w (o .root-in) (o .root-key)
 
-    pub answer-as-chains : (find : Finding) → AsChains find → (w : Word)
+    pub answer-as-chains : (find : Finding) → AsChains (v .node) (v .nodes) find → (w : Word)
         → walkBy find (answerTrie v) (v .subgoal s .root) w ≡ walk (answerTrie v) (v .subgoal s .root) w
     answer-as-chains find as-chains w =
         let o = S .subgoal s low high in

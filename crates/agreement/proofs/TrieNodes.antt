@@ -176,10 +176,10 @@ with-field f c s nd n q l t i e = by-cases (eqb l 0)
 below-not : (i n : ℕ) → i < n → i ≡ n → ⊥
 below-not i n h e = omega arith
 
-with-parent : (nd : ℕ → Node) (n q l t i : ℕ) → i < n → par (withNode nd n q l t) i ≡ par nd i
+pub with-parent : (nd : ℕ → Node) (n q l t i : ℕ) → i < n → par (withNode nd n q l t) i ≡ par nd i
 with-parent nd n q l t i h = with-field (λ y. y .parent) (λ y m. refl) (λ y m. refl) nd n q l t i (below-not i n h)
 
-with-token : (nd : ℕ → Node) (n q l t i : ℕ) → i < n → withNode nd n q l t i .token ≡ nd i .token
+pub with-token : (nd : ℕ → Node) (n q l t i : ℕ) → i < n → withNode nd n q l t i .token ≡ nd i .token
 with-token nd n q l t i h = with-field (λ y. y .token) (λ y m. refl) (λ y m. refl) nd n q l t i (below-not i n h)
 
 pub with-link : (nd : ℕ → Node) (n q l t i : ℕ) → i < n → withNode nd n q l t i .link ≡ nd i .link

@@ -4,9 +4,9 @@ use mathlib.Core.Bool.{true, false, true≢false}
 use mathlib.Core.List.{List, [], _∷_, _++_, append-assoc, append-nil, nil≢cons, concat-ne-nil, head-eq-of-cons-eq, tail-eq-of-cons-eq}
 use Prim.Native.Nat.{ℕ, zero, suc, _+_, _≤_, _<_}
 use native.Mathlib.Omega.{arith}
-use lib.Dec.{eqb}
+use lib.Dec.{eqb, ltb}
 use lib.ListN.{length, drop, length-append}
-use borrow.Author.Tests.{eqb-true, eqb-false, eq-eqb, ne-eqb, lt-ltb}
+use borrow.Author.Tests.{eqb-true, eqb-false, eq-eqb, ne-eqb, lt-ltb, ltb-true, ltb-false}
 use Rattle.basis.proofs.Cases.{by-cases}
 use Rattle.plain.specs.Words.{Word, has}
 use Rattle.plain.specs.Table.{after}
@@ -20,8 +20,9 @@ use Rattle.trie.specs.Siblings.{Trie, sound, searchSiblings, searchChildren}
 use Rattle.trie.specs.Walks.{Walk, whole, stopped, Finding, rootSound, walkFrom, walk, walkBy, walkFromBy}
 use Rattle.trie.specs.Paths.{tokens, below, gather}
 use Rattle.trie.specs.declared.Search.the-variants.{Found, Last}
+use Rattle.trie.specs.Ledger.{isLast, lastBelow}
 use Rattle.trie.proofs.PathLaws.{gather-root, gather-up}
-use Rattle.trie.proofs.IndexLaws.{AsChains, walk-alike}
+use Rattle.trie.proofs.IndexLaws.{Confirmed, Ending, Chained, AsChains, grown-same, walk-alike}
 use Rattle.agreement.proofs.TrieNodes.{par, Kind, isRoot, isChild, nextOf, Tries, parent-most, LastOf, Stop, bare, behind}
 
 -- ---- a number that follows another
@@ -109,6 +110,13 @@ module _ (K : List Word) (nd : ℕ → Node) (n : ℕ) (r : Tries K nd n) (d : D
       go : Kind K nd i → par nd i < i
       go (isRoot s p t k) = absurd (e p)
       go (isChild p k) = p
+
+  -- l is the child of p with the highest number below m
+  record Latest (m p l : ℕ) : Type 0 where
+    inside : l < m
+    above : p < l
+    parent : par nd l ≡ p
+    over : (i : ℕ) → l < i → i < m → par nd i ≡ p → ⊥
 
   next-sibling : (p c : ℕ) → c < n → p < c → par nd c ≡ p → nd c .sibling ≡ after (par nd) n c p
   next-sibling p c h b e = r .sibling c h ∙ rw (e, ne-eqb p c (λ z. omega arith))
@@ -246,11 +254,83 @@ module _ (K : List Word) (nd : ℕ → Node) (n : ℕ) (r : Tries K nd n) (d : D
         (λ z. let v = siblings-last n p t (nd p .child) tp k (first-of p h (eqb-false _ _ z)) (omega arith) in
         absurd (found-not (v .0) c (sym (v .1) ∙ (rw z at e)))))
 
+    -- a parent has one last child
+    last-one : (p a b : ℕ) → Ending T p a → LastOf nd n p b → a ≡ b
+    last-one p a b f g =
+        let i = next-sibling p a (f .below) (f .above) (f .parent-is) in
+        let j = next-sibling p b (g .inside) (g .above) (g .parent) in
+        by-cases (ltb a b)
+        (λ l. absurd (after-least (par nd) n a p b (record { above = ltb-true a b l; below = g .inside; under = g .parent }) .0 (sym i ∙ f .none)))
+        (λ l. by-cases (ltb b a)
+        (λ o. absurd (after-least (par nd) n b p a (record { above = ltb-true b a o; below = f .below; under = f .parent-is }) .0 (sym j ∙ g .none)))
+        (λ o. let x = ltb-false a b l in let y = ltb-false b a o in omega arith))
+
+    -- where no node has this parent and token, the search ends with the last child
+    search-lacks : (p t : ℕ) → p < n → InTrie p → ((x : ℕ) → Confirmed T p t x → ⊥) → (l : ℕ) → Ending T p l → searchChildren T p t ≡ Last l
+    unfolding searchChildren
+    search-lacks p t h tp nowhere l f = by-cases (has K (key K p ++ (t ∷ [])))
+        (λ k. let j = has-place K (key K p ++ (t ∷ [])) k in
+        let hj : j .0 < n = omega (arith, r .keys, j .1) in
+        let cj = child-of p t (j .0) h hj (j .2) in
+        absurd (nowhere (j .0) (record { above = cj .above; below = hj; parent-is = cj .parent; token-is = cj .token })))
+        (λ k. let m = after-least (par nd) n p p l (record { above = f .above; below = f .below; under = f .parent-is }) in
+        let ne : nd p .child ≡ 0 → ⊥ = λ z. m .0 (sym (r .child p h) ∙ z) in
+        let v = siblings-last n p t (nd p .child) tp k (first-of p h ne) (omega arith) in
+        rw (ne-eqb (nd p .child) 0 ne) (v .1 ∙ ap Last (sym (last-one p l (v .0) f (v .2)))))
+
+    -- the child of the highest number is the last one
+    latest-is : (m p : ℕ) → m ≤ n → (j : ℕ) → j < m → par nd j < j → par nd j ≡ p → Latest m p (lastBelow nd m p)
+    unfolding lastBelow
+    latest-is zero p h j l u e = absurd (omega arith)
+    latest-is (suc m) p h j l u e = by-cases (ltb (par nd m) m)
+        (λ a. by-cases (eqb (par nd m) p)
+        (λ b. let x : par nd m ≡ p = eqb-true (par nd m) p b in let y : par nd m < m = ltb-true (par nd m) m a in
+        rw (a, b) (record { inside = omega arith; above = omega arith; parent = x; over = λ i g k f. absurd (omega arith) }))
+        (λ b. rw (a, b) (further (eqb-false _ _ b) (λ k. latest-is m p (omega arith) j k u e))))
+        (λ a. rw a (further (λ z. let y : m ≤ par nd m = ltb-false (par nd m) m a in root-not m j l u e y z) (λ k. latest-is m p (omega arith) j k u e)))
+      where
+        root-not : (m j : ℕ) → j < suc m → par nd j < j → par nd j ≡ p → m ≤ par nd m → par nd m ≡ p → ⊥
+        root-not m j l u e y z = omega arith
+
+        lower : (i : ℕ) → i < suc m → (i ≡ m → ⊥) → i < m
+        lower i g ne = omega arith
+
+        further : (par nd m ≡ p → ⊥) → (j < m → Latest m p (lastBelow nd m p)) → Latest (suc m) p (lastBelow nd m p)
+        further ne again =
+            let r = again (lower j l (λ z. ne (ap (par nd) (sym z) ∙ e))) in
+            record { inside = omega (arith, r .inside); above = r .above; parent = r .parent; over = λ i g k f. r .over i g (lower i k (λ z. ne (ap (par nd) (sym z) ∙ f))) f }
+
+    last-confirmed : (p : ℕ) → p < n → InTrie p → (nd p .child ≡ 0 → ⊥) → isLast T p (lastBelow nd n p) ≡ true
+    unfolding isLast
+    last-confirmed p h tp z =
+        let f = first-of p h z in
+        let l : ℕ = lastBelow nd n p in
+        let o = latest-is n p (omega arith) (nd p .child) (f .below) (rw (f .under) (f .above)) (f .under) in
+        let s = next-sibling p l (o .inside) (o .above) (o .parent) in
+        let none : nd l .sibling ≡ 0 = by-cases (eqb (nd l .sibling) 0)
+        (λ q. eqb-true _ _ q)
+        (λ q. let a = after-found (par nd) n l p (λ y. eqb-false _ _ q (s ∙ y)) in absurd (o .over (after (par nd) n l p) (a .above) (a .below) (a .under))) in
+        rw (
+          lt-ltb p l (o .above),
+          lt-ltb l n (o .inside),
+          node-judged l (o .inside) (child-in p (nd l .token) l tp (key-of p l (o .inside) (o .above) (o .parent))),
+          o .parent,
+          eq-eqb p p refl,
+          none,
+        )
+
+    chained : (p t : ℕ) → p < n → InTrie p → Chained T p t
+    chained p t h tp = record {
+      met = λ x k. search-child p t x tp (k .above) (k .below) (k .parent-is) (k .token-is);
+      lacks = search-lacks p t h tp;
+      latest = last-confirmed p h tp;
+    }
+
     -- so a walk by another way of finding is the walk by the chains
-    pub walk-as-chains : (find : Finding) → AsChains find → (p : ℕ) (w : Word) → p < n → key K p ≡ s ∷ [] → walkBy find T p w ≡ walk T p w
+    pub walk-as-chains : (find : Finding) → AsChains nd n find → (p : ℕ) (w : Word) → p < n → key K p ≡ s ∷ [] → walkBy find T p w ≡ walk T p w
     walk-as-chains find as-chains p w h e =
         walk-alike find T (λ i. (i < n) × InTrie i)
-        (λ i x m. as-chains T i x (λ c k. search-child i x c (m .1) (k .above) (k .below) (k .parent-is) (k .token-is)))
+        (λ i x m. as-chains T i x (grown-same nd n) (m .0) (chained i x (m .0) (m .1)))
         (λ i x c m f. search-meets i x c (m .0) (m .1) f)
         p w (h, ([], e))
 

@@ -4,6 +4,7 @@ pub mod Consequences
 pub mod Order
 pub mod Whole
 pub mod Indexed
+pub mod Keeping
 pub mod Faults
 pub mod WholeExamples
 pub mod Hollow

@@ -26,7 +26,7 @@ use Rattle.space.specs.Heading.{headerOf}
 use Rattle.store.specs.Changes.{formGiven, formsGiven, formsGivenBy}
 use Rattle.agreement.specs.Whole.{ReadingAgain}
 use Rattle.agreement.proofs.Holding.{Cells, Holds}
-use Rattle.agreement.proofs.Giving.{forms-hold}
+use Rattle.agreement.proofs.Giving.{forms-given}
 use Rattle.carrying.specs.Copying.{answersGiven}
 use Rattle.carrying.proofs.NodeCounts.{answerNodes-more}
 use Rattle.carrying.proofs.Building.{opened, begun, forms-opened}
@@ -185,7 +185,7 @@ module _ (z : Sizes) (c : Coding) (cells : Cells z) (laws : CodingLaws c) (again
       let free : length (entered t (y .subgoal) (y .form ∷ []) .answers) ≤ t .A =
       omega (arith, ap (λ (x : Table). length (x .answers)) is-new, ap length (after .answers), length-append ys (y ∷ []), sound .kept .answer-room, p .A-same) in
       let here : Holds z c (entered t (y .subgoal) (y .form ∷ [])) (formsGiven z cs (y .subgoal) (y .form ∷ [])) =
-      forms-hold z c cells laws (y .subgoal) low (y .form ∷ []) t cs k high-t (p .taking (y .subgoal) low high) ((ks, f .0, f .1), tt) room free in
+      forms-given z c cells laws (y .subgoal) low (y .form ∷ []) t cs k high-t (p .taking (y .subgoal) low high) ((ks, f .0, f .1), tt) room free .holds in
       let there : Holds z c (withEntry t (y .subgoal) (y .form)) (formGiven z cs (y .subgoal) (y .form) (headerOf z cs)) =
       subst (λ (x : Table). Holds z c x (formGiven z cs (y .subgoal) (y .form) (headerOf z cs))) is-new (subst (Holds z c (entered t (y .subgoal) (y .form ∷ []))) (given-one z cs (y .subgoal) (y .form)) here) in
       subst (λ (l : List Answer). Entered l (answersGiven z (formGiven z cs (y .subgoal) (y .form) (headerOf z cs)) rest)) (append-assoc ys (y ∷ []) rest)

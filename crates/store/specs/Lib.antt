@@ -3,6 +3,7 @@ pub mod Decisions
 pub mod Changes
 pub mod Calls
 pub mod Building
+pub mod Keeping
 pub mod Contracts
 pub mod Replies
 pub mod Examples

@@ -17,21 +17,18 @@ use Rattle.basis.specs.Choice.{pick}
 use Rattle.basis.proofs.Cases.{by-cases}
 use Rattle.trie.specs.Siblings.{Trie}
 use Rattle.trie.specs.Index.{powerOfTwo, slotOf, slotAfter, confirmed, probe, lookup, enters, entering, insertFrom, insert, insertAll, emptyIndex, builtIndex, roomy}
+use Rattle.trie.specs.Ledger.{Reach, here, on, zeros}
 use Rattle.trie.proofs.IndexLaws.{Confirmed, confirmed-is}
 use Rattle.trie.proofs.WalkLaws.{both-true}
 
--- ---- x is reached from a slot within so many steps, over slots that are taken
-
-data Reach (index : List ℕ) (x : ℕ) : ℕ → ℕ → Type 0 where
-  here : (k slot : ℕ) → getD index slot 0 ≡ x → Reach index x (suc k) slot
-  on : (k slot : ℕ) → (getD index slot 0 ≡ 0 → ⊥) → Reach index x k (slotAfter (length index) slot) → Reach index x (suc k) slot
+-- ---- reaching an entry
 
 confirmed-true : (t : Trie) (p y x : ℕ) → Confirmed t p y x → confirmed t p y x ≡ true
 unfolding confirmed
 confirmed-true t p y x k = rw (lt-ltb _ _ (k .above), lt-ltb _ _ (k .below), eq-eqb _ _ (k .parent-is), eq-eqb _ _ (k .token-is))
 
 module _ (t : Trie) (index : List ℕ) (p y x : ℕ) (is : Confirmed t p y x) (one : (a : ℕ) → Confirmed t p y a → a ≡ x) where
-  reach-probe : {k slot : ℕ} → Reach index x k slot → probe k t index p y slot ≡ x
+  pub reach-probe : {k slot : ℕ} → Reach index x k slot → probe k t index p y slot ≡ x
   unfolding probe
   reach-probe (here k slot e) = rw (e, ne-eqb x 0 (λ z. omega (arith, is .above)), confirmed-true t p y x is)
   reach-probe (on k slot h r) = by-cases (confirmed t p y (getD index slot 0))
@@ -39,7 +36,7 @@ module _ (t : Trie) (index : List ℕ) (p y x : ℕ) (is : Confirmed t p y x) (o
       (λ e. rw (ne-eqb _ _ h, e) (reach-probe r))
 
 -- slots that are taken keep their entries
-reach-kept : (index new : List ℕ) (x : ℕ) → length new ≡ length index → ((i : ℕ) → (getD index i 0 ≡ 0 → ⊥) → getD new i 0 ≡ getD index i 0) → (x ≡ 0 → ⊥)
+pub reach-kept : (index new : List ℕ) (x : ℕ) → length new ≡ length index → ((i : ℕ) → (getD index i 0 ≡ 0 → ⊥) → getD new i 0 ≡ getD index i 0) → (x ≡ 0 → ⊥)
     → {k slot : ℕ} → Reach index x k slot → Reach new x k slot
 reach-kept index new x l f h (here j slot e) = here j slot (f slot (λ z. h (sym e ∙ z)) ∙ e)
 reach-kept index new x l f h (on j slot e r) =
@@ -47,12 +44,12 @@ reach-kept index new x l f h (on j slot e r) =
 
 -- ---- one entry
 
-record Inserted (index new : List ℕ) (x k slot : ℕ) : Type 0 where
-  at : ℕ
-  inside : at < length index
-  free : getD index at 0 ≡ 0
-  is : new ≡ set index at x
-  reach : Reach new x k slot
+pub record Inserted (index new : List ℕ) (x k slot : ℕ) : Type 0 where
+  pub at : ℕ
+  pub inside : at < length index
+  pub free : getD index at 0 ≡ 0
+  pub is : new ≡ set index at x
+  pub reach : Reach new x k slot
 
 module _ (index : List ℕ) (x : ℕ) where
   -- f is d slots ahead
@@ -86,10 +83,10 @@ module _ (index : List ℕ) (x : ℕ) where
   ahead-none slot f h (inl z) = omega arith
   ahead-none slot f h (inr z) = absurd (omega arith)
 
-  taken-kept : (i : ℕ) → getD index i 0 ≡ 0 → (j : ℕ) → (getD index j 0 ≡ 0 → ⊥) → getD (set index i x) j 0 ≡ getD index j 0
+  pub taken-kept : (i : ℕ) → getD index i 0 ≡ 0 → (j : ℕ) → (getD index j 0 ≡ 0 → ⊥) → getD (set index i x) j 0 ≡ getD index j 0
   taken-kept i e j h = getD-set-other index i j x 0 (λ z. h (ap (λ (a : ℕ). getD index a 0) z ∙ e))
 
-  inserted : (k slot f d : ℕ) → slot < length index → f < length index → getD index f 0 ≡ 0 → Ahead slot f d → d < k → Inserted index (insertFrom k index slot x) x k slot
+  pub inserted : (k slot f d : ℕ) → slot < length index → f < length index → getD index f 0 ≡ 0 → Ahead slot f d → d < k → Inserted index (insertFrom k index slot x) x k slot
   unfolding insertFrom
   inserted zero slot f d h g e a l = absurd (omega arith)
   inserted (suc k) slot f zero h g e a l =
@@ -104,24 +101,20 @@ module _ (index : List ℕ) (x : ℕ) where
 
 -- ---- free slots
 
-zeros : List ℕ → ℕ
-zeros [] = 0
-zeros (y ∷ ys) = pick (eqb y 0) (suc (zeros ys)) (zeros ys)
-
-zeros-set : (index : List ℕ) (i x : ℕ) → i < length index → getD index i 0 ≡ 0 → (x ≡ 0 → ⊥) → zeros index ≡ suc (zeros (set index i x))
+pub zeros-set : (index : List ℕ) (i x : ℕ) → i < length index → getD index i 0 ≡ 0 → (x ≡ 0 → ⊥) → zeros index ≡ suc (zeros (set index i x))
 unfolding zeros
 zeros-set [] i x h e n = absurd (omega arith)
 zeros-set (y ∷ ys) zero x h e n = rw (eq-eqb y 0 e, ne-eqb x 0 n)
 zeros-set (y ∷ ys) (suc i) x h e n = by-cases (eqb y 0) (λ z. rw z (ap suc (zeros-set ys i x (omega arith) e n))) (λ z. rw z (zeros-set ys i x (omega arith) e n))
 
-zeros-some : (index : List ℕ) → 0 < zeros index → (f : ℕ) × (f < length index) × (getD index f 0 ≡ 0)
+pub zeros-some : (index : List ℕ) → 0 < zeros index → (f : ℕ) × (f < length index) × (getD index f 0 ≡ 0)
 unfolding zeros
 zeros-some [] h = absurd (omega arith)
 zeros-some (y ∷ ys) h = by-cases (eqb y 0)
     (λ z. (0, omega arith, eqb-true _ _ z))
     (λ z. let r = zeros-some ys (rw z at h) in (suc (r .0), omega (arith, r .1), r .2))
 
-zeros-free : (n : ℕ) → zeros (emptyIndex n) ≡ n
+pub zeros-free : (n : ℕ) → zeros (emptyIndex n) ≡ n
 unfolding emptyIndex zeros
 zeros-free zero = refl
 zeros-free (suc n) = ap suc (zeros-free n)
@@ -135,7 +128,7 @@ slot-inside : (size p y : ℕ) → 0 < size → slotOf size p y < size
 unfolding slotOf
 slot-inside size p y h = mod-lt ((p + y) % (2 ^ 32)) h
 
-ahead-of : (index : List ℕ) (x slot f : ℕ) → slot < length index → f < length index → (d : ℕ) × Ahead index x slot f d × (d < length index)
+pub ahead-of : (index : List ℕ) (x slot f : ℕ) → slot < length index → f < length index → (d : ℕ) × Ahead index x slot f d × (d < length index)
 ahead-of index x slot f h g = by-cases (leb slot f)
     (λ e. let l : slot ≤ f = leb-true _ _ e in (f - slot, inl (omega arith), omega arith))
     (λ e. let l : f < slot = leb-false _ _ e in (f + length index - slot, inr (omega arith), omega arith))

@@ -9,9 +9,11 @@ use lib.Dec.{eqb}
 use lib.ListN.{length, getD}
 use borrow.Author.Tests.{eqb-true, eqb-false, ltb-true}
 use Rattle.basis.proofs.Cases.{by-cases}
+use Rattle.space.specs.declared.Node.{Node}
 use Rattle.trie.specs.Siblings.{Trie, sound, atSibling, searchSiblings, searchChildren}
 use Rattle.trie.specs.Walks.{onward, rootSound, walkFrom, walk, Finding, walkFromBy, walkBy}
 use Rattle.trie.specs.Index.{powerBelow, powerOfTwo, slotOf, slotAfter, confirmed, probe, searchInTurn, searchIndexed}
+use Rattle.trie.specs.Ledger.{isLast, lastBelow, Grown}
 use Rattle.trie.specs.declared.Search.{Search}
 use Rattle.trie.specs.declared.Search.the-variants.{Found, Last, Damaged}
 use Rattle.trie.proofs.SearchCases.{search-next, children-none, children-some}
@@ -36,7 +38,7 @@ confirmed-is t parent token x e =
     record { above = ltb-true _ _ (c .0); below = ltb-true _ _ (c .1); parent-is = eqb-true _ _ (b .1); token-is = eqb-true _ _ (a .1) }
 
 module _ (t : Trie) (index : List ℕ) (parent token : ℕ) where
-  probe-found : (steps slot : ℕ) → (probe steps t index parent token slot ≡ 0 → ⊥) → confirmed t parent token (probe steps t index parent token slot) ≡ true
+  pub probe-found : (steps slot : ℕ) → (probe steps t index parent token slot ≡ 0 → ⊥) → confirmed t parent token (probe steps t index parent token slot) ≡ true
   unfolding probe
   probe-found zero slot h = absurd (h refl)
   probe-found (suc steps) slot h = by-cases (eqb (getD index slot 0) 0)
@@ -54,7 +56,7 @@ pub data Turn (steps : ℕ) (t : Trie) (parent token n x : ℕ) (rest : Search) 
   bad : Confirmed t parent token x → sound t x ≡ false → Turn steps t parent token n x rest Damaged
   passed : (x ≡ 0 → ⊥) → confirmed t parent token x ≡ false → {r : Search} → Step t parent token n rest r → Turn steps t parent token n x rest r
 
-sibling-step : (t : Trie) (parent token n : ℕ) (rest : Search) → Step t parent token n rest (atSibling t parent token n rest)
+pub sibling-step : (t : Trie) (parent token n : ℕ) (rest : Search) → Step t parent token n rest (atSibling t parent token n rest)
 sibling-step t parent token n rest =
     by-cases (sound t n) (λ s.
     by-cases (eqb (t .at n .parent) parent) (λ p.
@@ -135,13 +137,37 @@ indexes-find index = record {
 
 -- ---- as by the chains
 
--- each node that confirms this parent and token is sound, and is what the chain ends with
-abbrev pub Chained : Trie → ℕ → ℕ → Type 0
-Chained t parent token = (x : ℕ) → Confirmed t parent token x → (sound t x ≡ true) × (searchChildren t parent token ≡ Found x)
+-- l is the last child of `parent`
+pub record Ending (t : Trie) (parent l : ℕ) : Type 0 where
+  pub above : parent < l
+  pub below : l < t .nodes
+  pub parent-is : t .at l .parent ≡ parent
+  pub none : t .at l .sibling ≡ 0
 
--- a way of finding a child that ends as the chain does, there
-abbrev pub AsChains : Finding → Type 0
-AsChains find = (t : Trie) (parent token : ℕ) → Chained t parent token → find t parent token ≡ searchChildren t parent token
+-- each node that confirms this parent and token is sound, and is what the chain ends with; where there is none, the chain
+-- ends with the last child, which is the one of the highest number
+pub record Chained (t : Trie) (parent token : ℕ) : Type 0 where
+  pub met : (x : ℕ) → Confirmed t parent token x → (sound t x ≡ true) × (searchChildren t parent token ≡ Found x)
+  pub lacks : ((x : ℕ) → Confirmed t parent token x → ⊥) → (l : ℕ) → Ending t parent l → searchChildren t parent token ≡ Last l
+  pub latest : (t .at parent .child ≡ 0 → ⊥) → isLast t parent (lastBelow (t .at) (t .nodes) parent) ≡ true
+
+-- a way of finding a child that ends as the chain does, there, among these nodes and those that they may become
+abbrev pub AsChains : (ℕ → Node) → ℕ → Finding → Type 0
+AsChains at nodes find =
+    (t : Trie) (parent token : ℕ) → Grown at nodes (t .at) (t .nodes) → parent < t .nodes → Chained t parent token → find t parent token ≡ searchChildren t parent token
+
+pub grown-same : (at : ℕ → Node) (nodes : ℕ) → Grown at nodes at nodes
+grown-same at nodes = record { no-fewer = omega arith; parent-kept = λ i h. refl; token-kept = λ i h. refl }
+
+pub grown-on : {at : ℕ → Node} {nodes : ℕ} {mid : ℕ → Node} {some : ℕ} {after : ℕ → Node} {more : ℕ} → Grown at nodes mid some → Grown mid some after more → Grown at nodes after more
+grown-on f g = let a = f .no-fewer in let b = g .no-fewer in record {
+  no-fewer = omega arith;
+  parent-kept = λ i h. g .parent-kept i (omega arith) ∙ f .parent-kept i h;
+  token-kept = λ i h. g .token-kept i (omega arith) ∙ f .token-kept i h;
+}
+
+pub as-chains-on : {at : ℕ → Node} {nodes : ℕ} {after : ℕ → Node} {more : ℕ} (find : Finding) → Grown at nodes after more → AsChains at nodes find → AsChains after more find
+as-chains-on find g f t parent token h = f t parent token (grown-on g h)
 
 -- what stands behind a sibling counts only where it is passed
 pub at-alike : (t : Trie) (parent token n : ℕ) (rest rest′ : Search)
@@ -178,13 +204,13 @@ module _ (t : Trie) (index : List ℕ) (parent token : ℕ) where
       (λ k. let g = f (getD index slot 0) (confirmed-is t parent token _ k) in rw (e, k, g .0) (sym (g .1)))
       (λ k. rw (e, k) (at-alike t parent token n _ _ (λ s p q r. turn-same steps (slotAfter (length index) slot) (t .at n .sibling) (chained-on steps n f s p q r)))))
 
-pub indexes-as-chains : (index : List ℕ) → AsChains (searchIndexed index)
+pub indexes-as-chains : (index : List ℕ) (at : ℕ → Node) (nodes : ℕ) → AsChains at nodes (searchIndexed index)
 unfolding searchIndexed
-indexes-as-chains index t parent token f = by-cases (eqb (t .at parent .child) 0)
+indexes-as-chains index at nodes t parent token grown h f = by-cases (eqb (t .at parent .child) 0)
     (λ z. rw z (children-none t parent token (t .at parent) refl (eqb-true _ _ z)))
     (λ z. by-cases (powerOfTwo (length index))
     (λ p. let all = children-some t parent token (t .at parent) refl (eqb-false _ _ z) in
-    rw (z, p) (turn-same t index parent token (t .nodes) (slotOf (length index) parent token) (t .at parent .child) (λ x k. (f x k .0, all ∙ f x k .1)) ∙ all))
+    rw (z, p) (turn-same t index parent token (t .nodes) (slotOf (length index) parent token) (t .at parent .child) (λ x k. (f .met x k .0, all ∙ f .met x k .1)) ∙ all))
     (λ p. rw (z, p)))
 
 -- where the chain ends with the child that the lookup gives, the search takes no more turns than the lookup takes slots
@@ -212,7 +238,7 @@ module _ (t : Trie) (index : List ℕ) (parent token x : ℕ) (some : x ≡ 0 �
 module _ (find : Finding) (t : Trie) (Met : ℕ → Type 0)
     (alike : (p x : ℕ) → Met p → find t p x ≡ searchChildren t p x)
     (keeps : (p x c : ℕ) → Met p → searchChildren t p x ≡ Found c → Met c) where
-  from-alike : (p : ℕ) (xs : List ℕ) → Met p → walkFromBy find t p xs ≡ walkFrom t p xs
+  pub from-alike : (p : ℕ) (xs : List ℕ) → Met p → walkFromBy find t p xs ≡ walkFrom t p xs
   unfolding walkFromBy
   from-alike p [] m = refl
   from-alike p (x ∷ xs) m = ap (λ (r : Search). onward r p (x ∷ xs) (λ child. walkFromBy find t child xs)) (alike p x m)

@@ -4,9 +4,10 @@ pub mod AppendLaws
 pub mod WalkLaws
 pub mod IndexLaws
 pub mod BuildLaws
+pub mod LedgerLaws
 pub mod SlotLaws
-mod SearchCases
+pub mod SearchCases
 mod TurnCases
-mod WalkCases
+pub mod WalkCases
 pub mod PathCases
 mod AppendCases

@@ -4,5 +4,7 @@ pub mod Paths
 pub mod Runs
 pub mod Append
 pub mod Index
+pub mod Ledger
 pub mod Examples
 pub mod IndexExamples
+pub mod LedgerExamples

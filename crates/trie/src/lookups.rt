@@ -18,7 +18,7 @@ ghost use Rattle.trie.specs.Siblings.{trieIn, sound};
 ghost use Rattle.trie.specs.Index.{powered, confirmedIn, judgedIn, turnedIn, searchIndexed, Slotted};
 
 // Is node x a child of `parent` with the token, by its own record?
-fn confirms(space: &[u32], nodes: usize, parent: usize, token: u32, x: usize) -> bool
+pub fn confirms(space: &[u32], nodes: usize, parent: usize, token: u32, x: usize) -> bool
     requires { ⌜ NodesIn (now space) nodes ⌝ }
     ensures { λ r. ⌜ r ≡ confirmedIn (old space) nodes parent token x ⌝ }
 {
@@ -36,7 +36,7 @@ fn confirms(space: &[u32], nodes: usize, parent: usize, token: u32, x: usize) ->
 }
 
 // The entry x was confirmed: it is judged whole, as a node compared is.
-fn judge(space: &[u32], nodes: usize, links: usize, x: usize) -> Search
+pub fn judge(space: &[u32], nodes: usize, links: usize, x: usize) -> Search
     requires { ⌜ NodesIn (now space) nodes × (x < nodes) ⌝ }
     ensures { λ r. ⌜ r ≡ judgedIn (old space) nodes links x ⌝ }
 {
