@@ -12,7 +12,7 @@ use Rattle.basis.proofs.Cases.{by-cases}
 use Rattle.plain.specs.Words.{Word, has, prefixes}
 use Rattle.plain.specs.Coding.{Coding, Reading, refused, accepted}
 use Rattle.plain.specs.CodingLaws.{CodingLaws}
-use Rattle.plain.specs.Requests.{Open, call, new, oldSubgoal, refused}
+use Rattle.plain.specs.Requests.{Open, callLeast, new, oldSubgoal, refused}
 use Rattle.plain.specs.Table as table
 use Rattle.plain.specs.Table.{Table, subgoalAt, answerAt, subgoalOfAnswer, calledForms, nodes, subgoalOf, withSubgoal, becomes, appended, step}
 use Rattle.plain.proofs.PrefixLaws.{starts, begins, longer, shared, begins-last, begins-witness}
@@ -44,6 +44,7 @@ use Rattle.agreement.proofs.TrieLinks.{updated-here, updated-other, lin
 use Rattle.agreement.proofs.FirstChildren.{Firsts, firsts-more}
 use Rattle.agreement.proofs.SameRecords.{subgoal-keys, later, LastSame, no-last, some-last, SubgoalSame, AnswerSame, Same, different, link-none, link-called, walked-call, subgoal-judged, subgoal-state}
 use Rattle.agreement.proofs.Agreeing.{Agrees, agrees-says, agrees-pick}
+use Rattle.plain.proofs.Naming.{naming-cases}
 
 -- ---- a new subgoal, where the walk stopped
 
@@ -278,10 +279,14 @@ module _ (c : Coding) (laws : CodingLaws c) (t : Table) (v : View) (S : Same c t
   pub form-agrees : (w : Word) (m : ℕ) → Fit c w m → Agrees c v [] (table.called t (accepted w m)) (decisions.called v (accepted w m))
   form-agrees w m e = unfold decisions.calledBy in called-walked w m e (walked-call c laws t v S w)
 
+  called-says : (r : ℕ) → Agrees c v [] (table.called t (refused r)) (decisions.called v (refused r))
+  unfolding table.called decisions.calledBy
+  called-says r = agrees-says c t v S [] (refused r)
+
   called-read : (ks : List ℕ) (x : Reading) → c .called ks ≡ x → Agrees c v [] (table.called t x) (decisions.called v x)
-  called-read ks (refused r) e = unfold table.called decisions.calledBy in agrees-says c t v S [] (refused r)
+  called-read ks (refused r) e = called-says r
   called-read ks (accepted w m) e = form-agrees w m (called-fit c laws ks w m e)
 
-  pub call-agrees : (ks : List ℕ) → Agrees c v [] (step c t (call ks)) (decide c v (call ks))
+  pub call-agrees : (ks : List ℕ) (x : ℕ) → Agrees c v [] (step c t (callLeast ks x)) (decide c v (callLeast ks x))
   unfolding step decideBy
-  call-agrees ks = called-read ks (c .called ks) refl
+  call-agrees ks x = naming-cases (λ r. Agrees c v [] (table.called t r) (decisions.called v r)) x (c .called ks) (called-read ks (c .called ks) refl) (called-says 21)

@@ -15,7 +15,7 @@ use Rattle.forms.specs.Converting.{reading}
 use Rattle.forms.specs.Promises.{Legal, Demand2}
 use Rattle.forms.proofs.StoredLaws.{ExactTerms, StoredLaws, stored-of}
 use Rattle.plain.specs.Words.{Word}
-use Rattle.plain.specs.Coding.{Reading, accepted, judged, handedOn, predicate, taken, codedAs, codingOf}
+use Rattle.plain.specs.Coding.{Reading, accepted, judged, naming, handedOn, predicate, taken, codedAs, codingOf}
 use Rattle.plain.proofs.StoredCoding.{called-form}
 use Rattle.agreement.specs.Whole.{ReadingAgain}
 
@@ -51,7 +51,7 @@ module _ (arity : ℕ → ℕ) (s : StoredForm) (laws : StoredLaws arity s) wher
 
   -- cells that are legal are not refused by the reader
   judged-passes : (m : ℕ) (cs : List ℕ) (r : Reading) → Legal arity m cs → judged arity s m cs r ≡ r
-  unfolding judged handedOn reading
+  unfolding judged naming handedOn reading
   judged-passes m cs r l = rw (le-ltb 256 (length cs) (l .cells), l .terms, le-ltb 32 (length (met [] cs)) (l .variables))
 
   taken-again : (m : ℕ) (w : Word) → s .legal m w ≡ true → taken s (s .cells w) ≡ accepted w (length (met [] w))

@@ -4,7 +4,7 @@ use mathlib.Core.Path.{_≡_}
 use Prim.Native.Nat.{ℕ}
 use Rattle.plain.specs.Coding.{Coding}
 use Rattle.plain.specs.CodingLaws.{CodingLaws}
-use Rattle.plain.specs.Requests.{Request, call, answer, finish, next, load, instance, counts, join, why, detours, lent}
+use Rattle.plain.specs.Requests.{Request, callLeast, answer, finish, next, load, instance, counts, join, why, detours, lent}
 use Rattle.plain.specs.Table.{Table, step}
 use Rattle.space.specs.Layout.{Sizes}
 use Rattle.space.specs.Heading.{headerOf}
@@ -27,7 +27,7 @@ module _ (z : Sizes) (c : Coding) (cells : Cells z) (laws : CodingLaws c) (t : T
 
   pub step-answers : (q : Request) → AnswersAlike z c cs h (lent q) (step c t q) (decide c (viewOf z cs h) q)
   unfolding lent
-  step-answers (call ks) = agrees-answers z c cells cs h e (call-agrees c laws t v S ks)
+  step-answers (callLeast ks x) = agrees-answers z c cells cs h e (call-agrees c laws t v S ks x)
   step-answers (answer s ks) = agrees-answers z c cells cs h e (answer-agrees c laws t v S s ks)
   step-answers (finish s) = agrees-answers z c cells cs h e (finish-agrees c laws t v S s)
   step-answers (next s a) = agrees-answers z c cells cs h e (next-agrees c laws t v S s a)

@@ -13,7 +13,7 @@ use Rattle.forms.specs.Compact.{compact, elements, compactForm, filled, lastOf,
 use Rattle.forms.specs.Compact.{entered, items, front, formTerms, pairForm, same, areForms, legalForm}
 use Rattle.forms.specs.Converting.{reading}
 use Rattle.forms.specs.Stored.{storedOf}
-use Rattle.plain.specs.Coding.{judged, handedOn, predicate, taken}
+use Rattle.plain.specs.Coding.{judged, naming, handedOn, predicate, taken}
 use Rattle.plain.specs.Requests.{Request, answer, next, Reply, new, oldAnswer, at, noneYet, noMore, refused, lent}
 use Rattle.plain.specs.Requests.{trace, why, newPast, because}
 use Rattle.plain.specs.Examples.{var, atom, fun}
@@ -146,7 +146,7 @@ unfolding upTo wholeSpace wholeAny wholeUnder wholeView chains chain answerWhole
     headerOf spaceHeader subgoalWidth answerWidth follows nodeSound bothOrNeither subgoalSound answerSound
     searchSiblings searchChildren walkFromBy walkBy gather leadCell appendNode appendPath answeredNew answeredOld
     answeredAt answeredBy starting handed onward decideBy answerEntered changeBy reply outAfter underBy underAnyBy
-    spaceStepBy areForms legalForm judged handedOn reading callable predicate taken storedOf compactForm areTerms
+    spaceStepBy areForms legalForm judged naming handedOn reading callable predicate taken storedOf compactForm areTerms
     pairForm formTerms front symbolic tokenOf items entered filled lastOf tailOf into inside collected reads begun
     applied paired shapeOf arityOf every compact elements pairs numbered renamed met seen rank same whole firstsFrom
     namedBy newAt reasonedAt reasonedBy
@@ -176,7 +176,7 @@ unfolding upTo wholeSpace wholeAny wholeUnder wholeView chains chain answerWhole
     headerOf spaceHeader subgoalWidth answerWidth follows nodeSound bothOrNeither subgoalSound answerSound
     searchSiblings searchChildren walkFromBy walkBy gather leadCell appendNode appendPath answeredNew answeredOld
     answeredAt answeredBy starting handed onward decideBy answerEntered changeBy reply outAfter underBy underAnyBy
-    spaceStepBy areForms legalForm judged handedOn reading callable predicate taken storedOf compactForm areTerms
+    spaceStepBy areForms legalForm judged naming handedOn reading callable predicate taken storedOf compactForm areTerms
     pairForm formTerms front symbolic tokenOf items entered filled lastOf tailOf into inside collected reads begun
     applied paired shapeOf arityOf every compact elements pairs numbered renamed met seen rank same whole
 checked = (refl, refl, refl, refl, refl, refl, refl, refl, refl, refl, refl, refl, refl, refl)
@@ -201,7 +201,7 @@ unfolding faultOf faultUnder faultIn firstFailing chained among wholeSpace whole
     inRange capacity counted knownEdition headerOf spaceHeader subgoalWidth answerWidth follows nodeSound bothOrNeither
     subgoalSound answerSound searchSiblings searchChildren walkFromBy walkBy gather leadCell appendNode appendPath
     answeredNew answeredOld answeredAt answeredBy starting handed onward decideBy answerEntered changeBy reply outAfter
-    underBy underAnyBy spaceStepBy areForms legalForm judged handedOn reading callable predicate taken storedOf
+    underBy underAnyBy spaceStepBy areForms legalForm judged naming handedOn reading callable predicate taken storedOf
     compactForm areTerms pairForm formTerms front symbolic tokenOf items entered filled lastOf tailOf into inside
     collected reads begun applied paired shapeOf arityOf every compact elements pairs numbered renamed met seen rank
     same whole
@@ -224,7 +224,7 @@ unfolding upTo wholeSpace wholeAny wholeUnder wholeView chains chain answerWhole
     headerOf spaceHeader subgoalWidth answerWidth follows nodeSound bothOrNeither subgoalSound answerSound
     searchSiblings searchChildren walkFromBy walkBy gather leadCell appendNode appendPath answeredNew answeredOld
     answeredAt answeredBy starting handed onward decideBy answerEntered changeBy reply outAfter underBy underAnyBy
-    spaceStepBy areForms legalForm judged handedOn reading callable predicate taken storedOf compactForm areTerms
+    spaceStepBy areForms legalForm judged naming handedOn reading callable predicate taken storedOf compactForm areTerms
     pairForm formTerms front symbolic tokenOf items entered filled lastOf tailOf into inside collected reads begun
     applied paired shapeOf arityOf every compact elements pairs numbered renamed met seen rank same whole
 held = (refl, refl, refl, refl, refl, refl)

@@ -1,7 +1,7 @@
 -- What is said of a line by its meaning, over any holder of a table: the line printed, and what is left.
 use Prim.Native.Nat.{ℕ}
 use mathlib.Core.List.{List}
-use Rattle.plain.specs.Requests.{Request, Result, call, answer, finish, next, load, instance, counts, join, why}
+use Rattle.plain.specs.Requests.{Request, Result, callLeast, answer, finish, next, load, instance, counts, join, why}
 use Rattle.plain.specs.Requests.{detours}
 use Rattle.replies.specs.Texts.{textBad, replyText}
 use Rattle.asking.specs.Lines.{Meaning, bad, asks}
@@ -14,7 +14,7 @@ pub record Said (S : Type 0) : Type 0 where
 
 -- only load and instance are lent out; the other calls leave it
 abbrev pub outLeft : Request → List ℕ → List ℕ → List ℕ
-outLeft (call cs) out after = out
+outLeft (callLeast cs x) out after = out
 outLeft (answer s cs) out after = out
 outLeft (finish s) out after = out
 outLeft (next s a) out after = out

@@ -12,16 +12,17 @@ use Rattle.forms.specs.Numbering.{met}
 use Rattle.forms.specs.Compact.{same}
 use Rattle.forms.proofs.RoundTrip.{same-self, same-true}
 use Rattle.plain.specs.Words.{Word}
-use Rattle.plain.specs.Coding.{Coding, Reading, refused, accepted}
+use Rattle.plain.specs.Coding.{Coding, Reading, refused, accepted, naming}
 use Rattle.plain.specs.CodingLaws.{CodingLaws}
 use Rattle.plain.specs.Joins.{Forms, declined, formed, Side, Terms, combined, before, allRead, isOpen, ground, named, joinOf}
-use Rattle.plain.specs.Requests.{State, Open, Finished, Request, call, answer, finish, next, load, instance, counts, join, why, detours}
+use Rattle.plain.specs.Requests.{State, Open, Finished, Request, callLeast, answer, finish, next, load, instance, counts, join, why, detours}
 use Rattle.plain.specs.Requests.{Reply, new, oldSubgoal, oldAnswer, done, at, noneYet, noMore, cells, used, joined, refused, short, lacksNext, Result, Seen, trace}
 use Rattle.plain.specs.Table.{Table, Subgoal, Answer, fresh, noSubgoal, noAnswer, subgoalAt, answerAt, subgoalOfAnswer, answersTo, nodes, counted, number, subgoalOf, answerOf, after, following}
 use Rattle.plain.specs.Table.{withSubgoal, withAnswer, withFinished, settled, withEntry, stays, becomes, known, fits, appended, called, answered, whileOpen, starting, onward, writes, given, entered, sideOf, joining, newness, reasoned, liveAnswers, goalOf, detouring, step, tableTrace}
 use Rattle.plain.specs.Detours.{Live, Goal, Option, offers, allOffer, goalsFit, anyOpen, fewGoals, optionOf, optionsOf, detoursOf, allWithin}
 use Rattle.plain.specs.Alike.{nodesApart, reasonApart, replyApart, seenApart, isTen, upToTen, AnswerAlike, readAs, ReadAlike}
 use Rattle.plain.proofs.Changes.{Readable, Read, all-read, join-cases, AnswerEnters, AnswersEnter, no-more, one-more, Changed, stayed, subgoal-enters, answer-enters, finishes, answers-enter, step-changed}
+use Rattle.plain.proofs.Naming.{naming-cases}
 
 map-set : {A B : Type 0} (f : A → B) (l : List A) (i : ℕ) (v : A) → map f (set l i v) ≡ set (map f l) i (f v)
 map-set f [] i v = refl
@@ -561,11 +562,16 @@ module _ (c d : Coding) (laws : CodingLaws c) (alike : ReadAlike c d) where
       next-agree : (s a : ℕ) → Agree (becomes t (pick (starting t s a) (onward t s a) (refused 7))) (becomes (imaged k t) (pick (starting (imaged k t) s a) (onward (imaged k t) s a) (refused 7)))
       next-agree s a = rw (starting-imaged t s a, onward-imaged t s a) (stays-agree t [] (pick (starting t s a) (onward t s a) (refused 7)))
 
+      naming-as : (x : ℕ) (r : Reading) → naming x (readAs τ r) ≡ readAs τ (naming x r)
+      unfolding naming readAs
+      naming-as x (refused r) = refl
+      naming-as x (accepted w m) = by-cases (eqb x 0) (λ e. rw e) (λ e. rw e)
+
       step-agree : (q : Request) → Agree (step c t q) (step d (imaged k t) q)
       unfolding step
-      step-agree (call cs) =
-          subst (λ (x : Reading). Agree (called t (c .called cs)) (called (imaged k t) x)) (sym (alike .called cs))
-          (called-agree (c .called cs) (called-legally cs (c .called cs) refl))
+      step-agree (callLeast cs x) =
+          subst (λ (r : Reading). Agree (called t (naming x (c .called cs))) (called (imaged k t) r)) (sym (ap (naming x) (alike .called cs) ∙ naming-as x (c .called cs)))
+          (called-agree (naming x (c .called cs)) (naming-cases ReadLegal x (c .called cs) (called-legally cs (c .called cs) refl) tt))
       step-agree (answer s cs) = known-agree t [] (length (t .subgoals)) (length (imaged k t .subgoals)) s _ _ (goals-many t) (answer-agree s cs)
       step-agree (finish s) = known-agree t [] (length (t .subgoals)) (length (imaged k t .subgoals)) s _ _ (goals-many t) (λ x y. (refl, refl, finished-imaged t s))
       step-agree (next s a) = known-agree t [] (length (t .subgoals)) (length (imaged k t .subgoals)) s _ _ (goals-many t) (next-agree s a)

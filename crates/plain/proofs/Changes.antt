@@ -13,7 +13,7 @@ use Rattle.basis.proofs.Cases.{by-cases}
 use Rattle.plain.specs.Words.{Word, has}
 use Rattle.plain.specs.Coding.{Coding, Reading, refused, accepted}
 use Rattle.plain.specs.CodingLaws.{CodingLaws}
-use Rattle.plain.specs.Requests.{State, Open, Finished, Request, call, answer, finish, next, load, instance, counts, join, why, detours, new, oldSubgoal, oldAnswer, cells, joined, refused, short, lacksNext, Result, lent}
+use Rattle.plain.specs.Requests.{State, Open, Finished, Request, callLeast, answer, finish, next, load, instance, counts, join, why, detours, new, oldSubgoal, oldAnswer, cells, joined, refused, short, lacksNext, Result, lent}
 use Rattle.plain.specs.Table.{Table, subgoalAt, answerAt, subgoalOfAnswer, calledForms, answersTo, nodes, subgoalOf, answerOf, following, withSubgoal, withAnswer, withFinished, withEntry, stays, becomes, known, fits, appended, called, answered, whileOpen, starting, onward, writes, entered, sideOf, joining, reasoned, goalOf, detouring, step}
 use Rattle.plain.specs.Detours.{anyOpen, fewGoals, goalsFit, detoursOf, allWithin}
 use Rattle.plain.specs.Joins.{Forms, declined, formed, Side, combined, before, allRead, isOpen, ground, named, joinOf}
@@ -21,6 +21,7 @@ use Rattle.plain.specs.Consequences.{RefusedBy, Known, Refusing, Refusin
 use Rattle.plain.proofs.NumberLaws.{Called, subgoalOf-none, subgoalOf-some, Given, answerOf-none, answerOf-some}
 use Rattle.plain.proofs.RecordLaws.{settled-rooms, entry-count, entry-subgoals, entry-nodes, entry-lasts}
 use Rattle.plain.proofs.EnteringLaws.{entered-old, entered-new, entering}
+use Rattle.plain.proofs.Naming.{naming-cases}
 
 -- ---- room
 
@@ -205,7 +206,7 @@ module _ (c : Coding) (t : Table) where
 
   pub step-changed : (q : Request) → Changed (step c t q .state)
   unfolding step
-  step-changed (call cs) = called-changed cs (c .called cs) refl
+  step-changed (callLeast cs x) = naming-cases (λ r. Leaves (called t r)) x (c .called cs) (called-changed cs (c .called cs) refl) (unfold called in stayed)
   step-changed (answer s cs) =
       known-cases Leaves t [] (length (t .subgoals)) s _ stayed
       (λ low high. answered-changed s low high cs (c .answered (subgoalAt t s .m) cs) refl)
@@ -233,7 +234,7 @@ module _ (c : Coding) (t : Table) where
 module _ (c : Coding) (t : Table) (Q : ℕ → Type 0)
     (called-by : (cs : List ℕ) (r : ℕ) → c .called cs ≡ refused r → Q r)
     (answered-by : (m : ℕ) (cs : List ℕ) (r : ℕ) → c .answered m cs ≡ refused r → Q r)
-    (seven : Q 7) (eight : Q 8) (ten : Q 10) (eleven : Q 11) (twelve : Q 12) (fourteen : Q 14) (fifteen : Q 15) (sixteen : Q 16) (twenty-two : Q 22) where
+    (seven : Q 7) (eight : Q 8) (ten : Q 10) (eleven : Q 11) (twelve : Q 12) (fourteen : Q 14) (fifteen : Q 15) (sixteen : Q 16) (twenty-one : Q 21) (twenty-two : Q 22) where
   abbrev Keeps : List ℕ → Result Table → Type 0
   Keeps out x = (r : ℕ) → RefusedBy r (x .reply) → (x .state ≡ t) × (x .out ≡ out) × Q r
 
@@ -287,7 +288,7 @@ module _ (c : Coding) (t : Table) (Q : ℕ → Type 0)
 
   pub step-keeps : (q : Request) → Keeps (lent q) (step c t q)
   unfolding step lent
-  step-keeps (call cs) = called-keeps (c .called cs) (called-by cs)
+  step-keeps (callLeast cs x) = naming-cases (λ r. Keeps [] (called t r)) x (c .called cs) (called-keeps (c .called cs) (called-by cs)) (unfold called in keeps [] 21 twenty-one)
   step-keeps (answer s cs) =
       known-cases (Keeps []) t [] (length (t .subgoals)) s _ (keeps [] 7 seven)
       (λ low high. answered-keeps s (c .answered (subgoalAt t s .m) cs) (answered-by (subgoalAt t s .m) cs))
@@ -309,7 +310,7 @@ module _ (c : Coding) (t : Table) (Q : ℕ → Type 0)
   step-keeps (detours gs b) = detours-keeps gs b
 
 pub refusing : (c : Coding) → Refusing c
-refusing c t q r h = let k = step-keeps c t (λ n. Unit {0}) (λ cs n e. tt) (λ m cs n e. tt) tt tt tt tt tt tt tt tt tt q r h in (k .0, k .1)
+refusing c t q r h = let k = step-keeps c t (λ n. Unit {0}) (λ cs n e. tt) (λ m cs n e. tt) tt tt tt tt tt tt tt tt tt tt q r h in (k .0, k .1)
 
 pub refusing-by : (c : Coding) → CodingLaws c → RefusingBy c
 refusing-by c laws t q r h =
@@ -317,4 +318,4 @@ refusing-by c laws t q r h =
     step-keeps c t Known (λ cs n e. low 6 (omega arith) n (laws .called-refused cs n e)) (λ m cs n e. low 5 (omega arith) n (laws .answered-refused m cs n e))
     (inl (omega arith, omega arith)) (inl (omega arith, omega arith))
     (inr (inl (omega arith, omega arith))) (inr (inl (omega arith, omega arith))) (inr (inl (omega arith, omega arith)))
-    (inr (inr (inl (omega arith, omega arith)))) (inr (inr (inl (omega arith, omega arith)))) (inr (inr (inl (omega arith, omega arith)))) (inr (inr (inr refl))) q r h .2
+    (inr (inr (inl (omega arith, omega arith)))) (inr (inr (inl (omega arith, omega arith)))) (inr (inr (inl (omega arith, omega arith)))) (inr (inr (inr (omega arith, omega arith)))) (inr (inr (inr (omega arith, omega arith)))) q r h .2

@@ -32,6 +32,7 @@ use Rattle.plain.proofs.RecordLaws.{subgoalAt-new, subgoals-count, answ
 use Rattle.plain.proofs.Changes.{known-cases, appended-cases, called-cases, answered-cases}
 use Rattle.plain.proofs.Growth.{Grows, left-grows}
 use Rattle.plain.proofs.Soundness.{Sound, sound-reached}
+use Rattle.plain.proofs.Naming.{naming-none}
 
 -- ---- variables of the parts
 
@@ -153,7 +154,7 @@ module _ (c : Coding) (cs : List ℕ) where
 
   call-gives : (t : Table) → CallGives (step c t (call cs))
   unfolding step
-  call-gives t = called-gives t (c .called cs) refl
+  call-gives t = rw (naming-none (c .called cs)) (called-gives t (c .called cs) refl)
 
   calls-grow : (t u : Table) (i : ℕ) → Grows t u → Calls t i → Calls u i
   calls-grow t u i g k =

@@ -10,6 +10,7 @@ pub mod StoredCoding
 pub mod NumberLaws
 pub mod RecordLaws
 pub mod Counted
+pub mod Naming
 pub mod LinkLaws
 pub mod EnteringLaws
 pub mod Changes

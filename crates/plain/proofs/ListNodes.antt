@@ -19,7 +19,7 @@ use Rattle.forms.proofs.ShapeLaws.{constant-shape}
 use Rattle.forms.proofs.NumberingLaws.{numbered-length}
 use Rattle.forms.proofs.LongestForms.{Constant, constant-append, constant-met, one-terms, one-form}
 use Rattle.plain.specs.Words.{Word, has, most}
-use Rattle.plain.specs.Coding.{accepted, judged, handedOn, taken, codedAs}
+use Rattle.plain.specs.Coding.{accepted, judged, naming, handedOn, taken, codedAs}
 use Rattle.plain.specs.Requests.{Open, answer, new, refused}
 use Rattle.plain.specs.Table.{Table, subgoalAt, answersTo, nodes, answerOf, withAnswer, withEntry, known, fits, appended, answered, step}
 use Rattle.plain.specs.ListNodes.{listCells, Constants, Unanswered, TakesNodes, ListNodes}
@@ -70,7 +70,7 @@ module _ (arity : ℕ → ℕ) (s : StoredForm) (xs : List ℕ) (constants : Con
   list-terms = rw (← (listed-pairs xs)) (one-terms arity (listed xs) (listed-well-formed arity xs constants))
 
   list-read : (m : ℕ) → m ≡ 1 → codedAs arity s .answered m (listCells xs) ≡ accepted (s .form (listCells xs)) 0
-  unfolding judged handedOn reading taken
+  unfolding judged naming handedOn reading taken
   list-read m e =
       let v : length (met [] (listCells xs)) ≡ 0 = ap length (constant-met (listCells xs) [] (listed-constant arity xs constants)) in
       rw (e, le-ltb 256 (length (listCells xs)) (omega (arith, cells-many xs)), list-terms, v)

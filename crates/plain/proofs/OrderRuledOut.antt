@@ -15,7 +15,7 @@ use Rattle.forms.specs.Compact.{entered, items, front, formTerms, pairForm, sam
 use Rattle.forms.specs.Converting.{reading}
 use Rattle.forms.specs.Stored.{storedOf}
 use Rattle.plain.specs.Words.{has, add, union, inits, allInits, prefixes, distinct}
-use Rattle.plain.specs.Coding.{judged, handedOn, predicate, taken, codingOf}
+use Rattle.plain.specs.Coding.{judged, naming, handedOn, predicate, taken, codingOf}
 use Rattle.plain.specs.Requests.{Request, call, answer, Counts, Reply, at, noneYet, noMore, lacksNext, State, Open, Finished, Result, Seen, trace, left}
 use Rattle.plain.specs.Table.{settled, Table, fresh, noSubgoal, noAnswer, subgoalAt, answerAt, answersTo, answerNodes}
 use Rattle.plain.specs.Table.{nodes, counted, number, subgoalOf, answerOf, after, following, starting, onward}
@@ -51,7 +51,7 @@ loads-differ : (x : State) (ns ms : List ℕ) → HandsOut numberStored one 1 x 
     → trace numberStored counted one (loadsOf ns (0 ∷ [])) ≡ trace numberStored counted two (loadsOf ms (0 ∷ [])) → ⊥
 unfolding left trace step counted settled called answered fits appended starting onward writes nodes answerNodes answersTo
     number subgoalOf answerOf after following subgoalAt answerAt noSubgoal noAnswer distinct prefixes union add has
-    allInits inits judged handedOn reading callable predicate taken storedOf compactForm areTerms pairForm formTerms front
+    allInits inits judged naming handedOn reading callable predicate taken storedOf compactForm areTerms pairForm formTerms front
     symbolic tokenOf items entered filled lastOf tailOf into inside collected whole reads begun applied paired shapeOf
     arityOf every compact elements pairs numbered renamed met seen rank same
 loads-differ Open [] ms a b e = let a′ : at 1 ≡ noneYet = a in let z : _≡_ {A = ℕ} 0 1 = cc in omega arith
@@ -70,7 +70,7 @@ loads-differ x (n ∷ ns) (m ∷ ms) a b e =
 
 exchanged : Exchanged numberStored (fresh 9 2 2) (bothWith toFirst toSecond) (bothWith toSecond toFirst)
 unfolding left trace step counted settled called answered fits appended nodes answerNodes answersTo number subgoalOf answerOf
-    subgoalAt answerAt noSubgoal noAnswer distinct prefixes union add has allInits inits judged handedOn reading
+    subgoalAt answerAt noSubgoal noAnswer distinct prefixes union add has allInits inits judged naming handedOn reading
     callable predicate taken storedOf compactForm areTerms pairForm formTerms front symbolic tokenOf items entered filled
     lastOf tailOf into inside collected whole reads begun applied paired shapeOf arityOf every compact elements pairs
     numbered renamed met seen rank same
@@ -82,7 +82,7 @@ exchanged = behind _ _ _ _ (behind _ _ _ _ (exchange _ _ _ _ _ _ (record {
 
 number-stored : ArrivalOrder numberStored counted (fresh 9 2 2) → ⊥
 unfolding left step counted settled called answered fits appended nodes answerNodes answersTo number subgoalOf answerOf
-    subgoalAt answerAt noSubgoal noAnswer distinct prefixes union add has allInits inits judged handedOn reading
+    subgoalAt answerAt noSubgoal noAnswer distinct prefixes union add has allInits inits judged naming handedOn reading
     callable predicate taken storedOf compactForm areTerms pairForm formTerms front symbolic tokenOf items entered filled
     lastOf tailOf into inside collected whole reads begun applied paired shapeOf arityOf every compact elements pairs
     numbered renamed met seen rank same
@@ -95,7 +95,7 @@ number-stored h =
 
 exchanged-own : Exchanged (step (codingOf 1)) (fresh 9 2 2) (bothWith toFirst toSecond) (bothWith toSecond toFirst)
 unfolding left trace step counted settled called answered fits appended nodes answerNodes answersTo number subgoalOf answerOf
-    subgoalAt answerAt noSubgoal noAnswer distinct prefixes union add has allInits inits judged handedOn reading
+    subgoalAt answerAt noSubgoal noAnswer distinct prefixes union add has allInits inits judged naming handedOn reading
     callable predicate taken storedOf compactForm areTerms pairForm formTerms front symbolic tokenOf items entered filled
     lastOf tailOf into inside collected whole reads begun applied paired shapeOf arityOf every compact elements pairs
     numbered renamed met seen rank same
@@ -107,7 +107,7 @@ exchanged-own = behind _ _ _ _ (behind _ _ _ _ (exchange _ _ _ _ _ _ (record {
 
 last-counted : ArrivalOrder (step (codingOf 1)) lastCounted (fresh 9 2 2) → ⊥
 unfolding left step settled called answered fits appended nodes answerNodes answersTo number subgoalOf answerOf subgoalAt
-    answerAt noSubgoal noAnswer distinct prefixes union add has allInits inits judged handedOn reading callable
+    answerAt noSubgoal noAnswer distinct prefixes union add has allInits inits judged naming handedOn reading callable
     predicate taken storedOf compactForm areTerms pairForm formTerms front symbolic tokenOf items entered filled lastOf
     tailOf into inside collected whole reads begun applied paired shapeOf arityOf every compact elements pairs
     numbered renamed met seen rank same

@@ -14,7 +14,7 @@ use Rattle.forms.specs.Numbering.{met, renamed, numbered}
 use Rattle.forms.specs.Compact.{same}
 use Rattle.forms.proofs.RoundTrip.{same-true}
 use Rattle.plain.specs.Words.{Word, has, common, most}
-use Rattle.plain.specs.Coding.{Coding, Reading, refused, accepted, codingOf}
+use Rattle.plain.specs.Coding.{Coding, Reading, refused, accepted, codingOf, naming}
 use Rattle.plain.specs.CodingLaws.{CodingLaws}
 use Rattle.plain.specs.Requests.{State, Open, call, Reason, oldAs, newPast, oldSubgoal, because, refused, new, lent}
 use Rattle.plain.specs.Table.{Table, Subgoal, noSubgoal, subgoalAt, calledForms, number, subgoalOf, withSubgoal, called, sharing, newness, reasoned, step}
@@ -207,11 +207,11 @@ module _ (c : Coding) (laws : CodingLaws c) (t : Table) (sound : Sound c t) (cs 
     says-new h = rw (subgoalOf-none t w h)
 
     call-old : has (calledForms (t .subgoals)) w ≡ true → step c t (call cs) .reply ≡ oldSubgoal (subgoalOf t w) (subgoalAt t (subgoalOf t w) .state)
-    unfolding step called
+    unfolding step called naming
     call-old h = let p = subgoalOf-some t w h in rw (e, ne-eqb (subgoalOf t w) 0 (λ z. omega (arith, p .low)))
 
     call-new : has (calledForms (t .subgoals)) w ≡ false → (i : ℕ) (y : State) → step c t (call cs) .reply ≡ oldSubgoal i y → ⊥
-    unfolding step called
+    unfolding step called naming
     call-new h i y = rw (e, subgoalOf-none t w h) (appended-cases (λ r. r .reply ≡ oldSubgoal i y → ⊥) t (withSubgoal t w m) (ltb (length (t .subgoals)) (t .F)) (suc (length (t .subgoals)))
         (λ full z. refused-not z) (λ room full z. refused-not z) (λ room free z. new-not z))
       where

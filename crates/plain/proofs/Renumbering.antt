@@ -10,9 +10,9 @@ use borrow.Author.Tests.{ne-eqb}
 use Rattle.basis.specs.Choice.{pick}
 use Rattle.basis.proofs.Cases.{by-cases}
 use Rattle.plain.specs.Words.{Word, has}
-use Rattle.plain.specs.Coding.{Coding, Reading, refused, accepted}
+use Rattle.plain.specs.Coding.{Coding, Reading, refused, accepted, naming}
 use Rattle.plain.specs.Joins.{Forms, declined, formed, joinOf}
-use Rattle.plain.specs.Requests.{State, Open, Finished, Request, call, answer, finish, next, load, instance}
+use Rattle.plain.specs.Requests.{State, Open, Finished, Request, callLeast, answer, finish, next, load, instance}
 use Rattle.plain.specs.Requests.{counts, join, why, detours, Reply, used, joined, refused, Result}
 use Rattle.plain.specs.Table.{Table, Answer, subgoalAt, answersTo, answerNodes, nodes, calledForms, counted}
 use Rattle.plain.specs.Table.{subgoalOf, answerOf, withSubgoal, withAnswer, withFinished, settled, withEntry, stays, becomes, known}
@@ -258,7 +258,7 @@ leaves-parallel t u h f e r p a b = record { replies = e (r .reply) (p .reply); 
 module _ (c : Coding) (t : Table) (l : List Answer) (many : length (t .answers) ≡ length l) (each : (s : ℕ) → answersTo (t .answers) s ≡ answersTo l s) where
   step-with : (q : Request) → Parallel (compared q) (step c t q) (step c (withAnswers t l) q)
   unfolding step compared
-  step-with (call cs) = called-parallel t l many each (c .called cs)
+  step-with (callLeast cs x) = called-parallel t l many each (naming x (c .called cs))
   step-with (answer s cs) =
       known-parallel t l many each unnumbered [] (length (t .subgoals)) s _ _
       (unfold subgoalAt in answered-parallel t l many each s (c .answered (subgoalAt t s .m) cs))

@@ -29,6 +29,7 @@ use Rattle.plain.proofs.NextLaws.{visiting}
 use Rattle.plain.proofs.Endings.{Silent, left-silent, ending}
 use Rattle.plain.proofs.JoinLaws.{join-given}
 use Rattle.plain.proofs.JoinRefusals.{join-refusing}
+use Rattle.plain.proofs.Naming.{naming-none}
 
 -- ---- calls that give a number
 
@@ -62,7 +63,7 @@ module _ (c : Coding) (cs : List ℕ) where
 
   call-stores : (t : Table) → CallStores (step c t (call cs))
   unfolding step
-  call-stores t = called-stores t (c .called cs) refl
+  call-stores t = rw (naming-none (c .called cs)) (called-stores t (c .called cs) refl)
 
   -- answer i to subgoal s has the form that the lent cells were read to
   pub record Holds (t : Table) (s i : ℕ) : Type 0 where

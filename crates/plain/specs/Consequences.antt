@@ -70,7 +70,7 @@ OldOrRefused r = ((i : ℕ) × (r ≡ oldAnswer i)) ⊎ ((k : ℕ) × (r ≡ ref
 
 -- the numbers of the refusals that the plain table knows
 abbrev pub Known : ℕ → Type 0
-Known r = ((3 ≤ r) × (r ≤ 8)) ⊎ (((10 ≤ r) × (r ≤ 12)) ⊎ (((14 ≤ r) × (r ≤ 16)) ⊎ (r ≡ 22)))
+Known r = ((3 ≤ r) × (r ≤ 8)) ⊎ (((10 ≤ r) × (r ≤ 12)) ⊎ (((14 ≤ r) × (r ≤ 16)) ⊎ ((21 ≤ r) × (r ≤ 22))))
 
 -- and those that a join knows
 abbrev pub JoinKnown : ℕ → Type 0

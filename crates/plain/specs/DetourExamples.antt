@@ -14,7 +14,7 @@ use Rattle.forms.specs.Compact as forms
 use Rattle.forms.specs.Stored.{storedOf}
 use Rattle.forms.specs.Converting.{reading}
 use Rattle.plain.specs.Words.{has, add, union, inits, allInits, prefixes, distinct}
-use Rattle.plain.specs.Coding.{judged, handedOn, predicate, taken, codingOf}
+use Rattle.plain.specs.Coding.{judged, naming, handedOn, predicate, taken, codingOf}
 use Rattle.plain.specs.Requests.{Request, call, answer, finish, detours, noneFound, found, Reply}
 use Rattle.plain.specs.Requests.{done, detoured, refused, trace, left}
 use Rattle.plain.specs.Detours.{Option, diverts, totalOf, better, trying, tries, search, detour, oneCell, offers}
@@ -137,7 +137,7 @@ unfolding trace left step counted settled called answered fits appended liveAnsw
     anyOpen fewGoals goalsFit allOffer offers oneCell detour search tries trying better totalOf diverts noneTwice
     eachBefore choices passing leastOf looksAlong looks madeWhole fewest minima nodes answerNodes answersTo number
     subgoalOf answerOf subgoalAt answerAt noSubgoal noAnswer distinct prefixes union add has allInits inits judged
-    handedOn reading callable predicate taken storedOf compactForm areTerms pairForm formTerms front symbolic tokenOf
-    items entered filled lastOf tailOf into inside collected forms.whole reads begun applied paired shapeOf arityOf
-    every compact elements pairs numbered renamed met seen rank same
+    naming handedOn reading callable predicate taken storedOf compactForm areTerms pairForm formTerms front symbolic
+    tokenOf items entered filled lastOf tailOf into inside collected forms.whole reads begun applied paired shapeOf
+    arityOf every compact elements pairs numbered renamed met seen rank same
 detour-examples = ((refl, refl, refl), (refl, refl, refl, refl, refl))

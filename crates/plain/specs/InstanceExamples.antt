@@ -11,7 +11,7 @@ use Rattle.forms.specs.Compact.{whole, entered, items, front, formTerms, pairFo
 use Rattle.forms.specs.Converting.{reading}
 use Rattle.forms.specs.Stored.{storedOf}
 use Rattle.plain.specs.Words.{has, add, union, inits, allInits, prefixes, distinct}
-use Rattle.plain.specs.Coding.{judged, handedOn, predicate, taken, substituted, codingOf}
+use Rattle.plain.specs.Coding.{judged, naming, handedOn, predicate, taken, substituted, codingOf}
 use Rattle.plain.specs.Requests.{Request, call, answer, instance, Reply, new, cells, refused, short, Seen, trace}
 use Rattle.plain.specs.Table.{settled, fresh, noSubgoal, noAnswer, subgoalAt, answerAt, answersTo, answerNodes}
 use Rattle.plain.specs.Table.{nodes, counted, number, subgoalOf, answerOf, after, following, fits, appended}
@@ -62,8 +62,8 @@ Instances =
 pub instances : Instances
 unfolding replaced termCells instantiated trace step counted settled called answered fits appended starting onward
     writes nodes answerNodes answersTo number subgoalOf answerOf after following subgoalAt answerAt noSubgoal noAnswer
-    distinct prefixes union add has allInits inits judged handedOn reading callable predicate taken storedOf substituted
-    compactForm areTerms pairForm formTerms front symbolic tokenOf items entered filled lastOf tailOf into inside
-    collected whole reads begun applied paired shapeOf arityOf every compact elements pairs numbered renamed met seen
-    rank same
+    distinct prefixes union add has allInits inits judged naming handedOn reading callable predicate taken storedOf
+    substituted compactForm areTerms pairForm formTerms front symbolic tokenOf items entered filled lastOf tailOf into
+    inside collected whole reads begun applied paired shapeOf arityOf every compact elements pairs numbered renamed met
+    seen rank same
 instances = (refl, refl, refl, refl, refl)

@@ -12,7 +12,7 @@ use Rattle.forms.specs.Compact.{whole, entered, items, front, formTerms, pairFo
 use Rattle.forms.specs.Converting.{reading}
 use Rattle.forms.specs.Stored.{storedOf}
 use Rattle.plain.specs.Words.{has, add, union, inits, allInits, prefixes, distinct}
-use Rattle.plain.specs.Coding.{judged, handedOn, predicate, taken, codingOf}
+use Rattle.plain.specs.Coding.{judged, naming, handedOn, predicate, taken, codingOf}
 use Rattle.plain.specs.Requests.{Request, call, answer, finish, next, load, counts, join, Reply, new, done, at}
 use Rattle.plain.specs.Requests.{noneYet, noMore, cells, used, joined, refused, trace}
 use Rattle.plain.specs.Joins.{pairsNamed, copiesNamed, named, matching, copied, along, combined, before}
@@ -142,7 +142,7 @@ pub join-examples : Joined × Refused × Long
 unfolding settled trace step counted called answered fits appended writes sideOf joining table.given table.entered
     table.starting table.onward table.after table.following nodes answerNodes answersTo number subgoalOf answerOf
     subgoalAt answerAt noSubgoal noAnswer distinct prefixes union add has allInits inits pairsNamed copiesNamed named
-    matching copied along combined before allRead ground joinOf judged handedOn reading callable predicate taken
+    matching copied along combined before allRead ground joinOf judged naming handedOn reading callable predicate taken
     storedOf compactForm areTerms pairForm formTerms front symbolic tokenOf items entered filled lastOf tailOf into
     inside collected whole reads begun applied paired shapeOf arityOf every compact elements pairs numbered renamed met
     seen rank same

@@ -11,10 +11,10 @@ use lib.Dec.{eqb}
 use lib.ListN.{length}
 use Rattle.basis.specs.Choice.{pick}
 use Rattle.plain.specs.Coding.{Coding}
-use Rattle.plain.specs.Requests.{State, Request, call, answer, finish, next, load, instance, counts, join, why}
-use Rattle.plain.specs.Requests.{detours, Counts, Reply, new, oldSubgoal, oldAnswer, done, at, noneYet, noMore}
-use Rattle.plain.specs.Requests.{cells, used, joined, because, Best, noneFound, found, detoured, refused, short}
-use Rattle.plain.specs.Requests.{lacksNext, Result, Seen, trace, left}
+use Rattle.plain.specs.Requests.{State, Request, callLeast, answer, finish, next, load, instance, counts, join}
+use Rattle.plain.specs.Requests.{why, detours, Counts, Reply, new, oldSubgoal, oldAnswer, done, at, noneYet}
+use Rattle.plain.specs.Requests.{noMore, cells, used, joined, because, Best, noneFound, found, detoured, refused}
+use Rattle.plain.specs.Requests.{short, lacksNext, Result, Seen, trace, left}
 use Rattle.plain.specs.Table.{Table, fresh, answersTo, counted, step}
 use Rattle.plain.specs.Consequences.{Gives, reached}
 
@@ -71,7 +71,7 @@ unnumbered (short n) = short 0
 -- and why the whole reply: a subgoal's number and state, how many answers of a join are new, every reason and every
 -- refusal. Nothing of the calls that are given an answer number.
 unfoldable pub compared : Request → Reply → Reply
-compared (call cs) r = r
+compared (callLeast cs x) r = r
 compared (answer s cs) r = unnumbered r
 compared (finish s) r = r
 compared (next s a) r = done
@@ -84,7 +84,7 @@ compared (detours gs b) r = unnumbered r
 
 -- false for an answer to another subgoal than i, true for every other call
 unfoldable pub concerns : ℕ → Request → Bool
-concerns i (call cs) = true
+concerns i (callLeast cs x) = true
 concerns i (answer x cs) = eqb x i
 concerns i (finish x) = true
 concerns i (next x a) = true

@@ -15,7 +15,7 @@ use Rattle.forms.specs.Compact.{entered, items, front, formTerms, pairForm, sam
 use Rattle.forms.specs.Converting.{reading}
 use Rattle.forms.specs.Stored.{storedOf}
 use Rattle.plain.specs.Words.{has, add, union, inits, allInits, prefixes, distinct}
-use Rattle.plain.specs.Coding.{judged, handedOn, predicate, taken, codingOf}
+use Rattle.plain.specs.Coding.{judged, naming, handedOn, predicate, taken, codingOf}
 use Rattle.plain.specs.Requests.{Request, call, answer, finish, counts, join, Counts}
 use Rattle.plain.specs.Requests.{Reply, new, oldAnswer, done, used, joined, refused, Result, trace}
 use Rattle.plain.specs.Joins.{pairsNamed, copiesNamed, named, matching, copied, along, combined, before, allRead}
@@ -96,10 +96,10 @@ Arrivals =
 pub arrivals : Arrivals
 unfolding heard concerns compared unnumbered trace step counted settled called answered fits appended answerAt nodes
     answerNodes answersTo number subgoalOf answerOf subgoalAt noSubgoal noAnswer distinct prefixes union add has
-    allInits inits judged handedOn reading callable predicate taken storedOf compactForm areTerms pairForm formTerms
-    front symbolic tokenOf items entered filled lastOf tailOf into inside collected whole reads begun applied paired
-    shapeOf arityOf every compact elements pairs numbered renamed met seen rank same sideOf joining joinOf table.given
-    table.entered pairsNamed copiesNamed named matching copied along combined before allRead ground
+    allInits inits judged naming handedOn reading callable predicate taken storedOf compactForm areTerms pairForm
+    formTerms front symbolic tokenOf items entered filled lastOf tailOf into inside collected whole reads begun applied
+    paired shapeOf arityOf every compact elements pairs numbered renamed met seen rank same sideOf joining joinOf
+    table.given table.entered pairsNamed copiesNamed named matching copied along combined before allRead ground
 arrivals = (
   refl,
   refl,

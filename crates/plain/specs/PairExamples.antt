@@ -11,7 +11,7 @@ use Rattle.forms.specs.Compact.{whole, entered, items, front, formTerms, pairFo
 use Rattle.forms.specs.Stored.{legalPairs, storedOf}
 use Rattle.forms.specs.Converting.{reading}
 use Rattle.plain.specs.Words.{has, add, union, inits, allInits, prefixes, distinct}
-use Rattle.plain.specs.Coding.{judged, handedOn, predicate, taken, substituted, codingOf}
+use Rattle.plain.specs.Coding.{judged, naming, handedOn, predicate, taken, substituted, codingOf}
 use Rattle.plain.specs.Requests.{Request, call, answer, load, counts, Seen, new, oldAnswer, cells, used, refused}
 use Rattle.plain.specs.Requests.{trace}
 use Rattle.plain.specs.Table.{noSubgoal, noAnswer, subgoalAt, answerAt, answersTo, answerNodes, nodes, counted}
@@ -56,7 +56,7 @@ EditionsBeside =
 
 pub editions-beside : EditionsBeside
 unfolding trace step counted settled called answered fits appended writes nodes answerNodes answersTo number subgoalOf
-    answerOf subgoalAt answerAt noSubgoal noAnswer distinct prefixes union add has allInits inits judged handedOn
+    answerOf subgoalAt answerAt noSubgoal noAnswer distinct prefixes union add has allInits inits judged naming handedOn
     reading callable predicate taken storedOf legalPairs legalForm areForms substituted compactForm areTerms pairForm
     formTerms front symbolic tokenOf items entered filled lastOf tailOf into inside collected whole reads begun
     applied paired shapeOf arityOf every compact elements pairs numbered renamed met seen rank same

@@ -10,7 +10,7 @@ use Rattle.forms.specs.Compact.{whole, entered, items, front, formTerms, pairFo
 use Rattle.forms.specs.Stored.{storedOf}
 use Rattle.forms.specs.Converting.{reading}
 use Rattle.plain.specs.Words.{has, add, union, inits, allInits, prefixes, distinct, common, most}
-use Rattle.plain.specs.Coding.{judged, handedOn, predicate, taken, codingOf}
+use Rattle.plain.specs.Coding.{judged, naming, handedOn, predicate, taken, codingOf}
 use Rattle.plain.specs.Requests.{Request, call, why, oldAs, newPast, Reply, new, because, refused, trace}
 use Rattle.plain.specs.Table.{Table, fresh, noSubgoal, subgoalAt, answersTo, answerNodes, nodes, counted, number}
 use Rattle.plain.specs.Table.{subgoalOf, fits, appended, called, sharing, newness, reasoned, step, tableTrace}
@@ -64,8 +64,8 @@ Reasons =
 
 pub reasons : Reasons
 unfolding trace step counted called fits appended sharing newness reasoned nodes answerNodes answersTo number subgoalOf
-    subgoalAt noSubgoal distinct prefixes union add has allInits inits common most judged handedOn reading callable
-    predicate taken storedOf compactForm areTerms pairForm formTerms front symbolic tokenOf items entered filled lastOf
-    tailOf into inside collected whole reads begun applied paired shapeOf arityOf every compact elements pairs numbered
-    renamed met seen rank same
+    subgoalAt noSubgoal distinct prefixes union add has allInits inits common most judged naming handedOn reading
+    callable predicate taken storedOf compactForm areTerms pairForm formTerms front symbolic tokenOf items entered
+    filled lastOf tailOf into inside collected whole reads begun applied paired shapeOf arityOf every compact elements
+    pairs numbered renamed met seen rank same
 reasons = (refl, refl)

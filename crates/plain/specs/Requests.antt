@@ -7,10 +7,11 @@ pub data State : Type 0 where
   Open : State
   Finished : State
 
--- A call with its numbers and the cells lent to it. Load and instance are lent out; the others get none. Two cells
--- are a pair of a join (a variable of the first, one of the second), and two a copy (a side, 0 or 1, and a variable).
+-- A call with its numbers and the cells lent to it. Load and instance are lent out; the others get none. A call may
+-- name one variable of its term least, by its cell; 0 names none. Two cells are a pair of a join (a variable of the
+-- first, one of the second), and two a copy (a side, 0 or 1, and a variable).
 pub data Request : Type 0 where
-  call : (term : List ℕ) → Request
+  callLeast : (term : List ℕ) (least : ℕ) → Request
   answer : (subgoal : ℕ) (terms : List ℕ) → Request
   finish : (subgoal : ℕ) → Request
   next : (subgoal a : ℕ) → Request
@@ -20,6 +21,10 @@ pub data Request : Type 0 where
   join : (first second : ℕ) (pairs : List ℕ) (target : ℕ) (copies : List ℕ) → Request
   why : (term : List ℕ) → Request
   detours : (goals : List ℕ) (budget : ℕ) → Request
+
+-- a call that names no variable least
+abbrev pub call : List ℕ → Request
+call cs = callLeast cs 0
 
 -- nodes, subgoals and answers used
 pub record Counts : Type 0 where
@@ -76,7 +81,7 @@ pub record Result (S : Type 0) : Type 0 where
 
 -- out as lent
 unfoldable pub lent : Request → List ℕ
-lent (call cs) = []
+lent (callLeast cs x) = []
 lent (answer s cs) = []
 lent (finish s) = []
 lent (next s a) = []

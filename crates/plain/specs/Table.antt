@@ -8,10 +8,10 @@ use Rattle.basis.specs.Choice.{pick}
 use Rattle.forms.specs.Numbering.{met}
 use Rattle.forms.specs.Compact.{same}
 use Rattle.plain.specs.Words.{Word, trieNodes, common, most}
-use Rattle.plain.specs.Coding.{Coding, Reading, refused, accepted, codingOf}
+use Rattle.plain.specs.Coding.{Coding, Reading, refused, accepted, codingOf, naming}
 use Rattle.plain.specs.Joins.{Forms, declined, formed, Side, joinOf}
 use Rattle.plain.specs.Detours.{Live, Goal, detoursOf, allWithin}
-use Rattle.plain.specs.Requests.{State, Open, Finished, Request, call, answer, finish, next, load, instance}
+use Rattle.plain.specs.Requests.{State, Open, Finished, Request, callLeast, answer, finish, next, load, instance}
 use Rattle.plain.specs.Requests.{counts, join, why, detours, Counts, Reason, oldAs, newPast, Reply, new}
 use Rattle.plain.specs.Requests.{oldSubgoal, oldAnswer, done, at, cells, used, joined, because, refused, short}
 use Rattle.plain.specs.Requests.{lacksNext, Result, Seen, trace}
@@ -263,7 +263,7 @@ detouring c t gs budget =
 
 -- what each call leaves; 7 is checked before the cells are read, a join's 8 too
 unfoldable pub step : Coding → Table → Request → Result Table
-step c t (call cs) = called t (c .called cs)
+step c t (callLeast cs x) = called t (naming x (c .called cs))
 step c t (answer s cs) =
     known t [] (length (t .subgoals)) s (answered t s (c .answered (subgoalAt t s .m) cs))
 step c t (finish s) = known t [] (length (t .subgoals)) s (becomes (withFinished t s) done)

@@ -12,7 +12,7 @@ use Rattle.basis.specs.Choice.{pick}
 use Rattle.basis.specs.Editions.{knownEdition}
 use Rattle.basis.proofs.Cases.{by-cases}
 use Rattle.forms.specs.Compact.{same}
-use Rattle.plain.specs.Requests.{Request, call, answer, finish, next, load, instance, counts, join, why, detours, lent}
+use Rattle.plain.specs.Requests.{Request, callLeast, call, answer, finish, next, load, instance, counts, join, why, detours, lent}
 use Rattle.space.specs.Layout.{sizesOf, subgoalWidth, answerWidth}
 use Rattle.space.specs.Heading.{inRange}
 use Rattle.space.specs.Fresh.{freshFits, freshAnswer, freshAnswerIn}
@@ -69,7 +69,7 @@ Lends out bad = Unit {0}
 Lends out (asks q) = length (outLeft q out (lent q)) ≡ length out
 
 left-alike : (q : Request) (out o p : List ℕ) → length o ≡ length p → length (outLeft q out o) ≡ length (outLeft q out p)
-left-alike (call cs) out o p e = refl
+left-alike (callLeast cs x) out o p e = refl
 left-alike (answer s cs) out o p e = refl
 left-alike (finish s) out o p e = refl
 left-alike (next s a) out o p e = refl

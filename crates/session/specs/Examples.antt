@@ -12,7 +12,7 @@ use Rattle.forms.specs.Terms.{pairs, every, applied, paired, begun, reads, areT
 use Rattle.forms.specs.Converting.{reading}
 use Rattle.forms.specs.Compact.{areForms, legalForm}
 use Rattle.forms.specs.Stored.{storedOf}
-use Rattle.plain.specs.Coding.{judged, handedOn, predicate, taken, substituted}
+use Rattle.plain.specs.Coding.{judged, naming, handedOn, predicate, taken, substituted}
 use Rattle.space.specs.Layout.{sizesOf, endOffset, subgoalWidth, answerWidth}
 use Rattle.space.specs.Heading.{inRange, capacity, whole, counted, headerOf, spaceHeader}
 use Rattle.space.specs.Fresh.{freshCells, freshFits, freshSpace, freshSpaceIn}
@@ -121,8 +121,8 @@ unfolding linesFrom session saidOf means wordMeans fields valueFrom numeral hexC
     freshSpace freshSpaceIn follows nodeSound bothOrNeither subgoalSound answerSound searchSiblings searchChildren
     walkFromBy walkBy gather leadCell appendNode appendPath calledOld calledNew calledAt calledBy answeredNew
     answeredOld answeredAt answeredBy starting handed onward onPath loaded instanced decideBy subgoalEntered
-    answerEntered changeBy reply outAfter underBy underAnyBy spaceStepBy areForms legalForm judged handedOn reading
-    callable predicate taken storedOf substituted compactForm areTerms pairForm formTerms front symbolic tokenOf items
-    entered filled lastOf tailOf into inside collected reads begun applied paired shapeOf arityOf every compact
+    answerEntered changeBy reply outAfter underBy underAnyBy spaceStepBy areForms legalForm judged naming handedOn
+    reading callable predicate taken storedOf substituted compactForm areTerms pairForm formTerms front symbolic tokenOf
+    items entered filled lastOf tailOf into inside collected reads begun applied paired shapeOf arityOf every compact
     elements pairs numbered renamed met seen rank same whole
 worked = refl

@@ -10,9 +10,9 @@ use Rattle.basis.proofs.Cases.{by-cases}
 use Rattle.forms.specs.Numbering.{met}
 use Rattle.plain.specs.Words.{Word}
 use Rattle.plain.specs.Coding as coding
-use Rattle.plain.specs.Coding.{Coding, codingOf, Reading}
+use Rattle.plain.specs.Coding.{Coding, codingOf, Reading, naming}
 use Rattle.plain.specs.Joins.{Forms, declined, formed, joinOf}
-use Rattle.plain.specs.Requests.{Request, Reply, Result, call, answer, finish, next, load, instance, counts, join, why, detours}
+use Rattle.plain.specs.Requests.{Request, Reply, Result, callLeast, answer, finish, next, load, instance, counts, join, why, detours}
 use Rattle.space.specs.Layout.{Sizes, sizesOf}
 use Rattle.space.specs.Heading.{headerOf, spaceHeader}
 use Rattle.space.specs.declared.Head.{Head}
@@ -80,7 +80,7 @@ module _ (c : Coding) (find : Finding) (v : View) (call-walks : (w : Word) → w
 
   pub decide-alike : (q : Request) → decideBy find c v q ≡ decide c v q
   unfolding decideBy
-  decide-alike (call ks) = called-alike (c .called ks)
+  decide-alike (callLeast ks x) = called-alike (naming x (c .called ks))
   decide-alike (answer s ks) = known-alike (v .subgoals) s _ _ (λ low high. rw (answered-alike s low high (c .answered (v .subgoal s .variables) ks)))
   decide-alike (finish s) = refl
   decide-alike (next s a) = refl

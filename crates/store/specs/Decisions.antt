@@ -9,10 +9,10 @@ use lib.ListN.{length}
 use Rattle.basis.specs.Choice.{pick}
 use Rattle.forms.specs.Numbering.{met}
 use Rattle.plain.specs.Words.{Word, has, most}
-use Rattle.plain.specs.Coding.{Coding, Reading, refused, accepted}
-use Rattle.plain.specs.Requests.{State, Open, Finished, Request, call, answer, finish, next, load, instance, counts}
-use Rattle.plain.specs.Requests.{Reply, oldSubgoal, oldAnswer, at, used, refused}
-use Rattle.plain.specs.Requests.{lacksNext, join, why, detours, oldAs, newPast, because}
+use Rattle.plain.specs.Coding.{Coding, Reading, refused, accepted, naming}
+use Rattle.plain.specs.Requests.{State, Open, Finished, Request, callLeast, answer, finish, next, load, instance}
+use Rattle.plain.specs.Requests.{counts, Reply, oldSubgoal, oldAnswer, at, used, refused, lacksNext, join, why, detours}
+use Rattle.plain.specs.Requests.{oldAs, newPast, because}
 use Rattle.plain.specs.Joins.{Forms, declined, formed, Side, joinOf}
 use Rattle.plain.specs.Detours.{Live, Goal, detoursOf, allWithin}
 use Rattle.space.specs.Judging.{subgoalSound, answerSound}
@@ -344,7 +344,7 @@ detoursIn c (goals gs) budget = says (detoursOf c gs budget)
 -- ---- the ten calls
 
 unfoldable pub decideBy : Finding → Coding → View → Request → Decision
-decideBy find c v (call cs) = calledBy find v (c .called cs)
+decideBy find c v (callLeast cs x) = calledBy find v (naming x (c .called cs))
 decideBy find c v (answer s cs) =
     known (v .subgoals) s
     (sound (soundSubgoal v s && rootSound (answerTrie v) (v .subgoal s .root))

@@ -11,7 +11,7 @@ use Rattle.forms.specs.Compact.{compact, elements, compactForm, filled, lastOf,
 use Rattle.forms.specs.Compact.{entered, items, front, formTerms, pairForm, same, areForms, legalForm}
 use Rattle.forms.specs.Stored.{storedOf}
 use Rattle.forms.specs.Converting.{reading}
-use Rattle.plain.specs.Coding.{judged, handedOn, predicate, taken, codingOf}
+use Rattle.plain.specs.Coding.{judged, naming, handedOn, predicate, taken, codingOf}
 use Rattle.plain.specs.Requests.{Request, detours, Reply, refused, lent, trace, left}
 use Rattle.plain.specs.Detours.{diverts, totalOf, better, trying, tries, search, detour, oneCell, offers, allOffer}
 use Rattle.plain.specs.Detours.{goalsFit, anyOpen, fewGoals, detoursOf, allWithin}
@@ -60,7 +60,7 @@ unfolding trace left lent inRange capacity counted headerOf subgoalWidth answerW
     appendPath calledOld calledNew calledAt calledBy answeredNew answeredOld answeredAt answeredBy livesBehind livesFrom
     goalBefore goalsIn detoursIn decideBy subgoalEntered answerEntered changeBy reply outAfter underBy cellStep diverts
     totalOf better trying tries search detour oneCell offers allOffer goalsFit anyOpen fewGoals detoursOf allWithin
-    areForms legalForm judged handedOn reading callable predicate taken storedOf compactForm areTerms pairForm formTerms
-    front symbolic tokenOf items entered filled lastOf tailOf into inside collected reads begun applied paired shapeOf
-    arityOf every compact elements pairs numbered renamed met seen rank same whole
+    areForms legalForm judged naming handedOn reading callable predicate taken storedOf compactForm areTerms pairForm
+    formTerms front symbolic tokenOf items entered filled lastOf tailOf into inside collected reads begun applied paired
+    shapeOf arityOf every compact elements pairs numbered renamed met seen rank same whole
 detour-examples = (refl, refl, refl, refl)

@@ -12,7 +12,7 @@ use Rattle.forms.specs.Compact.{entered, items, front, formTerms, pairForm, sam
 use Rattle.forms.specs.Converting.{reading}
 use Rattle.forms.specs.Compact.{areForms, legalForm}
 use Rattle.forms.specs.Stored.{storedOf}
-use Rattle.plain.specs.Coding.{judged, handedOn, predicate, taken, substituted, codingOf}
+use Rattle.plain.specs.Coding.{judged, naming, handedOn, predicate, taken, substituted, codingOf}
 use Rattle.plain.specs.Requests.{Request, call, answer, counts}
 use Rattle.plain.specs.Requests.{Reply, new, oldAnswer, used, refused, Seen}
 use Rattle.plain.specs.Requests.{lent, trace}
@@ -79,7 +79,7 @@ unfolding trace lent inRange capacity counted knownEdition headerOf spaceHeader 
     follows nodeSound bothOrNeither subgoalSound answerSound searchSiblings searchChildren walkFromBy walkBy gather
     leadCell appendNode appendPath calledOld calledNew calledAt calledBy answeredNew answeredOld answeredAt answeredBy
     starting handed onward onPath loaded instanced decideBy subgoalEntered answerEntered changeBy reply outAfter underBy
-    underAnyBy spaceStepBy cellStep areForms legalForm judged handedOn reading callable predicate taken storedOf
+    underAnyBy spaceStepBy cellStep areForms legalForm judged naming handedOn reading callable predicate taken storedOf
     substituted compactForm areTerms pairForm formTerms front symbolic tokenOf items entered filled lastOf tailOf into
     inside collected reads begun applied paired shapeOf arityOf every compact elements pairs numbered renamed met seen
     rank same whole

@@ -12,7 +12,7 @@ use Rattle.forms.specs.Converting.{reading}
 use Rattle.forms.specs.Compact.{areForms, legalForm}
 use Rattle.forms.specs.Stored.{storedOf}
 use Rattle.plain.specs.Words.{has, common, most}
-use Rattle.plain.specs.Coding.{judged, handedOn, predicate, taken, codingOf}
+use Rattle.plain.specs.Coding.{judged, naming, handedOn, predicate, taken, codingOf}
 use Rattle.plain.specs.Requests.{Request, call, next, load, counts, join, Reply, new, at, noneYet, cells, used}
 use Rattle.plain.specs.Requests.{joined, refused, lent, trace, left}
 use Rattle.plain.specs.Joins.{pairsNamed, copiesNamed, named, matching, copied, along, combined, before, allRead}
@@ -75,9 +75,9 @@ unfolding trace left lent inRange capacity counted headerOf subgoalWidth answerW
     bothOrNeither subgoalSound answerSound searchSiblings searchChildren walkFromBy walkBy gather leadCell appendNode
     appendPath calledOld calledNew calledAt calledBy answeredNew answeredOld answeredAt answeredBy starting handed
     onward onPath loaded instanced headed chainFrom onChains sideIn metSound allSoundBy lacking missing nodesNeededBy
-    answersNeededBy joiningBy decideBy subgoalEntered answerEntered answerGiven formGivenBy formsGivenBy changeBy
-    reply outAfter underBy cellStep pairsNamed copiesNamed named matching copied along combined before allRead ground
-    joinOf has common most areForms legalForm judged handedOn reading callable predicate taken storedOf compactForm
+    answersNeededBy joiningBy decideBy subgoalEntered answerEntered answerGiven formGivenBy formsGivenBy changeBy reply
+    outAfter underBy cellStep pairsNamed copiesNamed named matching copied along combined before allRead ground joinOf
+    has common most areForms legalForm judged naming handedOn reading callable predicate taken storedOf compactForm
     areTerms pairForm formTerms front symbolic tokenOf items entered filled lastOf tailOf into inside collected reads
     begun applied paired shapeOf arityOf every compact elements pairs numbered renamed met seen rank same whole
 join-examples = ((refl, refl, refl, refl, refl), (refl, refl, refl, refl))

@@ -10,7 +10,7 @@ use Rattle.forms.specs.Compact.{compact, elements, compactForm, filled, lastOf,
 use Rattle.forms.specs.Compact.{entered, items, front, formTerms, pairForm, same}
 use Rattle.forms.specs.Stored.{storedOf}
 use Rattle.forms.specs.Converting.{reading}
-use Rattle.plain.specs.Coding.{judged, handedOn, predicate, taken, codingOf}
+use Rattle.plain.specs.Coding.{judged, naming, handedOn, predicate, taken, codingOf}
 use Rattle.plain.specs.Requests.{Request, call, why, newPast, Reply, new, because, refused, lent, trace, left}
 use Rattle.plain.specs.Examples.{atom, fun, three}
 use Rattle.plain.specs.ReasonExamples.{reasonCalls, reasonReplies}
@@ -64,7 +64,7 @@ pub why-examples : Asked
 unfolding trace left lent inRange capacity counted headerOf subgoalWidth answerWidth freshCells follows nodeSound
     bothOrNeither subgoalSound searchSiblings searchChildren walkFromBy walkBy leadCell appendNode appendPath calledOld
     calledNew calledAt calledBy firstsFrom namedBy newAt reasonedAt reasonedBy decideBy subgoalEntered changeBy reply
-    outAfter underBy cellStep judged handedOn reading callable predicate taken storedOf compactForm areTerms pairForm
-    formTerms front symbolic tokenOf items entered filled lastOf tailOf into inside collected reads begun applied
-    paired shapeOf arityOf every compact elements pairs numbered renamed met seen rank same whole
+    outAfter underBy cellStep judged naming handedOn reading callable predicate taken storedOf compactForm areTerms
+    pairForm formTerms front symbolic tokenOf items entered filled lastOf tailOf into inside collected reads begun
+    applied paired shapeOf arityOf every compact elements pairs numbered renamed met seen rank same whole
 why-examples = (refl, refl, refl, refl, refl, refl, refl, refl)

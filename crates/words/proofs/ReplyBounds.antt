@@ -19,8 +19,8 @@ use Rattle.forms.specs.declared.Reading as forms
 use Rattle.forms.specs.declared.Reading.the-variants.{Form, Refusal}
 use Rattle.forms.proofs.StoredLaws.{stored-of}
 use Rattle.forms.specs.Stored.{storedOf}
-use Rattle.plain.specs.Coding.{Reading, refused, accepted, handedOn, judged, predicate, taken, substituted, codingOf}
-use Rattle.plain.specs.Requests.{State, Open, Finished, Request, call, answer, finish, next, load, instance, counts, join, why, detours, lent, Reply, oldSubgoal, oldAnswer, at, lacksNext, refused}
+use Rattle.plain.specs.Coding.{Reading, refused, accepted, handedOn, judged, predicate, taken, substituted, codingOf, naming}
+use Rattle.plain.specs.Requests.{State, Open, Finished, Request, callLeast, answer, finish, next, load, instance, counts, join, why, detours, lent, Reply, oldSubgoal, oldAnswer, at, lacksNext, refused}
 use Rattle.plain.specs.Words.{Word}
 use Rattle.plain.specs.Detours.{anyOpen, fewGoals, goalsFit, detoursOf, allWithin}
 use Rattle.plain.specs.Joins.{Forms, declined, formed, joinOf}
@@ -43,6 +43,7 @@ use Rattle.store.specs.Decisions.{Decision, says, gives, entersSubgoal, entersA
 use Rattle.store.specs.Calls.{reply, underBy, underAnyBy, spaceStepBy}
 use Rattle.words.specs.Words.{saidFresh}
 use Rattle.words.specs.Bounded.{Bounded}
+use Rattle.plain.proofs.Naming.{naming-cases}
 
 -- ---- the cells of an instance
 
@@ -306,8 +307,10 @@ module _ (find : Finding) (ed : ℕ) where
 
   decide-small : (v : View) (q : Request) → Small (decideBy find (codingOf ed) v q)
   unfolding decideBy
-  decide-small v (call cs) =
-      small-called v ((codingOf ed) .called cs) (judged-small 1 cs (pick (predicate cs) (taken (storedOf ed) cs) (refused 6)) (callable-small (predicate cs) cs))
+  decide-small v (callLeast cs x) =
+      let r = (codingOf ed) .called cs in
+      small-called v (naming x r)
+      (naming-cases SmallReading x r (judged-small 1 cs (pick (predicate cs) (taken (storedOf ed) cs) (refused 6)) (callable-small (predicate cs) cs)) (omega arith))
   decide-small v (answer s cs) =
       let g = v .subgoal s in
       let r = (codingOf ed) .answered (g .variables) cs in
