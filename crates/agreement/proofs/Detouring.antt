@@ -14,7 +14,7 @@ use Rattle.plain.specs.CodingLaws.{CodingLaws}
 use Rattle.plain.specs.Requests.{detours, refused}
 use Rattle.plain.specs.Detours.{Live, allWithin, detoursOf}
 use Rattle.plain.specs.Table as table
-use Rattle.plain.specs.Table.{Table, noAnswer, answerAt, subgoalOfAnswer, after, liveAnswers, goalOf, detouring, step}
+use Rattle.plain.specs.Table.{Table, noAnswer, answerAt, subgoalOfAnswer, after, numberedAnswers, goalOf, detouring, step}
 use Rattle.plain.proofs.AfterLaws.{after-low, after-found, after-least, after-skip}
 use Rattle.plain.proofs.StoredForms.{answer-form-legal}
 use Rattle.trie.specs.Paths.{gather, longest}
@@ -55,8 +55,8 @@ module _ (c : Coding) (laws : CodingLaws c) (t : Table) (v : View) (S : Same c t
     answer-behind seen a rest e = rw e (getD-at (noAnswer ∷ seen) a rest noAnswer (suc (length seen)) refl)
 
     lives-rest : (seen rest : List table.Answer) (k : ℕ) → t .answers ≡ seen ++ rest → length rest ≤ k
-        → livesFrom c v s k (after (subgoalOfAnswer t) total (length seen) s) ≡ lives (liveAnswers s (suc (length seen)) rest)
-    unfolding liveAnswers
+        → livesFrom c v s k (after (subgoalOfAnswer t) total (length seen) s) ≡ lives (numberedAnswers s (suc (length seen)) rest)
+    unfolding numberedAnswers
     lives-rest seen [] k e fuel =
         let len : length (t .answers) ≡ length seen = ap length (e ∙ append-nil seen) in
         rw (after-low (subgoalOfAnswer t) total (length seen) s (omega arith)) (lives-end c v s k)
@@ -73,20 +73,20 @@ module _ (c : Coding) (laws : CodingLaws c) (t : Table) (v : View) (S : Same c t
         let least = after-least (subgoalOfAnswer t) total (length seen) s (suc (length seen)) (record { above = omega arith; below = omega arith; under = to }) in
         let found = after-found (subgoalOfAnswer t) total (length seen) s (least .0) in
         let x : after (subgoalOfAnswer t) total (length seen) s ≡ suc (length seen) = between (after (subgoalOfAnswer t) total (length seen) s) (length seen) (found .above) (least .1) in
-        let r : livesFrom c v s k (later t (suc (length seen)) s) ≡ lives (liveAnswers s (suc (suc (length seen))) rest) =
-        subst (λ (b : ℕ). livesFrom c v s k (after (subgoalOfAnswer t) total b s) ≡ lives (liveAnswers s (suc b) rest)) n (lives-rest (seen ++ (a ∷ [])) rest k e′ (omega arith)) in
-        rw (x, p) (lives-on k (suc (length seen)) (liveAnswers s (suc (suc (length seen))) rest) (omega arith) (omega arith) to r
-        ∙ ap (λ (y : table.Answer). lives (record { number = suc (length seen); form = y .form } ∷ liveAnswers s (suc (suc (length seen))) rest)) here))
+        let r : livesFrom c v s k (later t (suc (length seen)) s) ≡ lives (numberedAnswers s (suc (suc (length seen))) rest) =
+        subst (λ (b : ℕ). livesFrom c v s k (after (subgoalOfAnswer t) total b s) ≡ lives (numberedAnswers s (suc b) rest)) n (lives-rest (seen ++ (a ∷ [])) rest k e′ (omega arith)) in
+        rw (x, p) (lives-on k (suc (length seen)) (numberedAnswers s (suc (suc (length seen))) rest) (omega arith) (omega arith) to r
+        ∙ ap (λ (y : table.Answer). lives (record { number = suc (length seen); form = y .form } ∷ numberedAnswers s (suc (suc (length seen))) rest)) here))
         (λ p.
         let skip : after (subgoalOfAnswer t) total (length seen) s ≡ after (subgoalOfAnswer t) total (suc (length seen)) s =
         after-skip (subgoalOfAnswer t) total (length seen) s (λ z. eqb-false (a .subgoal) s p (sym own ∙ z)) in
         rw (p, skip)
-        (subst (λ (b : ℕ). livesFrom c v s (suc k) (after (subgoalOfAnswer t) total b s) ≡ lives (liveAnswers s (suc b) rest)) n (lives-rest (seen ++ (a ∷ [])) rest (suc k) e′ (omega arith))))
+        (subst (λ (b : ℕ). livesFrom c v s (suc k) (after (subgoalOfAnswer t) total b s) ≡ lives (numberedAnswers s (suc b) rest)) n (lives-rest (seen ++ (a ∷ [])) rest (suc k) e′ (omega arith))))
       where
         between : (x k : ℕ) → k < x → x ≤ suc k → x ≡ suc k
         between x k h l = omega arith
 
-    lives-forms : livesOf c v s ≡ lives (liveAnswers s 1 (t .answers))
+    lives-forms : livesOf c v s ≡ lives (numberedAnswers s 1 (t .answers))
     lives-forms = rw (S .subgoal s low high .first) (lives-rest [] (t .answers) (v .answers) refl (omega (arith, S .answers)))
 
   -- ---- the goals
@@ -96,7 +96,7 @@ module _ (c : Coding) (laws : CodingLaws c) (t : Table) (v : View) (S : Same c t
       (λ p. by-cases (leb s n) (λ q. (ltb-true _ _ p, leb-true _ _ q, rw (p, q) at e)) (λ q. absurd (false≢true (rw (p, q) at e))))
       (λ p. absurd (false≢true (rw p at e)))
 
-  goals-same : (ss : List ℕ) → allWithin (length (t .subgoals)) ss ≡ true → goalsIn c v ss ≡ goals (map (goalOf t) ss)
+  goals-same : (ss : List ℕ) → allWithin (length (t .subgoals)) ss ≡ true → goalsIn c v ss ≡ goals (map (goalOf c t) ss)
   unfolding goalsIn allWithin goalBefore goalOf
   goals-same [] e = refl
   goals-same (s ∷ ss) e =
@@ -114,5 +114,5 @@ module _ (c : Coding) (laws : CodingLaws c) (t : Table) (v : View) (S : Same c t
   detours-agrees ss b =
       let count : allWithin (v .subgoals) ss ≡ allWithin (length (t .subgoals)) ss = ap (λ (n : ℕ). allWithin n ss) (S .subgoals) in
       by-cases (allWithin (length (t .subgoals)) ss)
-      (λ e. let f : allWithin (v .subgoals) ss ≡ true = count ∙ e in rw (e, f, goals-same ss e) (agrees-says c t v S [] (detoursOf c (map (goalOf t) ss) b)))
+      (λ e. let f : allWithin (v .subgoals) ss ≡ true = count ∙ e in rw (e, f, goals-same ss e) (agrees-says c t v S [] (detoursOf c (map (goalOf c t) ss) b)))
       (λ e. let f : allWithin (v .subgoals) ss ≡ false = count ∙ e in rw (e, f) (agrees-says c t v S [] (refused 7)))

@@ -18,7 +18,7 @@ use Rattle.plain.specs.Joins.{Forms, declined, formed, Side, Terms, comb
 use Rattle.plain.specs.Requests.{State, Open, Finished, Request, callLeast, answer, finish, next, load, instance, counts, join, why, detours}
 use Rattle.plain.specs.Requests.{Reply, new, oldSubgoal, oldAnswer, done, at, noneYet, noMore, cells, used, joined, refused, short, lacksNext, Result, Seen, trace}
 use Rattle.plain.specs.Table.{Table, Subgoal, Answer, fresh, noSubgoal, noAnswer, subgoalAt, answerAt, subgoalOfAnswer, answersTo, nodes, counted, number, subgoalOf, answerOf, after, following}
-use Rattle.plain.specs.Table.{withSubgoal, withAnswer, withFinished, settled, withEntry, stays, becomes, known, fits, appended, called, answered, whileOpen, starting, onward, writes, given, entered, sideOf, joining, newness, reasoned, liveAnswers, goalOf, detouring, step, tableTrace}
+use Rattle.plain.specs.Table.{withSubgoal, withAnswer, withFinished, settled, withEntry, stays, becomes, known, fits, appended, called, answered, whileOpen, starting, onward, writes, given, entered, sideOf, joining, newness, reasoned, numberedAnswers, goalOf, detouring, step, tableTrace}
 use Rattle.plain.specs.Detours.{Live, Goal, Option, offers, allOffer, goalsFit, anyOpen, fewGoals, optionOf, optionsOf, detoursOf, allWithin}
 use Rattle.plain.specs.Alike.{nodesApart, reasonApart, replyApart, seenApart, isTen, upToTen, AnswerAlike, readAs, ReadAlike}
 use Rattle.plain.proofs.Changes.{Readable, Read, all-read, join-cases, AnswerEnters, AnswersEnter, no-more, one-more, Changed, stayed, subgoal-enters, answer-enters, finishes, answers-enter, step-changed}
@@ -73,8 +73,8 @@ module _ (c : Coding) where
   LegalLives [] = Unit {0}
   LegalLives (a ∷ l) = LegalForm (a .form) × LegalLives l
 
-  lives-legal : (s n : ℕ) (l : List Answer) → LegalAnswers l → LegalLives (liveAnswers s n l)
-  unfolding liveAnswers
+  lives-legal : (s n : ℕ) (l : List Answer) → LegalAnswers l → LegalLives (numberedAnswers s n l)
+  unfolding numberedAnswers
   lives-legal s n [] h = tt
   lives-legal s n (a ∷ l) h = by-cases (eqb (a .subgoal) s) (λ e. rw e (h .0, lives-legal s (suc n) l (h .1))) (λ e. rw e (lives-legal s (suc n) l (h .1)))
 
@@ -492,26 +492,26 @@ module _ (c d : Coding) (laws : CodingLaws c) (alike : ReadAlike c d) where
       abbrev goalAs : Goal → Goal
       goalAs g = record { state = g .state; m = g .m; answers = map liveAs (g .answers) }
 
-      lives-imaged : (s n : ℕ) (l : List Answer) → liveAnswers s n (map reply l) ≡ map liveAs (liveAnswers s n l)
-      unfolding liveAnswers
+      lives-imaged : (s n : ℕ) (l : List Answer) → numberedAnswers s n (map reply l) ≡ map liveAs (numberedAnswers s n l)
+      unfolding numberedAnswers
       lives-imaged s n [] = refl
       lives-imaged s n (a ∷ l) = by-cases (eqb (a .subgoal) s)
           (λ e. rw e (ap (λ (r : List Live). record { number = n; form = τ (a .form) } ∷ r) (lives-imaged s (suc n) l)))
           (λ e. rw e (lives-imaged s (suc n) l))
 
-      goal-as : (s : ℕ) → goalOf (imaged k t) s ≡ goalAs (goalOf t s)
+      goal-as : (s : ℕ) → goalOf d (imaged k t) s ≡ goalAs (goalOf c t s)
       unfolding goalOf
       goal-as s = rw (state-imaged t s, m-imaged t s, lives-imaged s 1 (t .answers))
 
-      goals-as : (ss : List ℕ) → map (goalOf (imaged k t)) ss ≡ map goalAs (map (goalOf t) ss)
+      goals-as : (ss : List ℕ) → map (goalOf d (imaged k t)) ss ≡ map goalAs (map (goalOf c t) ss)
       goals-as [] = refl
-      goals-as (s ∷ ss) = ap (λ (g : Goal). g ∷ map (goalOf (imaged k t)) ss) (goal-as s) ∙ ap (λ (gs : List Goal). goalAs (goalOf t s) ∷ gs) (goals-as ss)
+      goals-as (s ∷ ss) = ap (λ (g : Goal). g ∷ map (goalOf d (imaged k t)) ss) (goal-as s) ∙ ap (λ (gs : List Goal). goalAs (goalOf c t s) ∷ gs) (goals-as ss)
 
       abbrev LegalIn : List Goal → Type 0
       LegalIn [] = Unit {0}
       LegalIn (g ∷ gs) = LegalLives c (g .answers) × LegalIn gs
 
-      goals-legal : (ss : List ℕ) → LegalIn (map (goalOf t) ss)
+      goals-legal : (ss : List ℕ) → LegalIn (map (goalOf c t) ss)
       unfolding goalOf
       goals-legal [] = tt
       goals-legal (s ∷ ss) = (lives-legal c s 1 (t .answers) (legal .answers), goals-legal ss)
@@ -550,7 +550,7 @@ module _ (c d : Coding) (laws : CodingLaws c) (alike : ReadAlike c d) where
 
       detouring-as : (ss : List ℕ) (b : ℕ) → detouring d (imaged k t) ss b ≡ detouring c t ss b
       unfolding detouring
-      detouring-as ss b = rw (goals-many t, goals-as ss, detours-as (map (goalOf t) ss) b (goals-legal ss))
+      detouring-as ss b = rw (goals-many t, goals-as ss, detours-as (map (goalOf c t) ss) b (goals-legal ss))
 
       answer-agree : (s : ℕ) (cs : List ℕ) → Agree (answered t s (c .answered (subgoalAt t s .m) cs)) (answered (imaged k t) s (d .answered (subgoalAt (imaged k t) s .m) cs))
       answer-agree s cs =

@@ -597,7 +597,7 @@ larger-budget gs b more some h total ns e =
 
 module _ (c : Coding) (t : Table) (goals : List ℕ) (b : ℕ) where
   abbrev gs : List Goal
-  gs = map (goalOf t) goals
+  gs = map (goalOf c t) goals
 
   abbrev Says : Reply → Type 0
   Says r = (x : Detour) → r ≡ detoured x → (1 ≤ length goals) × (length goals ≤ 6) × DetourTrue (map (optionsAt c t) goals) b x
@@ -605,23 +605,23 @@ module _ (c : Coding) (t : Table) (goals : List ℕ) (b : ℕ) where
   never : (r : ℕ) → Says (refused r)
   never r x e = let z : _≡_ {A = ℕ} 0 1 = cc in absurd (omega arith)
 
-  few : fewGoals (map (goalOf t) goals) ≡ true → (1 ≤ length goals) × (length goals ≤ 6)
+  few : fewGoals (map (goalOf c t) goals) ≡ true → (1 ≤ length goals) × (length goals ≤ 6)
   unfolding fewGoals
   few e =
-      let k = both (leb 1 (length (map (goalOf t) goals))) (leb (length (map (goalOf t) goals)) 6) e in
-      let l = length-map goals (goalOf t) in
-      let x : 1 ≤ length (map (goalOf t) goals) = leb-true _ _ (k .0) in
-      let y : length (map (goalOf t) goals) ≤ 6 = leb-true _ _ (k .1) in
+      let k = both (leb 1 (length (map (goalOf c t) goals))) (leb (length (map (goalOf c t) goals)) 6) e in
+      let l = length-map goals (goalOf c t) in
+      let x : 1 ≤ length (map (goalOf c t) goals) = leb-true _ _ (k .0) in
+      let y : length (map (goalOf c t) goals) ≤ 6 = leb-true _ _ (k .1) in
       (omega arith, omega arith)
     where
       both : (p q : Bool) → (p && q) ≡ true → (p ≡ true) × (q ≡ true)
       both true q e = (refl, e)
       both false q e = absurd (false≢true e)
 
-  says-found : (fewGoals (map (goalOf t) goals) && goalsFit c (map (goalOf t) goals)) ≡ true → Says (detoured (detour (map (optionsOf c) (map (goalOf t) goals)) b))
+  says-found : (fewGoals (map (goalOf c t) goals) && goalsFit c (map (goalOf c t) goals)) ≡ true → Says (detoured (detour (map (optionsOf c) (map (goalOf c t) goals)) b))
   says-found e x q =
-      let k = few (first (fewGoals (map (goalOf t) goals)) (goalsFit c (map (goalOf t) goals)) e) in
-      let m : map (optionsOf c) (map (goalOf t) goals) ≡ map (optionsAt c t) goals = map-map (optionsOf c) (goalOf t) goals in
+      let k = few (first (fewGoals (map (goalOf c t) goals)) (goalsFit c (map (goalOf c t) goals)) e) in
+      let m : map (optionsOf c) (map (goalOf c t) goals) ≡ map (optionsAt c t) goals = map-map (optionsOf c) (goalOf c t) goals in
       let is : x ≡ detour (map (optionsAt c t) goals) b = one (sym q) ∙ ap (λ (l : List (List Option)). detour l b) m in
       (k .0, k .1, rw is (detour-true (map (optionsAt c t) goals) b (omega (arith, k .0, length-map goals (optionsAt c t)))))
     where
@@ -635,9 +635,9 @@ module _ (c : Coding) (t : Table) (goals : List ℕ) (b : ℕ) where
   says-true : Says (detouring c t goals b)
   unfolding detouring detoursOf
   says-true = by-cases (allWithin (length (t .subgoals)) goals)
-      (λ e. by-cases (anyOpen (map (goalOf t) goals))
+      (λ e. by-cases (anyOpen (map (goalOf c t) goals))
       (λ f. rw (e, f) (never 14))
-      (λ f. by-cases (fewGoals (map (goalOf t) goals) && goalsFit c (map (goalOf t) goals))
+      (λ f. by-cases (fewGoals (map (goalOf c t) goals) && goalsFit c (map (goalOf c t) goals))
       (λ g. rw (e, f, g) (says-found g))
       (λ g. rw (e, f, g) (never 22))))
       (λ e. rw e (never 7))

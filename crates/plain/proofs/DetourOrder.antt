@@ -11,7 +11,7 @@ use Rattle.basis.proofs.Cases.{by-cases}
 use Rattle.plain.specs.Coding.{Coding}
 use Rattle.plain.specs.Requests.{Best, noneFound, found, detoured}
 use Rattle.plain.specs.Detours.{Live, Goal, Option, diverts, totalOf, better, Progress, trying, tries, search, detour, allOffer, goalsFit, anyOpen, fewGoals, optionOf, optionsOf, detoursOf}
-use Rattle.plain.specs.Table.{Table, Answer, subgoalAt, answersTo, liveAnswers, goalOf}
+use Rattle.plain.specs.Table.{Table, Answer, subgoalAt, answersTo, numberedAnswers, goalOf}
 use Rattle.plain.specs.Order.{unnumbered, unnumberedBest}
 
 -- ---- options without their numbers
@@ -138,21 +138,21 @@ detours-bare c gs b = rw (open-bare gs, few-bare gs, fit-bare c gs, all-bare c g
 
 -- ---- tables with the same answers to each subgoal
 
-lives-bare : (s n : ℕ) (l : List Answer) → map bareLive (liveAnswers s n l) ≡ map (λ w. record { number = 0; form = w }) (answersTo l s)
-unfolding liveAnswers answersTo
+lives-bare : (s n : ℕ) (l : List Answer) → map bareLive (numberedAnswers s n l) ≡ map (λ w. record { number = 0; form = w }) (answersTo l s)
+unfolding numberedAnswers answersTo
 lives-bare s n [] = refl
 lives-bare s n (a ∷ l) = by-cases (eqb (a .subgoal) s)
     (λ e. rw e (ap (λ (r : List Live). record { number = 0; form = a .form } ∷ r) (lives-bare s (suc n) l)))
     (λ e. rw e (lives-bare s (suc n) l))
 
 module _ (t u : Table) (subgoals : t .subgoals ≡ u .subgoals) (each : (s : ℕ) → answersTo (t .answers) s ≡ answersTo (u .answers) s) where
-  goal-bare : (s : ℕ) → bareGoal (goalOf t s) ≡ bareGoal (goalOf u s)
+  goal-bare : (c : Coding) (s : ℕ) → bareGoal (goalOf c t s) ≡ bareGoal (goalOf c u s)
   unfolding goalOf subgoalAt
-  goal-bare s = rw (lives-bare s 1 (t .answers), lives-bare s 1 (u .answers), each s, subgoals)
+  goal-bare c s = rw (lives-bare s 1 (t .answers), lives-bare s 1 (u .answers), each s, subgoals)
 
-  goals-bare : (ss : List ℕ) → map bareGoal (map (goalOf t) ss) ≡ map bareGoal (map (goalOf u) ss)
-  goals-bare [] = refl
-  goals-bare (s ∷ ss) = rw (goal-bare s, goals-bare ss)
+  goals-bare : (c : Coding) (ss : List ℕ) → map bareGoal (map (goalOf c t) ss) ≡ map bareGoal (map (goalOf c u) ss)
+  goals-bare c [] = refl
+  goals-bare c (s ∷ ss) = rw (goal-bare c s, goals-bare c ss)
 
-  pub detours-alike : (c : Coding) (ss : List ℕ) (b : ℕ) → unnumbered (detoursOf c (map (goalOf t) ss) b) ≡ unnumbered (detoursOf c (map (goalOf u) ss) b)
-  detours-alike c ss b = sym (detours-bare c (map (goalOf t) ss) b) ∙ ap (λ (gs : List Goal). unnumbered (detoursOf c gs b)) (goals-bare ss) ∙ detours-bare c (map (goalOf u) ss) b
+  pub detours-alike : (c : Coding) (ss : List ℕ) (b : ℕ) → unnumbered (detoursOf c (map (goalOf c t) ss) b) ≡ unnumbered (detoursOf c (map (goalOf c u) ss) b)
+  detours-alike c ss b = sym (detours-bare c (map (goalOf c t) ss) b) ∙ ap (λ (gs : List Goal). unnumbered (detoursOf c gs b)) (goals-bare c ss) ∙ detours-bare c (map (goalOf c u) ss) b

@@ -23,7 +23,7 @@ use Rattle.plain.specs.DetourMeaning.{noneTwice, eachBefore, choices, pa
 use Rattle.plain.specs.DetourMeaning.{madeWhole, fewest, minima}
 use Rattle.plain.specs.Table.{Table, fresh, noSubgoal, noAnswer, subgoalAt, answerAt, answersTo, answerNodes}
 use Rattle.plain.specs.Table.{nodes, counted, number, subgoalOf, answerOf, fits, appended, called, answered}
-use Rattle.plain.specs.Table.{settled, liveAnswers, goalOf, detouring, step, tableTrace}
+use Rattle.plain.specs.Table.{settled, numberedAnswers, goalOf, detouring, step, tableTrace}
 use Rattle.plain.specs.Examples.{var, atom, int, fun}
 
 abbrev replies : Table → List Request → List Reply
@@ -133,11 +133,11 @@ Written =
     × (minima two ≡ 4)
 
 pub detour-examples : Detoured × Written
-unfolding trace left step counted settled called answered fits appended liveAnswers goalOf detouring detoursOf allWithin
-    anyOpen fewGoals goalsFit allOffer offers oneCell detour search tries trying better totalOf diverts noneTwice
-    eachBefore choices passing leastOf looksAlong looks madeWhole fewest minima nodes answerNodes answersTo number
-    subgoalOf answerOf subgoalAt answerAt noSubgoal noAnswer distinct prefixes union add has allInits inits judged
-    naming handedOn reading callable predicate taken storedOf compactForm areTerms pairForm formTerms front symbolic
-    tokenOf items entered filled lastOf tailOf into inside collected forms.whole reads begun applied paired shapeOf
-    arityOf every compact elements pairs numbered renamed met seen rank same
+unfolding trace left step counted settled called answered fits appended numberedAnswers goalOf detouring detoursOf
+    allWithin anyOpen fewGoals goalsFit allOffer offers oneCell detour search tries trying better totalOf diverts
+    noneTwice eachBefore choices passing leastOf looksAlong looks madeWhole fewest minima nodes answerNodes answersTo
+    number subgoalOf answerOf subgoalAt answerAt noSubgoal noAnswer distinct prefixes union add has allInits inits
+    judged naming handedOn reading callable predicate taken storedOf compactForm areTerms pairForm formTerms front
+    symbolic tokenOf items entered filled lastOf tailOf into inside collected forms.whole reads begun applied paired
+    shapeOf arityOf every compact elements pairs numbered renamed met seen rank same
 detour-examples = ((refl, refl, refl), (refl, refl, refl, refl, refl))

@@ -153,7 +153,7 @@ LargerBudget = (gs : List (List Option)) (budget more : ℕ) → 1 ≤ length gs
 
 -- the options of a goal: its answers in table order
 abbrev pub optionsAt : Coding → Table → ℕ → List Option
-optionsAt c t s = optionsOf c (goalOf t s)
+optionsAt c t s = optionsOf c (goalOf c t s)
 
 -- what detours answers is such a search over the answers of 1 to 6 goals; and it changes nothing
 abbrev pub Detouring : Coding → Type 0

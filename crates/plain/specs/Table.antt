@@ -247,19 +247,23 @@ reasoned t cs (accepted w m) = let n = subgoalOf t w in because (pick (eqb n 0) 
 -- ---- detours
 
 -- the answers to subgoal s, in table order, each with its number, the first of the list having number n
-unfoldable pub liveAnswers : ℕ → ℕ → List Answer → List Live
-liveAnswers s n [] = []
-liveAnswers s n (a ∷ l) =
-    let r = liveAnswers s (suc n) l in pick (eqb (a .subgoal) s) (record { number = n; form = a .form } ∷ r) r
+unfoldable pub numberedAnswers : ℕ → ℕ → List Answer → List Live
+numberedAnswers s n [] = []
+numberedAnswers s n (a ∷ l) =
+    let r = numberedAnswers s (suc n) l in pick (eqb (a .subgoal) s) (record { number = n; form = a .form } ∷ r) r
+
+-- those that the search may choose: all, in every coding so far
+abbrev pub liveAnswers : Coding → Table → ℕ → List Live
+liveAnswers c t s = numberedAnswers s 1 (t .answers)
 
 -- a subgoal as a goal
-unfoldable pub goalOf : Table → ℕ → Goal
-goalOf t s = record { state = subgoalAt t s .state; m = subgoalAt t s .m; answers = liveAnswers s 1 (t .answers) }
+unfoldable pub goalOf : Coding → Table → ℕ → Goal
+goalOf c t s = record { state = subgoalAt t s .state; m = subgoalAt t s .m; answers = liveAnswers c t s }
 
 -- 7 for any of the goals, however many they are; then 14 and 22
 unfoldable pub detouring : Coding → Table → List ℕ → ℕ → Reply
 detouring c t gs budget =
-    pick (allWithin (length (t .subgoals)) gs) (detoursOf c (map (goalOf t) gs) budget) (refused 7)
+    pick (allWithin (length (t .subgoals)) gs) (detoursOf c (map (goalOf c t) gs) budget) (refused 7)
 
 -- what each call leaves; 7 is checked before the cells are read, a join's 8 too
 unfoldable pub step : Coding → Table → Request → Result Table
