@@ -330,10 +330,11 @@ enum tables_stack {
  * too: a caller who must know that a space is the one that was stored keeps a
  * checksum of its cells beside it.
  *
- * Records are judged as calls write them, and so refused too, though no call would
- * notice: a link on a node that is no leaf, a root with a token or a sibling, a
- * child below a leaf, and a root of answers that is not the node after the leaf of
- * its subgoal. Cells beyond the counts may hold anything.
+ * tables_check also refuses what no call writes, even where no call would notice:
+ * a link on a node that is no leaf, a root with a token or a sibling, a child below
+ * a leaf, a root of answers that is not the node after the leaf of its subgoal, and
+ * nodes numbered so that first children lead past a subgoal to a later one. Cells
+ * beyond the counts may hold anything.
  */
 
 /*
@@ -610,7 +611,8 @@ uint64_t tables_join_indexed(uint32_t *space, size_t space_cells, const uint32_t
  * the first answer that is missing on its subgoal's chain.
  *
  * Each record is read once, and for each node its siblings before it: the time
- * grows with the square of the children of one node. Where an answer is missing,
+ * grows with the square of the children of one node. From each node above a
+ * subgoal's leaf the first children are followed down. Where an answer is missing,
  * each answer before it is looked for on its chain too.
  */
 TABLES_MUST_CHECK

@@ -58,6 +58,24 @@ static const uint32_t renumbered[CELLS] = {
     4, 1, 0,
     0, 0, 0};
 
+/*
+ * p(a) and p(b), subgoals 1 and 2, the nodes of p(b) before those of p(a): the first child of p leads to subgoal 2. And
+ * the same nodes where p(b) is subgoal 1.
+ */
+enum { CROSSED_CELLS = TABLES_SPACE_CELLS(6, 2, 0) };
+
+#define CROSSED_NODES(first, second) \
+    1, 6, 2, 0, 8, 38, 50, 50, \
+    0, 1, 0, 0, 0, \
+    P1, 2, 0, 0, 0, \
+    ATOM(2), 0, 4, 1, (first), \
+    0, 0, 0, 3, 0, \
+    ATOM(1), 0, 0, 1, (second), \
+    0, 0, 0, 5, 0
+
+static const uint32_t crossed[CROSSED_CELLS] = {CROSSED_NODES(2, 1), 4, 5, 0, 0, 0, 0, 2, 3, 0, 0, 0, 0};
+static const uint32_t straight[CROSSED_CELLS] = {CROSSED_NODES(1, 2), 2, 3, 0, 0, 0, 0, 4, 5, 0, 0, 0, 0};
+
 /* A space with at most two cells changed, and the word of its check. */
 static const struct {
     const char *name;
@@ -126,6 +144,8 @@ int main(void)
     for (size_t i = 0; i < sizeof spaces / sizeof *spaces; i++)
         check_space(i);
     check_silence();
+    expect("straight", "check", tables_check(straight, CROSSED_CELLS), SAID(TABLES_DONE, 0));
+    expect("crossed", "check", tables_check(crossed, CROSSED_CELLS), BROKEN(TABLES_BROKEN_SUBGOAL, 1));
     expect("none", "check", tables_check(NULL, 0), SAID(TABLES_CALL_REFUSED + TABLES_REFUSED_HEADER, 0));
     printf("check_examples_test: %d checks, %d failed\n", checks, failures);
     return failures != 0;

@@ -956,6 +956,8 @@ static void check_damaged(void)
                 fail("check passed", read_fault_names[fault], faults);
         return;
     }
+    if ((table.oddities & FAULT(ODD_ORDER)) != 0)
+        fail("check passed", read_oddity_names[ODD_ORDER], table.oddities);
     hold(&image, between(4, 16));
 }
 

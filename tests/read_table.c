@@ -40,7 +40,8 @@ const char *const read_oddity_names[READ_ODDITIES] = {
     [ODD_LINK] = "a link of no leaf",
     [ODD_ROOT] = "a root's token or sibling",
     [ODD_CHILD] = "a child where none is searched",
-    [ODD_PLACE] = "an answer root not behind its leaf",
+    [ODD_PLACE] = "an answer root not after its leaf",
+    [ODD_ORDER] = "first children to a later subgoal",
 };
 
 /* The header */
@@ -346,6 +347,31 @@ static void mark_leaves(const struct read_table *table)
             is_leaf[table->answer[i].leaf] = is_end[table->answer[i].leaf] = true;
 }
 
+/* Where first children lead from a node: they rise. A child that does not is a fault of its own. */
+static uint32_t first_leaf(const uint32_t *space, uint32_t node, const struct read_table *table)
+{
+    uint32_t child = node_at(space, node)[CHILD];
+    while (child > node && child < table->used_nodes) {
+        node = child;
+        child = node_at(space, node)[CHILD];
+    }
+    return node;
+}
+
+/* Do they lead from a node above the leaf of subgoal i + 1, the root apart, to a later subgoal? */
+static bool leads_later(const uint32_t *space, const struct read_table *table, uint32_t i)
+{
+    uint32_t node = table->subgoal[i].leaf;
+    for (size_t level = 0; level < READ_TOKENS && node < table->used_nodes; level++) {
+        node = node_at(space, node)[PARENT];
+        if (node >= table->used_nodes || node_at(space, node)[PARENT] == node)
+            return false;
+        if (node_at(space, first_leaf(space, node, table))[LINK] > i + 1)
+            return true;
+    }
+    return false;
+}
+
 /* What no call writes or notices. */
 static uint32_t find_oddities(const uint32_t *space, const struct read_table *table)
 {
@@ -359,9 +385,12 @@ static uint32_t find_oddities(const uint32_t *space, const struct read_table *ta
         if (record[CHILD] != 0 && is_end[node])
             oddities |= FAULT(ODD_CHILD);
     }
-    for (uint32_t i = 0; i < table->used_subgoals; i++)
+    for (uint32_t i = 0; i < table->used_subgoals; i++) {
         if (table->subgoal[i].root != table->subgoal[i].leaf + 1)
             oddities |= FAULT(ODD_PLACE);
+        if (leads_later(space, table, i))
+            oddities |= FAULT(ODD_ORDER);
+    }
     return oddities;
 }
 

@@ -61,12 +61,13 @@ enum read_fault {
 
 extern const char *const read_fault_names[READ_FAULTS];
 
-/* What no call writes, and no call ever notices: the table is whole all the same. */
+/* What no call writes, and no call of today notices: the table is whole all the same, but tables_check refuses it. */
 enum read_oddity {
     ODD_LINK,  /* of a node that is no leaf */
     ODD_ROOT,  /* a root's token or sibling */
     ODD_CHILD, /* of a leaf, or of a root that takes no terms */
-    ODD_PLACE, /* an answer root that is not the node behind its subgoal's leaf */
+    ODD_PLACE, /* an answer root that is not the node after its subgoal's leaf */
+    ODD_ORDER, /* first children that lead from above a subgoal's leaf, below the root, to a later subgoal */
     READ_ODDITIES
 };
 
