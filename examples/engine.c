@@ -362,6 +362,13 @@ static void print_closed(void)
             printf("closed: %s to %s\n", place_names[belts[i].from], place_names[belts[i].to]);
 }
 
+/* Printing may fail late: what printf has taken may still be in a buffer. */
+static void end_printing(void)
+{
+    if (fflush(stdout) != 0 || ferror(stdout) != 0)
+        stop("standard output", "it could not be written");
+}
+
 int main(void)
 {
     uint32_t counts[3];
@@ -382,5 +389,6 @@ int main(void)
     printf("%d turns; %u nodes, %u subgoals, %u answers\n", turns, (unsigned)counts[0],
            (unsigned)counts[1], (unsigned)counts[2]);
     free(table.space);
+    end_printing();
     return 0;
 }

@@ -8,7 +8,10 @@
 
 /*
  *     stored write FILE    writes a sample of three subgoals and five answers
- *     stored read FILE     checks a stored table and lists it; exit status 1 if it is broken
+ *     stored read FILE     checks a stored table and lists it
+ *
+ * The exit status is 1 if the table is broken, or if anything could not be read or
+ * written. What cannot be read or written is said on standard error.
  *
  * The file holds the cells as they lie in memory. A space from elsewhere is
  * checked once, whole, before anything else: what passes holds a table, and no
@@ -23,6 +26,13 @@ struct stored {
     size_t cells;
     uint32_t edition;
 };
+
+/* Says what failed. */
+static bool failed(const char *what)
+{
+    fprintf(stderr, "%s\n", what);
+    return false;
+}
 
 /* Writing a sample */
 
@@ -76,20 +86,18 @@ static bool fill(uint32_t *space)
     return !is_refused("subgoal", 1, tables_finish(space, SAMPLE_CELLS, 1));
 }
 
+/* Is the file whole? What fwrite has taken may still be in a buffer, and fail when that is written. */
 static bool write_sample(const char *name)
 {
     static uint32_t space[SAMPLE_CELLS];
     if (!fill(space))
         return false;
     FILE *file = fopen(name, "wb");
-    if (file == NULL) {
-        printf("The file cannot be written.\n");
-        return false;
-    }
-    bool whole = fwrite(space, sizeof *space, SAMPLE_CELLS, file) == SAMPLE_CELLS;
-    if (fclose(file) != 0 || !whole)
-        printf("The file could not be written to its end.\n");
-    return whole;
+    if (file == NULL)
+        return failed("The file cannot be written.");
+    bool taken = fwrite(space, sizeof *space, SAMPLE_CELLS, file) == SAMPLE_CELLS;
+    bool closed = fclose(file) == 0;
+    return (taken && closed) || failed("The file could not be written to its end.");
 }
 
 /* Reading the file */
@@ -103,7 +111,7 @@ static size_t read_bytes(FILE *file, uint32_t **cells)
         room = 2 * room + 4096;
         uint32_t *more = realloc(*cells, room);
         if (more == NULL) {
-            printf("There is no memory for the file.\n");
+            failed("There is no memory for the file.");
             exit(1);
         }
         *cells = more;
@@ -116,20 +124,18 @@ static size_t read_bytes(FILE *file, uint32_t **cells)
 static bool read_space(const char *name, struct stored *stored)
 {
     FILE *file = fopen(name, "rb");
-    if (file == NULL) {
-        printf("The file cannot be read.\n");
-        return false;
-    }
+    if (file == NULL)
+        return failed("The file cannot be read.");
     size_t bytes = read_bytes(file, &stored->space);
-    bool failed = ferror(file) != 0;
+    bool whole = ferror(file) == 0;
     fclose(file);
     stored->cells = bytes / sizeof *stored->space;
     stored->edition = tables_edition(stored->space, stored->cells);
-    if (failed)
-        printf("The file could not be read to its end.\n");
+    if (!whole)
+        return failed("The file could not be read to its end.");
     if (bytes % sizeof *stored->space != 0)
         printf("The file ends within a cell.\n");
-    return !failed && bytes % sizeof *stored->space == 0;
+    return bytes % sizeof *stored->space == 0;
 }
 
 /* Printing terms: f1(a2, X0), [a2, 7 | X1] */
@@ -248,6 +254,13 @@ static bool list(const struct stored *stored)
     return true;
 }
 
+/* Has all that was printed been written? */
+static bool is_printed(void)
+{
+    return (fflush(stdout) == 0 && ferror(stdout) == 0) ||
+           failed("Standard output could not be written.");
+}
+
 int main(int count, char **words)
 {
     struct stored stored = {NULL, 0, 0};
@@ -260,5 +273,5 @@ int main(int count, char **words)
     bool sound = read_space(words[2], &stored) && is_whole(&stored) && list(&stored);
     printf("%s\n", sound ? "Nothing wrong was met." : "Something is wrong.");
     free(stored.space);
-    return !sound;
+    return !is_printed() || !sound;
 }
