@@ -89,6 +89,28 @@ static uint32_t atom(enum place place)
     return tables_cell(TABLES_ATOM, place);
 }
 
+/* Reading the answers of a subgoal */
+
+/*
+ * Goes from an answer of a subgoal, or from 0, to the next one, and gives what was said:
+ *
+ *     TABLES_AT        *answer is the next one now
+ *     TABLES_NONE_YET  the subgoal is open: ask again later, from the same answer
+ *     TABLES_NO_MORE   the subgoal is finished: all its answers have been read
+ *
+ * A refusal ends the program. tables_value alone cannot tell these apart: it is 0 for
+ * none yet, for no more and for a refusal, and a reader who takes every 0 for the end
+ * loses the answers that come later.
+ */
+static uint32_t next_answer(const struct table *read, uint32_t subgoal, uint32_t *answer)
+{
+    uint64_t word =
+        checked("tables_next", tables_next(read->space, read->cells, subgoal, *answer));
+    if (tables_what(word) == TABLES_AT)
+        *answer = tables_value(word);
+    return tables_what(word);
+}
+
 /* When the table is full: a larger one, into which all that stands is entered again */
 
 static void make(struct table *made)
@@ -114,13 +136,6 @@ static void must_be_new(const char *call, uint64_t word, uint32_t number)
         stop(call, "a copy has another number than what was copied");
 }
 
-/* The answer of a subgoal behind another one, or behind 0; 0 if there is none. */
-static uint32_t next_answer(const struct table *read, uint32_t subgoal, uint32_t after)
-{
-    return tables_value(
-        checked("tables_next", tables_next(read->space, read->cells, subgoal, after)));
-}
-
 /* Copies one answer to the same subgoal. */
 static void copy_answer(const struct table *from, struct table *to, uint32_t subgoal,
                         uint32_t answer)
@@ -132,32 +147,44 @@ static void copy_answer(const struct table *from, struct table *to, uint32_t sub
     must_be_new("tables_answer", word, answer);
 }
 
-/* Copies all answers by their numbers: each one is the next of just one of the subgoals. */
-static void copy_answers(const struct table *from, struct table *to)
+/* How far the answers of a subgoal have been copied: the next to copy if TABLES_AT was said. */
+struct reading {
+    uint32_t answer, said;
+};
+
+static void read_on(const struct table *from, uint32_t subgoal, struct reading *reading)
 {
-    uint32_t counts[3], due[MOST_SUBGOALS + 1];
+    reading->said = next_answer(from, subgoal, &reading->answer);
+}
+
+/* Copies all answers by their numbers: each one is the next of just one of the subgoals. */
+static void copy_answers(const struct table *from, struct table *to, struct reading *readings)
+{
+    uint32_t counts[3];
     checked("tables_counts", tables_counts(from->space, from->cells, counts, 3));
     for (uint32_t subgoal = 1; subgoal <= subgoals; subgoal++)
-        due[subgoal] = next_answer(from, subgoal, 0);
+        read_on(from, subgoal, &readings[subgoal]);
     for (uint32_t answer = 1; answer <= counts[2]; answer++)
         for (uint32_t subgoal = 1; subgoal <= subgoals; subgoal++)
-            if (due[subgoal] == answer) {
+            if (readings[subgoal].said == TABLES_AT && readings[subgoal].answer == answer) {
                 copy_answer(from, to, subgoal, answer);
-                due[subgoal] = next_answer(from, subgoal, answer);
+                read_on(from, subgoal, &readings[subgoal]);
             }
 }
 
-/* Subgoals, then answers, then who is finished, since a finished subgoal takes no answer. */
-static void copy(struct table *from, struct table *to)
+/*
+ * Subgoals, then answers, then who is finished, since a finished subgoal takes no new
+ * answer. At the end of its answers a finished subgoal says no more, an open one none yet.
+ */
+static void copy(const struct table *from, struct table *to)
 {
+    struct reading readings[MOST_SUBGOALS + 1] = {{0, 0}};
     for (uint32_t subgoal = 1; subgoal <= subgoals; subgoal++)
         must_be_new("tables_call", call_goal(to, &goals[subgoal]), subgoal);
-    copy_answers(from, to);
-    for (uint32_t subgoal = 1; subgoal <= subgoals; subgoal++) {
-        uint64_t word = checked("tables_call", call_goal(from, &goals[subgoal]));
-        if (tables_what(word) == TABLES_OLD_FINISHED)
+    copy_answers(from, to, readings);
+    for (uint32_t subgoal = 1; subgoal <= subgoals; subgoal++)
+        if (readings[subgoal].said == TABLES_NO_MORE)
             checked("tables_finish", tables_finish(to->space, to->cells, subgoal));
-    }
 }
 
 /*
@@ -241,24 +268,35 @@ static bool apply_first_rule(const struct belt *belt)
     return answer_reach(belt->from, terms, 4);
 }
 
-/* reach(P, Y, [Z | S]) by the second rule, from each answer (Y, S) of Z. Was one of them new? */
-static bool apply_second_rule(const struct belt *belt)
+/* reach(P, Y, [Z | S]) by the second rule, from an answer (Y, S) of Z. Was it new? */
+static bool apply_second_rule(const struct belt *belt, uint32_t answer)
+{
+    uint32_t from[TABLES_TERM_CELLS], terms[TABLES_TERM_CELLS + 2];
+    uint64_t word = tables_load(table.space, table.cells, answer, from, TABLES_TERM_CELLS);
+    size_t cells = tables_value(checked("tables_load", word));
+    if (among(atom(belt->from), from, cells))
+        return false;
+    terms[0] = from[0]; /* Y; then a pair of Z and the list S that was loaded */
+    terms[1] = TABLES_PAIR_CELL;
+    terms[2] = atom(belt->to);
+    for (size_t i = 1; i < cells; i++)
+        terms[2 + i] = from[i];
+    return answer_reach(belt->from, terms, cells + 2);
+}
+
+/* The last answer that the second rule has read for each belt, 0 at first. */
+static uint32_t last_read[BELTS];
+
+/*
+ * Applies the second rule to the answers that have come since it was last applied to this
+ * belt. Subgoals are open meanwhile, so what ends the loop is none yet: the answer read
+ * last is kept, and the next turn asks again from there.
+ */
+static bool read_new_answers(size_t belt)
 {
     bool any_new = false;
-    uint32_t answer = 0;
-    while ((answer = next_answer(&table, subgoal_of[belt->to], answer)) != 0) {
-        uint32_t from[TABLES_TERM_CELLS], terms[TABLES_TERM_CELLS + 2];
-        uint64_t word = tables_load(table.space, table.cells, answer, from, TABLES_TERM_CELLS);
-        size_t cells = tables_value(checked("tables_load", word));
-        if (among(atom(belt->from), from, cells))
-            continue;
-        terms[0] = from[0]; /* Y; then a pair of Z and the list S that was loaded */
-        terms[1] = TABLES_PAIR_CELL;
-        terms[2] = atom(belt->to);
-        for (size_t i = 1; i < cells; i++)
-            terms[2 + i] = from[i];
-        any_new |= answer_reach(belt->from, terms, cells + 2);
-    }
+    while (next_answer(&table, subgoal_of[belts[belt].to], &last_read[belt]) == TABLES_AT)
+        any_new |= apply_second_rule(&belts[belt], last_read[belt]);
     return any_new;
 }
 
@@ -270,7 +308,7 @@ static bool turn(void)
         if (belts[i].closed || subgoal_of[belts[i].from] == 0)
             continue;
         any_new |= apply_first_rule(&belts[i]);
-        any_new |= apply_second_rule(&belts[i]);
+        any_new |= read_new_answers(i);
     }
     return any_new;
 }
@@ -312,7 +350,7 @@ static const char *place_name(uint32_t cell)
     return place_names[TABLES_PAYLOAD(cell)];
 }
 
-/* Prints a list of stops, a pair for each, and gives the cell behind it. */
+/* Prints a list of stops, a pair for each, and gives the cell after it. */
 static const uint32_t *print_stops(const uint32_t *cells)
 {
     for (const char *comma = ""; *cells == TABLES_PAIR_CELL; cells += 2, comma = ",")
@@ -338,15 +376,18 @@ static void print_meet(const uint32_t *cells)
     printf("\n");
 }
 
+/* Prints all answers of a subgoal. That they are all is known only once no more is said. */
 static void print_answers(uint32_t subgoal, void (*print)(const uint32_t *cells))
 {
     static uint32_t cells[TABLES_INSTANCE_CELLS];
-    uint32_t answer = 0;
-    while ((answer = next_answer(&table, subgoal, answer)) != 0) {
+    uint32_t answer = 0, said;
+    while ((said = next_answer(&table, subgoal, &answer)) == TABLES_AT) {
         checked("tables_instance", tables_instance(table.space, table.cells, answer, cells,
                                                    TABLES_INSTANCE_CELLS));
         print(cells);
     }
+    if (said != TABLES_NO_MORE)
+        stop("tables_next", "the subgoal is not finished, so answers may be missing");
 }
 
 static void print_routes(enum place place)

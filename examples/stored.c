@@ -86,7 +86,7 @@ static bool fill(uint32_t *space)
     return !is_refused("subgoal", 1, tables_finish(space, SAMPLE_CELLS, 1));
 }
 
-/* Is the file whole? What fwrite has taken may still be in a buffer, and fail when that is written. */
+/* Is the file whole? What fwrite has taken may still be in a buffer, so fclose may fail too. */
 static bool write_sample(const char *name)
 {
     static uint32_t space[SAMPLE_CELLS];
