@@ -175,8 +175,9 @@ enum tables_refusal {
     TABLES_REFUSED_SOURCE_OPEN = 14,     /* a source of a join is open */
     TABLES_REFUSED_SOURCE_VARIABLE = 15, /* an answer of a join's source holds a variable */
     TABLES_REFUSED_NAMES = 16,           /* a variable or side that a join names is out of
-                                            range, its pairs are over 32, or its copies are
-                                            not one for each variable of the target */
+                                            range, its pairs are over 32, its copies are not
+                                            one for each variable of the target, or the cells
+                                            of either are odd in number */
     TABLES_REFUSED_SLOTS = 17            /* an index is to be built whose cells are no power of
                                             two, or fewer than twice the children to enter */
 };
@@ -377,7 +378,24 @@ static inline uint32_t tables_refused_by(uint64_t word)
     return tables_what(word) > TABLES_CALL_REFUSED ? tables_what(word) - TABLES_CALL_REFUSED : 0;
 }
 
-/* The value of a call that was not refused; 0 of one that was, so that no need is taken for it. */
+/*
+ * The value of a call that was not refused; 0 for one that was, so that the need which
+ * refusal 12 carries is not taken for a value.
+ *
+ * Beware: 0 is also the value of TABLES_NONE_YET and of TABLES_NO_MORE. A loop that asks
+ * tables_next until the value is 0 takes an open subgoal, a finished one and a refusal
+ * for the same, and may lose answers. Ask tables_refused_by and tables_what first:
+ *
+ *     uint64_t word = tables_next(space, space_cells, subgoal, answer);
+ *     if (tables_refused_by(word) != 0)
+ *         complain(tables_refusal_text(tables_refused_by(word)));
+ *     else if (tables_what(word) == TABLES_AT)
+ *         answer = tables_value(word);
+ *     else if (tables_what(word) == TABLES_NONE_YET)
+ *         ask_again_later(subgoal, answer);
+ *     else
+ *         all_were_read(subgoal);
+ */
 static inline uint32_t tables_value(uint64_t word)
 {
     return tables_what(word) < TABLES_CALL_REFUSED ? (uint32_t)word : 0;
@@ -459,7 +477,8 @@ uint64_t tables_finish(uint32_t *space, size_t space_cells, uint32_t subgoal);
  * its own; with 0, its first. TABLES_AT with the answer's number. Where there is
  * none: TABLES_NONE_YET while the subgoal is open, since an answer may follow
  * later, and TABLES_NO_MORE once it is finished, after which none follows: the
- * same question has the same answer from then on. Refused by 1, 7, 9.
+ * same question has the same answer from then on. How to tell these apart is said at
+ * tables_value. Refused by 1, 7, 9.
  */
 TABLES_MUST_CHECK
 uint64_t tables_next(const uint32_t *space, size_t space_cells, uint32_t subgoal, uint32_t after);
@@ -510,6 +529,9 @@ uint64_t tables_counts(const uint32_t *space, size_t space_cells, uint32_t *out,
  * copies  two cells to a copy: a side, 0 for the first and 1 for the second, and
  *         a variable of it by rank; one copy for each variable of the target, in
  *         order.
+ *
+ * pairs_cells and copies_cells are numbers of cells. An odd one is refused by 16, as
+ * are a variable or a side out of range, over 32 pairs, and more or fewer copies.
  *
  * A join costs as many comparisons as the first has answers times the second;
  * where the table may be too full for every match as a new answer with nodes of
