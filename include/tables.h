@@ -156,9 +156,9 @@ static inline uint32_t tables_functor_cell(uint64_t edition, uint64_t name, uint
  */
 enum tables_refusal {
     TABLES_REFUSED_HEADER = 1,     /* the space has no sound header, or is cut short; from a
-                                      converter: an edition that there is not */
+                                      converter: an unknown edition */
     TABLES_REFUSED_FRESH = 2,      /* a capacity out of range, too few cells for it, or an
-                                      edition that there is not */
+                                      unknown edition */
     TABLES_REFUSED_TERM = 3,       /* not exactly the terms due; for a converter also a byte
                                       count not divisible by 4 */
     TABLES_REFUSED_LENGTH = 4,     /* over 256 cells */
@@ -182,7 +182,7 @@ enum tables_refusal {
                                             two, or fewer than twice the children to enter */
 };
 
-/* A refusal's number in words, for people: a sentence, also for a number that there is not. */
+/* A refusal's number in words, for people: a sentence, also for an unknown number. */
 static inline const char *tables_refusal_text(uint32_t refusal)
 {
     switch (refusal) {
@@ -401,7 +401,7 @@ static inline uint32_t tables_value(uint64_t word)
     return tables_what(word) < TABLES_CALL_REFUSED ? (uint32_t)word : 0;
 }
 
-/* The cells of out that a call refused by 12 needs; 0 of any other. */
+/* The cells of out that a call refused by 12 needs; 0 for any other. */
 static inline uint32_t tables_need(uint64_t word)
 {
     return tables_refused_by(word) == TABLES_REFUSED_OUT ? (uint32_t)word : 0;
@@ -473,7 +473,7 @@ TABLES_MUST_CHECK
 uint64_t tables_finish(uint32_t *space, size_t space_cells, uint32_t subgoal);
 
 /*
- * The first answer of a subgoal behind the answer `after`, which must be one of
+ * The first answer of a subgoal after the answer `after`, which must be one of
  * its own; with 0, its first. TABLES_AT with the answer's number. Where there is
  * none: TABLES_NONE_YET while the subgoal is open, since an answer may follow
  * later, and TABLES_NO_MORE once it is finished, after which none follows: the
