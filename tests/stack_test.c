@@ -2,7 +2,8 @@
  * Measures the stack that every export uses and holds it to the bound that the header states for it.
  *
  * Each call is made on a stack of its own that was painted before; the paint that is gone afterwards is what was used.
- * The worst input is searched for: every sequence of up to UNIT_CELLS cells of an alphabet, repeated, as a term, a form
+ * Each is made as the first call of a program, in which memset and memcpy are not bound yet ('Binding', below). The worst
+ * input is searched for: every sequence of up to UNIT_CELLS cells of an alphabet, repeated, as a term, a form
  * or a path, at the lengths at which the readers change their buffers; and lists nested as deep as legal terms allow. What
  * takes an index is measured with one that leads to the children and with one that leads nowhere.
  */
@@ -11,6 +12,7 @@
 #include "../include/tables.h"
 
 #include <inttypes.h>
+#include <link.h>
 #include <stdbool.h>
 #include <stdio.h>
 #include <stdlib.h>
@@ -18,7 +20,7 @@
 #include <sys/mman.h>
 #include <ucontext.h>
 
-enum { STACK_BYTES = 1 << 20, UNIT_CELLS = 3, FORM_CELLS = 383, LONGEST_LISTS = 127, MOST_LEN = 400 };
+enum { STACK_BYTES = 1 << 20, STEP_BYTES = 16, STEPS = 4, UNIT_CELLS = 3, FORM_CELLS = 383, LONGEST_LISTS = 127, MOST_LEN = 400 };
 
 /* Cells by name; functors in edition 1. */
 #define VAR(name) TABLES_CELL(TABLES_VARIABLE, name)
@@ -145,6 +147,57 @@ static void make(enum export export)
     }
 }
 
+/* Binding */
+
+/*
+ * A program that is linked to a shared C library looks a function of it up when it first calls it, unless it is told to
+ * do so at the start. The dynamic linker then works on the stack of that call, and keeps the vector registers there. The
+ * archive calls memset and memcpy. So that each call measured is a first one, the addresses by which the program calls
+ * functions of the library are put back before it to what they were when the program began.
+ */
+extern uintptr_t _GLOBAL_OFFSET_TABLE_[] __attribute__((visibility("hidden")));
+
+enum { LINKERS_OWN = 3, MOST_JUMPS = 100 };
+
+static volatile uintptr_t *const jumps = _GLOBAL_OFFSET_TABLE_ + LINKERS_OWN;
+static uintptr_t unbound[MOST_JUMPS];
+static size_t jump_count;
+static uint64_t calls_that_bound;
+
+/* To be called first. `jumps` is volatile, so that no loop over it becomes a memcpy, which would be bound then. */
+static void keep_unbound(void)
+{
+    bool at_start = false;
+    for (const ElfW(Dyn) *entry = _DYNAMIC; entry->d_tag != DT_NULL; entry++) {
+        if (entry->d_tag == DT_PLTRELSZ)
+            jump_count = entry->d_un.d_val / sizeof(ElfW(Rela));
+        at_start |= entry->d_tag == DT_BIND_NOW;
+        at_start |= entry->d_tag == DT_FLAGS && (entry->d_un.d_val & DF_BIND_NOW) != 0;
+        at_start |= entry->d_tag == DT_FLAGS_1 && (entry->d_un.d_val & DF_1_NOW) != 0;
+    }
+    if (at_start || jump_count > MOST_JUMPS) {
+        printf("stack: the test must be linked with -z lazy, and have at most %d functions to bind\n", MOST_JUMPS);
+        exit(2);
+    }
+    for (size_t i = 0; i < jump_count; i++)
+        unbound[i] = jumps[i];
+}
+
+static void unbind(void)
+{
+    for (size_t i = 0; i < jump_count; i++)
+        jumps[i] = unbound[i];
+}
+
+/* How many functions have been bound since. */
+static size_t functions_bound(void)
+{
+    size_t count = 0;
+    for (size_t i = 0; i < jump_count; i++)
+        count += jumps[i] != unbound[i];
+    return count;
+}
+
 /* The painted stack */
 
 static const uint64_t paint = UINT64_C(0x5ca1ab1e0ddba11);
@@ -171,19 +224,26 @@ static void open_stack(void)
         stack[i] = paint;
 }
 
-/* Makes a call on the painted stack, paints it anew and gives the bytes that the call used. */
+/*
+ * Makes a call on the painted stack, paints it anew and gives the bytes that the call used. The linker keeps the vector
+ * registers at a multiple of 64, so the stack begins at each multiple of 16 below in turn.
+ */
 static size_t used_by(enum export export)
 {
+    static size_t step;
+    step = (step + 1) % STEPS;
     due = export;
     if (getcontext(&there) != 0) {
         perror("a context");
         exit(2);
     }
     there.uc_stack.ss_sp = stack;
-    there.uc_stack.ss_size = STACK_BYTES;
+    there.uc_stack.ss_size = STACK_BYTES - STEP_BYTES * step;
     there.uc_link = &here;
     makecontext(&there, on_stack, 0);
+    unbind();
     swapcontext(&here, &there);
+    calls_that_bound += functions_bound() > 1; /* swapcontext is one, bound on the other stack */
     uint64_t *first = stack, *end = stack + stack_words;
     while (first < end && *first == paint)
         first++;
@@ -607,15 +667,18 @@ static void measure_all(void)
     called_p();
     long_answer();
     static const enum export simple[] = {NEXT, LOAD, INSTANCE, COUNTS, FINISH, FRESH};
-    for (size_t i = 0; i < sizeof simple / sizeof *simple; i++)
-        measure(simple[i], "a sound space");
+    for (size_t i = 0; i < STEPS * sizeof simple / sizeof *simple; i++)
+        measure(simple[i / STEPS], "a sound space");
 }
 
 int main(void)
 {
+    keep_unbound();
     open_stack();
     measure_all();
-    unsigned failures = 0;
+    unsigned failures = calls_that_bound == 0;
+    if (calls_that_bound == 0)
+        printf("stack: no call has bound a function; is LD_BIND_NOW set?\n");
     printf("export                 bytes   bound  worst input\n");
     for (unsigned i = 0; i < EXPORTS; i++) {
         bool fits = worst[i].used <= exports[i].bound;
