@@ -2,10 +2,11 @@
  * Measures the stack that every export uses and holds it to the bound that the header states for it.
  *
  * Each call is made on a stack of its own that was painted before; the paint that is gone afterwards is what was used.
- * Each is made as the first call of a program, in which memset and memcpy are not bound yet ('Binding', below). The worst
- * input is searched for: every sequence of up to UNIT_CELLS cells of an alphabet, repeated, as a term, a form
- * or a path, at the lengths at which the readers change their buffers; and lists nested as deep as legal terms allow. What
- * takes an index is measured with one that leads to the children and with one that leads nowhere.
+ * Each is made as the first call of a program, in which memset and memcpy are not bound yet ('Binding', below).
+ *
+ * The worst input is searched for: every sequence of up to UNIT_CELLS cells of an alphabet, repeated, as a term, a form
+ * or a path, at the lengths at which the readers change their buffers; and lists nested as deep as legal terms allow.
+ * What takes an index is measured with one that leads to the children and with one that leads nowhere.
  */
 #define _DEFAULT_SOURCE
 
@@ -20,7 +21,8 @@
 #include <sys/mman.h>
 #include <ucontext.h>
 
-enum { STACK_BYTES = 1 << 20, STEP_BYTES = 16, STEPS = 4, UNIT_CELLS = 3, FORM_CELLS = 383, LONGEST_LISTS = 127, MOST_LEN = 400 };
+enum { STACK_BYTES = 1 << 20, STEP_BYTES = 16, STEPS = 4 };
+enum { UNIT_CELLS = 3, FORM_CELLS = 383, LONGEST_LISTS = 127, MOST_LEN = 400 };
 
 /* Cells by name; functors in edition 1. */
 #define VAR(name) TABLES_CELL(TABLES_VARIABLE, name)
@@ -150,10 +152,10 @@ static void make(enum export export)
 /* Binding */
 
 /*
- * A program that is linked to a shared C library looks a function of it up when it first calls it, unless it is told to
- * do so at the start. The dynamic linker then works on the stack of that call, and keeps the vector registers there. The
- * archive calls memset and memcpy. So that each call measured is a first one, the addresses by which the program calls
- * functions of the library are put back before it to what they were when the program began.
+ * A program that is linked to a shared C library looks a function of it up when it first calls it, unless it is told
+ * to do so at the start. The dynamic linker then works on the stack of that call, and keeps the vector registers there.
+ * The archive calls memset and memcpy. So that each call measured is a first one, the addresses by which the program
+ * calls functions of the library are put back before it to what they were when the program began.
  */
 extern uintptr_t _GLOBAL_OFFSET_TABLE_[] __attribute__((visibility("hidden")));
 
