@@ -15,8 +15,8 @@ extern "C" {
  * third where neither is so. TABLES_VERSION is one number, for #if: 10203 is
  * 1.2.3.
  */
-#define TABLES_VERSION_MAJOR 3
-#define TABLES_VERSION_MINOR 1
+#define TABLES_VERSION_MAJOR 4
+#define TABLES_VERSION_MINOR 0
 #define TABLES_VERSION_PATCH 0
 #define TABLES_VERSION \
     (TABLES_VERSION_MAJOR * 10000 + TABLES_VERSION_MINOR * 100 + TABLES_VERSION_PATCH)

@@ -4,8 +4,8 @@
 #include <stdio.h>
 #include <string.h>
 
-#if TABLES_VERSION < 30100
-#error "the version is 3.1.0 or later"
+#if TABLES_VERSION < 40000
+#error "the version is 4.0.0 or later"
 #endif
 
 static int checks, failures;
@@ -26,9 +26,9 @@ static const uint32_t constant[] = {
 
 static void test_constants(void)
 {
-    check(TABLES_VERSION_MAJOR == 3 && TABLES_VERSION_MINOR == 1 && TABLES_VERSION_PATCH == 0 &&
-              TABLES_VERSION == 30100,
-          "the version is 3.1.0");
+    check(TABLES_VERSION_MAJOR == 4 && TABLES_VERSION_MINOR == 0 && TABLES_VERSION_PATCH == 0 &&
+              TABLES_VERSION == 40000,
+          "the version is 4.0.0");
     check(PAIR == 0x50000000, "a pair");
     check(constant[0] == 0x40000128 && constant[1] == 0x20000007, "constants in range");
     check(constant[2] == 0x20000000, "the empty list");
