@@ -30,7 +30,7 @@ made-shown cs q r out after qs seen k e = rw (e, k .0, k .1, k .2) refl
 
 module _ (e : ℕ) (known : knownEdition e ≡ true) where
   -- whatever the call was lent
-  way-same : (t : Table) (cs : List ℕ) → Holds (sizesOf e) (codingOf e) t cs → (b : Beside) (q : Request) → spaceStepBy (wayOf b) cs q ≡ spaceStep cs q
+  pub way-same : (t : Table) (cs : List ℕ) → Holds (sizesOf e) (codingOf e) t cs → (b : Beside) (q : Request) → spaceStepBy (wayOf b) cs q ≡ spaceStep cs q
   way-same t cs k alone q = refl
   way-same t cs k (index xs) q = step-indexed e known t cs k xs q
 

@@ -1,141 +1,179 @@
 -- Arrival order on the cells: exchanges that the cells accept are exchanges that the plain table accepts, and all that is
--- compared of the cells is what the table shows.
-use mathlib.Core.Path.{_≡_, sym, ap, _∙_, subst}
+-- compared of the cells is what the table shows. All of it is shown of any library that answers as the plain table does; the
+-- cells come in last.
+use mathlib.Core.Path.{_≡_, refl, sym, ap, _∙_, subst}
+use mathlib.Core.Bool.{true}
 use mathlib.Core.List.{List, [], _∷_}
 use Prim.Native.Nat.{ℕ, _≤_}
-use Rattle.forms.specs.Cells.{arityOf}
+use Rattle.basis.specs.Editions.{knownEdition}
 use Rattle.plain.specs.Coding.{Coding, codingOf}
-use Rattle.plain.specs.CodingLaws.{CodingLaws}
-use Rattle.plain.specs.Requests.{State, Request, answer, next, Counts, Result, trace, left}
+use Rattle.plain.specs.Requests.{State, Request, answer, next, Counts, Result, Seen, trace, left}
 use Rattle.plain.specs.Table.{Table, fresh, counted, step, tableTrace}
 use Rattle.plain.specs.Order.{Accepted, Exchangeable, Exchanged, unchanged, exchange, behind, again, unnumbered, heard}
 use Rattle.plain.specs.Order.{HandsOut, SameAnswers, SameButNumbers, OtherOrder, Rearranged, ArrivalOrder}
 use Rattle.plain.proofs.StoredCoding.{coding-laws}
 use Rattle.plain.proofs.Exchanges.{other-order, rearranged}
-use Rattle.space.specs.Layout.{Sizes, sizesOf}
-use Rattle.space.specs.Fresh.{freshAnswer, freshSpace}
-use Rattle.space.specs.declared.FreshAnswer.the-variants.{Done}
+use Rattle.space.specs.Layout.{sizesOf}
+use Rattle.space.specs.Fresh.{freshSpaceIn}
 use Rattle.store.specs.Views.{viewOf}
-use Rattle.store.specs.Calls.{spaceStep, countedCells}
-use Rattle.agreement.specs.Order.{CellsArrivalOrder}
-use Rattle.agreement.proofs.CellChanges as changes
+use Rattle.store.specs.Calls.{spaceStep, Answers, countedCells}
+use Rattle.agreement.specs.History.{alone}
+use Rattle.agreement.specs.Order.{CellsArrivalOrder, Lending, IndexedArrivalOrder}
 use Rattle.agreement.proofs.SameRecords.{same-counts}
-use Rattle.agreement.proofs.Holding.{Cells, Holds}
+use Rattle.agreement.proofs.Holding.{Holds}
 use Rattle.agreement.proofs.Steps.{step-answers}
-use Rattle.agreement.proofs.CallLists.{Deciding, trace-same}
-use Rattle.agreement.proofs.Following.{left-related, step-state, fresh-holds}
-use Rattle.agreement.proofs.Theorem.{cells-hold, deciding, fresh-in}
+use Rattle.agreement.proofs.Following.{left-related}
+use Rattle.agreement.proofs.Theorem.{deciding, fresh-in}
+use Rattle.agreement.proofs.IndexSteps.{cells-in, state-holds, fresh-held}
+use Rattle.agreement.proofs.Histories.{way-same}
 
-module _ (z : Sizes) (c : Coding) (cells : Cells z) (laws : CodingLaws c) (library : List ℕ → Request → Result (List ℕ))
-    (decides : Deciding z c library) where
-  -- ---- what the cells show is what the table shows
+-- what a state answers where it stands for a table: what the table answers, and the state left stands for the table left
+pub record Mirrors (c : Coding) {S : Type 0} (library : S → Request → Result S) (count : S → Counts) (StandsFor : Table → S → Type 0) : Type 0 where
+  pub replies : (t : Table) (s : S) (q : Request) → StandsFor t s → library s q .reply ≡ step c t q .reply
+  pub outs : (t : Table) (s : S) (q : Request) → StandsFor t s → library s q .out ≡ step c t q .out
+  pub states : (t : Table) (s : S) (q : Request) → StandsFor t s → StandsFor (step c t q .state) (library s q .state)
+  pub counts : (t : Table) (s : S) → StandsFor t s → count s ≡ counted t
 
-  reply-same : (t : Table) (cs : List ℕ) (q : Request) → Holds z c t cs → library cs q .reply ≡ step c t q .reply
-  reply-same t cs q k =
-      ap (λ (x : Result (List ℕ)). x .reply) (decides cs (k .head) q (k .sound))
-      ∙ step-answers z c cells laws t cs (k .head) (k .sound) (k .same) q .replies
+module _ (c : Coding) {S : Type 0} (library : S → Request → Result S) (count : S → Counts) (StandsFor : Table → S → Type 0)
+    (mirrors : Mirrors c library count StandsFor) where
+  -- ---- what the library shows is what the table shows
 
-  reply-after : (t : Table) (cs : List ℕ) (q p : Request) → Holds z c t cs
-      → library (library cs q .state) p .reply ≡ step c (step c t q .state) p .reply
-  reply-after t cs q p k = reply-same (step c t q .state) (library cs q .state) p (step-state z c cells laws library decides t cs q k)
+  reply-after : (t : Table) (s : S) (q p : Request) → StandsFor t s
+      → library (library s q .state) p .reply ≡ step c (step c t q .state) p .reply
+  reply-after t s q p k = mirrors .replies (step c t q .state) (library s q .state) p (mirrors .states t s q k)
 
-  counts-same : (t : Table) (cs : List ℕ) → Holds z c t cs → countedCells cs ≡ counted t
-  counts-same t cs k = cells .cells-counts cs (k .head) (k .sound) ∙ sym (same-counts c laws t (viewOf z cs (k .head)) (k .same))
+  seen-same : (t : Table) (s : S) → StandsFor t s → (qs : List Request) → trace library count s qs ≡ tableTrace c t qs
+  unfolding trace
+  seen-same t s k [] = refl
+  seen-same t s k (q ∷ qs) =
+      let l = mirrors .states t s q k in
+      rw (mirrors .replies t s q k, mirrors .outs t s q k, mirrors .counts (step c t q .state) (library s q .state) l)
+      (ap (λ (xs : List Seen). record { reply = step c t q .reply; counted = counted (step c t q .state); out = step c t q .out } ∷ xs)
+      (seen-same (step c t q .state) (library s q .state) l qs))
 
-  seen-same : (t : Table) (cs : List ℕ) → Holds z c t cs → (qs : List Request)
-      → trace library countedCells cs qs ≡ tableTrace c t qs
-  seen-same t cs k qs = trace-same z c cells laws library decides t cs (k .head) (k .sound) (k .same) qs
+  left-stands : (t : Table) (s : S) → StandsFor t s → (qs : List Request) → StandsFor (left (step c) t qs) (left library s qs)
+  left-stands t s k qs = left-related (step c) library StandsFor (mirrors .states) qs t s k
 
-  left-holds : (t : Table) (cs : List ℕ) → Holds z c t cs → (qs : List Request)
-      → Holds z c (left (step c) t qs) (left library cs qs)
-  left-holds t cs k qs = left-related (step c) library (Holds z c) (step-state z c cells laws library decides) qs t cs k
-
-  hands-same : (t : Table) (cs : List ℕ) → Holds z c t cs → (i : ℕ) (x : State) (a : ℕ) (bs : List ℕ)
-      → HandsOut (step c) t i x a bs → HandsOut library cs i x a bs
-  hands-same t cs k i x a [] h = reply-same t cs (next i a) k ∙ h
-  hands-same t cs k i x a (b ∷ bs) h = (reply-same t cs (next i a) k ∙ h .0, hands-same t cs k i x b bs (h .1))
+  hands-same : (t : Table) (s : S) → StandsFor t s → (i : ℕ) (x : State) (a : ℕ) (bs : List ℕ)
+      → HandsOut (step c) t i x a bs → HandsOut library s i x a bs
+  hands-same t s k i x a [] h = mirrors .replies t s (next i a) k ∙ h
+  hands-same t s k i x a (b ∷ bs) h = (mirrors .replies t s (next i a) k ∙ h .0, hands-same t s k i x b bs (h .1))
 
   -- ---- exchanges
 
-  exchangeable-plain : (t : Table) (cs : List ℕ) → Holds z c t cs → (x : ℕ) (ks : List ℕ) (y : ℕ) (ls : List ℕ)
-      → Exchangeable library cs x ks y ls → Exchangeable (step c) t x ks y ls
-  exchangeable-plain t cs k x ks y ls e = record {
+  exchangeable-plain : (t : Table) (s : S) → StandsFor t s → (x : ℕ) (ks : List ℕ) (y : ℕ) (ls : List ℕ)
+      → Exchangeable library s x ks y ls → Exchangeable (step c) t x ks y ls
+  exchangeable-plain t s k x ks y ls e = record {
     apart = e .apart;
-    first = subst Accepted (reply-same t cs (answer x ks) k) (e .first);
-    second = subst Accepted (reply-after t cs (answer x ks) (answer y ls) k) (e .second);
+    first = subst Accepted (mirrors .replies t s (answer x ks) k) (e .first);
+    second = subst Accepted (reply-after t s (answer x ks) (answer y ls) k) (e .second);
   }
 
-  exchangeable-cells : (t : Table) (cs : List ℕ) → Holds z c t cs → (x : ℕ) (ks : List ℕ) (y : ℕ) (ls : List ℕ)
-      → Exchangeable (step c) t x ks y ls → Exchangeable library cs x ks y ls
-  exchangeable-cells t cs k x ks y ls e = record {
+  exchangeable-back : (t : Table) (s : S) → StandsFor t s → (x : ℕ) (ks : List ℕ) (y : ℕ) (ls : List ℕ)
+      → Exchangeable (step c) t x ks y ls → Exchangeable library s x ks y ls
+  exchangeable-back t s k x ks y ls e = record {
     apart = e .apart;
-    first = subst Accepted (sym (reply-same t cs (answer x ks) k)) (e .first);
-    second = subst Accepted (sym (reply-after t cs (answer x ks) (answer y ls) k)) (e .second);
+    first = subst Accepted (sym (mirrors .replies t s (answer x ks) k)) (e .first);
+    second = subst Accepted (sym (reply-after t s (answer x ks) (answer y ls) k)) (e .second);
   }
 
-  exchanged-plain : (t : Table) (cs : List ℕ) (qs rs : List Request) → Holds z c t cs → Exchanged library cs qs rs
+  exchanged-plain : (t : Table) (s : S) (qs rs : List Request) → StandsFor t s → Exchanged library s qs rs
       → Exchanged (step c) t qs rs
-  exchanged-plain t cs qs rs k (unchanged s l) = unchanged t l
-  exchanged-plain t cs qs rs k (exchange s x ks y ls l e) = exchange t x ks y ls l (exchangeable-plain t s k x ks y ls e)
-  exchanged-plain t cs qs rs k (behind s q l m e) =
-      behind t q l m (exchanged-plain (step c t q .state) (library s q .state) l m (step-state z c cells laws library decides t s q k) e)
-  exchanged-plain t cs qs rs k (again s l m p e f) = again t l m p (exchanged-plain t s l m k e) (exchanged-plain t s m p k f)
+  exchanged-plain t r qs rs k (unchanged s l) = unchanged t l
+  exchanged-plain t r qs rs k (exchange s x ks y ls l e) = exchange t x ks y ls l (exchangeable-plain t s k x ks y ls e)
+  exchanged-plain t r qs rs k (behind s q l m e) =
+      behind t q l m (exchanged-plain (step c t q .state) (library s q .state) l m (mirrors .states t s q k) e)
+  exchanged-plain t r qs rs k (again s l m p e f) = again t l m p (exchanged-plain t s l m k e) (exchanged-plain t s m p k f)
 
   -- ---- what is left
 
-  answers-cells : (t u : Table) (cs ds : List ℕ) → Holds z c t cs → Holds z c u ds → (i : ℕ)
-      → SameAnswers (step c) counted i t u → SameAnswers library countedCells i cs ds
-  answers-cells t u cs ds k l i h = record {
+  answers-stand : (t u : Table) (s r : S) → StandsFor t s → StandsFor u r → (i : ℕ)
+      → SameAnswers (step c) counted i t u → SameAnswers library count i s r
+  answers-stand t u s r k l i h = record {
     state = h .state;
     numbers = h .numbers;
-    handed = hands-same t cs k i (h .state) 0 (h .numbers) (h .handed);
+    handed = hands-same t s k i (h .state) 0 (h .numbers) (h .handed);
     other-numbers = h .other-numbers;
-    other-handed = hands-same u ds l i (h .state) 0 (h .other-numbers) (h .other-handed);
-    loads = λ out. seen-same t cs k _ ∙ h .loads out ∙ sym (seen-same u ds l _);
-    instances = λ out. seen-same t cs k _ ∙ h .instances out ∙ sym (seen-same u ds l _);
+    other-handed = hands-same u r l i (h .state) 0 (h .other-numbers) (h .other-handed);
+    loads = λ out. seen-same t s k _ ∙ h .loads out ∙ sym (seen-same u r l _);
+    instances = λ out. seen-same t s k _ ∙ h .instances out ∙ sym (seen-same u r l _);
   }
 
-  alike-cells : (t u : Table) (cs ds : List ℕ) → Holds z c t cs → Holds z c u ds → SameButNumbers (step c) counted t u
-      → SameButNumbers library countedCells cs ds
-  alike-cells t u cs ds k l h = record {
-    same-counts = counts-same t cs k ∙ h .same-counts ∙ sym (counts-same u ds l);
-    same-answers = λ i low high. answers-cells t u cs ds k l i (h .same-answers i low (subst (λ (n : Counts). i ≤ n .subgoals) (counts-same t cs k) high));
-    same-replies = λ i qs. ap (heard i qs) (seen-same t cs k qs) ∙ h .same-replies i qs ∙ sym (ap (heard i qs) (seen-same u ds l qs));
+  alike-stand : (t u : Table) (s r : S) → StandsFor t s → StandsFor u r → SameButNumbers (step c) counted t u
+      → SameButNumbers library count s r
+  alike-stand t u s r k l h = record {
+    same-counts = mirrors .counts t s k ∙ h .same-counts ∙ sym (mirrors .counts u r l);
+    same-answers = λ i low high. answers-stand t u s r k l i (h .same-answers i low (subst (λ (n : Counts). i ≤ n .subgoals) (mirrors .counts t s k) high));
+    same-replies = λ i qs. ap (heard i qs) (seen-same t s k qs) ∙ h .same-replies i qs ∙ sym (ap (heard i qs) (seen-same u r l qs));
   }
 
-  other-cells : (t : Table) (cs : List ℕ) → Holds z c t cs → (x y : ℕ) (ks ls : List ℕ)
-      → Exchangeable library cs x ks y ls
-      → OtherOrder library countedCells cs x ks y ls
-  other-cells t cs k x y ks ls e =
-      let o = other-order c t x y ks ls (exchangeable-plain t cs k x ks y ls e) in
+  other-stand : (t : Table) (s : S) → StandsFor t s → (x y : ℕ) (ks ls : List ℕ)
+      → Exchangeable library s x ks y ls
+      → OtherOrder library count s x ks y ls
+  other-stand t s k x y ks ls e =
+      let o = other-order c t x y ks ls (exchangeable-plain t s k x ks y ls e) in
       record {
-        exchangeable = exchangeable-cells t cs k y ls x ks (o .exchangeable);
-        first-word = ap unnumbered (reply-same t cs (answer x ks) k) ∙ o .first-word ∙ sym (ap unnumbered (reply-after t cs (answer y ls) (answer x ks) k));
-        second-word = ap unnumbered (reply-after t cs (answer x ks) (answer y ls) k) ∙ o .second-word ∙ sym (ap unnumbered (reply-same t cs (answer y ls) k));
-        states = alike-cells _ _ _ _ (left-holds t cs k (answer x ks ∷ answer y ls ∷ [])) (left-holds t cs k (answer y ls ∷ answer x ks ∷ [])) (o .states);
+        exchangeable = exchangeable-back t s k y ls x ks (o .exchangeable);
+        first-word = ap unnumbered (mirrors .replies t s (answer x ks) k) ∙ o .first-word ∙ sym (ap unnumbered (reply-after t s (answer y ls) (answer x ks) k));
+        second-word = ap unnumbered (reply-after t s (answer x ks) (answer y ls) k) ∙ o .second-word ∙ sym (ap unnumbered (mirrors .replies t s (answer y ls) k));
+        states = alike-stand _ _ _ _ (left-stands t s k (answer x ks ∷ answer y ls ∷ [])) (left-stands t s k (answer y ls ∷ answer x ks ∷ [])) (o .states);
       }
 
-  rearranged-cells : (t : Table) (cs : List ℕ) → Holds z c t cs → (qs rs : List Request) → Exchanged library cs qs rs
-      → Rearranged library countedCells cs qs rs
-  rearranged-cells t cs k qs rs e =
-      let r = rearranged c t qs rs (exchanged-plain t cs qs rs k e) in
+  rearranged-stand : (t : Table) (s : S) → StandsFor t s → (qs rs : List Request) → Exchanged library s qs rs
+      → Rearranged library count s qs rs
+  rearranged-stand t s k qs rs e =
+      let r = rearranged c t qs rs (exchanged-plain t s qs rs k e) in
       record {
-        hears = λ i. ap (heard i qs) (seen-same t cs k qs) ∙ r .hears i ∙ sym (ap (heard i rs) (seen-same t cs k rs));
-        states = alike-cells _ _ _ _ (left-holds t cs k qs) (left-holds t cs k rs) (r .states);
+        hears = λ i. ap (heard i qs) (seen-same t s k qs) ∙ r .hears i ∙ sym (ap (heard i rs) (seen-same t s k rs));
+        states = alike-stand _ _ _ _ (left-stands t s k qs) (left-stands t s k rs) (r .states);
       }
 
-  -- of any library that decides as the calls do, with any layout and any coding
-  pub arrival-order : (n f a : ℕ) (s : List ℕ) → freshAnswer z n f a s ≡ Done
-      → ArrivalOrder library countedCells (freshSpace z n f a s)
-  arrival-order n f a s e =
-      let k : Holds z c (fresh n f a) (freshSpace z n f a s) = fresh-holds z c cells laws library decides n f a s e in
-      record {
-        exchanging = λ before x y ks ls h. other-cells _ _ (left-holds _ _ k before) x y ks ls h;
-        rearranging = λ qs rs h. rearranged-cells _ _ k qs rs h;
-      }
+  pub arrival-order : (n f a : ℕ) (s : S) → StandsFor (fresh n f a) s → ArrivalOrder library count s
+  arrival-order n f a s k = record {
+    exchanging = λ before x y ks ls h. other-stand _ _ (left-stands _ _ k before) x y ks ls h;
+    rearranging = λ qs rs h. rearranged-stand _ _ k qs rs h;
+  }
+
+-- ---- the cells of an edition, each call with an index or without
+
+module _ (e : ℕ) (known : knownEdition e ≡ true) {S : Type 0} (cells : S → List ℕ) (library : S → Request → Result S)
+    (lending : Lending cells library) where
+  abbrev Stored : Table → S → Type 0
+  Stored t s = Holds (sizesOf e) (codingOf e) t (cells s)
+
+  -- the call is the one without an index
+  call-alone : (t : Table) (s : S) (q : Request) → Stored t s
+      → Answers (cells s) q (library s q .reply) (library s q .out) (cells (library s q .state))
+  call-alone t s q k =
+      let l = lending s q in
+      let w = way-same e known t (cells s) k (l .0) q in (
+        l .1 .0 ∙ ap (λ (x : Result (List ℕ)). x .reply) w,
+        l .1 .1 ∙ ap (λ (x : Result (List ℕ)). x .out) w,
+        l .1 .2 ∙ ap (λ (x : Result (List ℕ)). x .state) w,
+      )
+
+  pub cells-mirror : Mirrors (codingOf e) library (λ x. countedCells (cells x)) Stored
+  cells-mirror = record {
+    replies = λ t s q k.
+        call-alone t s q k .0 ∙ ap (λ (x : Result (List ℕ)). x .reply) (deciding e known (cells s) (k .head) q (k .sound))
+        ∙ step-answers (sizesOf e) (codingOf e) (cells-in e known) (coding-laws e) t (cells s) (k .head) (k .sound) (k .same) q .replies;
+    outs = λ t s q k.
+        call-alone t s q k .1 ∙ ap (λ (x : Result (List ℕ)). x .out) (deciding e known (cells s) (k .head) q (k .sound))
+        ∙ step-answers (sizesOf e) (codingOf e) (cells-in e known) (coding-laws e) t (cells s) (k .head) (k .sound) (k .same) q .leaves;
+    states = λ t s q k.
+        subst (Holds (sizesOf e) (codingOf e) (step (codingOf e) t q .state)) (sym (call-alone t s q k .2)) (state-holds e known t (cells s) q k);
+    counts = λ t s k.
+        cells-in e known .cells-counts (cells s) (k .head) (k .sound)
+        ∙ sym (same-counts (codingOf e) (coding-laws e) t (viewOf (sizesOf e) (cells s) (k .head)) (k .same));
+  }
+
+pub indexed-arrival-order : IndexedArrivalOrder
+indexed-arrival-order S cells library lending e n f a before s d i =
+    let k = fresh-in e n f a before d in
+    arrival-order (codingOf e) library (λ x. countedCells (cells x)) (Stored e (k .0) cells library lending)
+    (cells-mirror e (k .0) cells library lending) n f a s
+    (subst (Holds (sizesOf e) (codingOf e) (fresh n f a)) (sym (i ∙ k .2)) (fresh-held e (k .0) n f a before (k .1)))
 
 pub cells-arrival-order : CellsArrivalOrder
 cells-arrival-order e n f a s d =
-    let k = fresh-in e n f a s d in
-    subst (λ (cs : List ℕ). ArrivalOrder spaceStep countedCells cs) (sym (k .2))
-    (arrival-order (sizesOf e) (codingOf e) (cells-hold (sizesOf e) (changes.sizes-wide e)) (coding-laws e) spaceStep (deciding e (k .0)) n f a s (k .1))
+    indexed-arrival-order (List ℕ) (λ cs. cs) spaceStep (λ cs q. (alone, (refl, refl, refl))) e n f a s (freshSpaceIn e n f a s) d refl

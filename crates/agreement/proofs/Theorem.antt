@@ -19,11 +19,12 @@ use Rattle.space.specs.Fresh.{freshAnswer, freshSpace, freshAnswerIn, freshSpac
 use Rattle.space.specs.declared.Head.{Head}
 use Rattle.space.specs.declared.Header.the-variants as header
 use Rattle.space.specs.declared.FreshAnswer.the-variants.{Done, Refused}
+use Rattle.trie.specs.Siblings.{searchChildren}
 use Rattle.store.specs.Calls.{cellStep, spaceStep, spaceStepBy, underAnyBy, underBy}
 use Rattle.agreement.proofs.HeaderTests.{header-read}
 use Rattle.agreement.specs.Records.{Wide}
 use Rattle.agreement.specs.Promise.{Agreement, Promise, Marked, Marked2}
-use Rattle.agreement.specs.Consequences.{Untouched, Following, SoundForEver, NoMoreForEver}
+use Rattle.agreement.specs.Consequences.{Untouched, UntouchedBy, Following, SoundForEver, NoMoreForEver}
 use Rattle.agreement.proofs.CellChanges as cells
 use Rattle.agreement.proofs.FreshView as fresh
 use Rattle.agreement.proofs.Holding.{Cells}
@@ -81,8 +82,11 @@ sound-for-ever e k = calls.sound-for-ever (sizesOf e) (codingOf e) (cells-hold (
 pub no-more-for-ever : (e : ℕ) → knownEdition e ≡ true → NoMoreForEver (sizesOf e) (codingOf e) spaceStep
 no-more-for-ever e k = calls.no-more-for-ever (sizesOf e) (codingOf e) (cells-hold (sizesOf e) (cells.sizes-wide e)) (coding-laws e) spaceStep (deciding e k)
 
+pub untouched-by : UntouchedBy
+untouched-by = refusals.untouched-by
+
 pub untouched : Untouched spaceStep
-untouched = refusals.untouched
+untouched = untouched-by searchChildren
 
 -- M1 to M10
 pub marked-list : Marked
