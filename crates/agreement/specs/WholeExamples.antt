@@ -207,6 +207,50 @@ unfolding faultOf faultUnder faultIn firstFailing chained among wholeSpace whole
     same whole
 first-broken = (refl, refl, refl, refl, refl, refl, refl, refl, refl, refl)
 
+-- answer 1 is followed by itself; and four answers, the first followed by the fourth, and the third by itself: answer 3
+-- is broken, and answers 2 and 3 are on no chain
+abbrev circling : List ℕ
+circling = set sample 51 1
+
+abbrev strayed : List ℕ
+strayed =
+    1 ∷ 8 ∷ 1 ∷ 4 ∷ 8 ∷ 48 ∷ 54 ∷ 66
+    ∷ 0 ∷ 1 ∷ 0 ∷ 0 ∷ 0
+    ∷ fun 1 1 ∷ 2 ∷ 0 ∷ 0 ∷ 0
+    ∷ var 0 ∷ 0 ∷ 0 ∷ 1 ∷ 1
+    ∷ 0 ∷ 4 ∷ 0 ∷ 3 ∷ 0
+    ∷ atom 5 ∷ 0 ∷ 5 ∷ 3 ∷ 1
+    ∷ atom 6 ∷ 0 ∷ 6 ∷ 3 ∷ 2
+    ∷ atom 7 ∷ 0 ∷ 7 ∷ 3 ∷ 3
+    ∷ atom 8 ∷ 0 ∷ 0 ∷ 3 ∷ 4
+    ∷ 2 ∷ 3 ∷ 1 ∷ 0 ∷ 1 ∷ 4
+    ∷ 4 ∷ 1 ∷ 4
+    ∷ 5 ∷ 1 ∷ 4
+    ∷ 6 ∷ 1 ∷ 3
+    ∷ 7 ∷ 1 ∷ 0 ∷ []
+
+-- Of two broken records the kind decides, not the number: the header, then the nodes, the subgoals, the answers, each
+-- kind by number; then the answers that the chains leave out.
+abbrev pub TwoBroken : Type 0
+TwoBroken =
+    (faultOf circling ≡ faults.answer 1)
+    × (faultOf (set unlisted 0 3) ≡ heading)
+    × (faultOf (set unlisted 48 1) ≡ faults.node 5)
+    × (faultOf (set unlisted 51 1) ≡ faults.node 5)
+    × (faultOf (set endless 51 1) ≡ faults.subgoal 1)
+    × (faultOf (set unlisted 17 1) ≡ faults.node 1)
+    × (faultOf strayed ≡ faults.answer 3)
+    × (faultOf (set strayed 62 4) ≡ faults.answer 2)
+
+pub two-broken : TwoBroken
+unfolding faultOf faultUnder faultIn firstFailing chained among chains chain answerWhole subgoalWhole ledUp firstLeaf
+    endsWhole nodeWhole linkWhole childWhole rootWhole inRange capacity counted knownEdition headerOf spaceHeader
+    subgoalWidth answerWidth follows nodeSound bothOrNeither subgoalSound answerSound searchSiblings searchChildren
+    walkFromBy walkBy gather areForms legalForm judged naming callable predicate storedOf compactForm areTerms pairForm
+    formTerms front symbolic tokenOf items entered filled lastOf tailOf into inside collected reads begun applied paired
+    shapeOf arityOf every compact elements pairs numbered renamed met seen rank same whole
+two-broken = (refl, refl, refl, refl, refl, refl, refl, refl)
+
 -- a finished subgoal knows its own answers: 8 is for those that it lacks, and the last answer is judged (9) before it
 abbrev pub Held : Type 0
 Held =
