@@ -2,3 +2,4 @@ pub mod ReplyBounds
 pub mod WordLaws
 pub mod FaultBounds
 pub mod BuildBounds
+pub mod Exports

@@ -3,7 +3,7 @@ use Prim.Native.Nat.{ℕ, _+_, _*_, _^_}
 use mathlib.Core.List.{List, [], _∷_}
 use mathlib.Core.Path.{_≡_, refl}
 use Rattle.plain.specs.Requests.{Open, Finished, finish, next, new, oldSubgoal, oldAnswer, done, at, noneYet, noMore}
-use Rattle.plain.specs.Requests.{cells, refused, short}
+use Rattle.plain.specs.Requests.{cells, joined, refused, short}
 use Rattle.basis.specs.Editions.{knownEdition}
 use Rattle.space.specs.Layout.{sizes, subgoalWidth, answerWidth}
 use Rattle.space.specs.Heading.{inRange, capacity, whole, counted, headerOf, spaceHeader}
@@ -11,7 +11,8 @@ use Rattle.space.specs.Fresh.{freshCells, freshFits, freshAnswer, freshAnswerIn
 use Rattle.store.specs.Decisions.{decideBy}
 use Rattle.store.specs.Calls.{reply, underBy, underAnyBy, spaceStep, spaceStepBy}
 use Rattle.store.specs.Building as build
-use Rattle.words.specs.Words.{word, saidFresh, counting, countsReply, countsOut, countsOf, wordBuild}
+use Rattle.agreement.specs.Faults.{nothing, heading, node, subgoal, answer}
+use Rattle.words.specs.Words.{word, saidFresh, counting, countsReply, countsOut, countsOf, wordCheck, wordBuild}
 
 -- a fresh space for four nodes, two subgoals and one answer: 43 cells
 abbrev space : List ℕ
@@ -27,11 +28,26 @@ pub words :
     × (word noneYet ≡ 25769803776)
     × (word noMore ≡ 38654705664)
     × (word (cells 5) ≡ 30064771077)
+    -- that nothing is new is no refusal
+    × (word (joined 0) ≡ 10 * 2 ^ 32)
+    × (word (joined 5) ≡ 42949672965)
     -- 256 + 9, and 256 + 12 with the cells that out would need
     × (word (refused 9) ≡ 265 * 2 ^ 32)
     × (word (short 383) ≡ 268 * 2 ^ 32 + 383)
 unfolding word
-words = (refl, refl, refl, refl, refl, refl, refl, refl, refl, refl, refl)
+words = (refl, refl, refl, refl, refl, refl, refl, refl, refl, refl, refl, refl, refl)
+
+pub checks :
+    (wordCheck nothing ≡ 0)
+    -- 256 + 1
+    × (wordCheck heading ≡ 257 * 2 ^ 32)
+    -- 256 + 9, and the record: its kind above its number
+    × (wordCheck (node 0) ≡ 265 * 2 ^ 32 + 268435456)
+    × (wordCheck (node 5) ≡ 265 * 2 ^ 32 + 268435461)
+    × (wordCheck (subgoal 5) ≡ 265 * 2 ^ 32 + 536870917)
+    × (wordCheck (answer 5) ≡ 265 * 2 ^ 32 + 805306373)
+unfolding wordCheck
+checks = (refl, refl, refl, refl, refl, refl)
 
 pub builds :
     -- that no child enters is no refusal

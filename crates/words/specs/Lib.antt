@@ -1,3 +1,4 @@
 pub mod Words
 pub mod Bounded
+pub mod Exports
 pub mod Examples

@@ -1,0 +1,104 @@
+-- Exports that each meet their contract are a history of calls, so their words are those of the plain table's replies.
+use Prim.Native.Nat.{ℕ}
+use mathlib.Core.Bool.{true}
+use mathlib.Core.List.{List, [], _∷_, map, zipWith}
+use mathlib.Core.Path.{_≡_, refl, sym, ap, _∙_, subst}
+use native.Mathlib.Omega.{arith}
+use Rattle.plain.specs.Coding.{codingOf}
+use Rattle.plain.specs.Requests.{Request, counts, Seen}
+use Rattle.plain.specs.Table.{tableTrace, editionTrace}
+use Rattle.space.specs.declared.FreshAnswer.{FreshAnswer}
+use Rattle.space.specs.declared.FreshAnswer.the-variants.{Done, Refused}
+use Rattle.store.specs.Calls.{countedCells}
+use Rattle.agreement.specs.History.{alone, Made, Meets, History, asked, seenOf}
+use Rattle.agreement.specs.Whole.{tableOf, editionOf}
+use Rattle.agreement.specs.Faults.{Fault, nothing, heading, node, subgoal, answer, faultOf}
+use Rattle.agreement.proofs.Faults.{fault-told}
+use Rattle.agreement.proofs.Histories.{histories, whole-histories}
+use Rattle.words.specs.Words.{word, saidFresh, wordCheck}
+use Rattle.words.specs.Exports.{Export, callOf, countsInto, requestOf, ExportMade, MeetsExport, Exports, exportsOf, requestsOf, SeenWord, seenExport, seenAs}
+use Rattle.words.specs.Exports.{ExportHistories, WholeExportHistories, FreshZero, CheckZero}
+
+-- ---- word 0
+
+fresh-said : (x : FreshAnswer) (w : ℕ) → w ≡ word (saidFresh x) → (w ≡ 0 → x ≡ Done) × (x ≡ Done → w ≡ 0)
+unfolding word
+fresh-said Done w e = (λ z. refl, λ z. omega (arith, e))
+fresh-said (Refused r) w e =
+    (λ z. absurd (omega (arith, e, z)), λ d. let x : _≡_ {A = ℕ} 0 1 = cc in absurd (omega arith))
+
+fault-said : (x : Fault) (w : ℕ) → w ≡ wordCheck x → (w ≡ 0 → x ≡ nothing) × (x ≡ nothing → w ≡ 0)
+unfolding wordCheck
+fault-said nothing w e = (λ z. refl, λ z. omega (arith, e))
+fault-said heading w e =
+    (λ z. absurd (omega (arith, e, z)), λ d. let x : _≡_ {A = ℕ} 0 1 = cc in absurd (omega arith))
+fault-said (node n) w e =
+    (λ z. absurd (omega (arith, e, z)), λ d. let x : _≡_ {A = ℕ} 0 1 = cc in absurd (omega arith))
+fault-said (subgoal s) w e =
+    (λ z. absurd (omega (arith, e, z)), λ d. let x : _≡_ {A = ℕ} 0 1 = cc in absurd (omega arith))
+fault-said (answer a) w e =
+    (λ z. absurd (omega (arith, e, z)), λ d. let x : _≡_ {A = ℕ} 0 1 = cc in absurd (omega arith))
+
+pub fresh-zero : FreshZero
+fresh-zero e n f a before w after r = fresh-said _ w (r .0)
+
+pub check-zero : CheckZero
+check-zero space w r =
+    let k = fault-said (faultOf space) w r in
+    (λ z. fault-told space .0 (k .0 z), λ p. k .1 (fault-told space .1 p))
+
+-- ---- exports one after another
+
+-- the call that an export makes
+pub record CallMade (before : List ℕ) (x : Export) (w : ℕ) (out after : List ℕ) : Type 0 where
+  pub made : Made
+  pub meets : Meets before made
+  pub leaves : made .after ≡ after
+  pub asks : made .request ≡ requestOf x
+  pub shows : seenAs x (seenOf made) ≡ record { result = w; counted = countedCells after; out = out }
+
+call-made : (before : List ℕ) (x : Export) (w : ℕ) (out after : List ℕ) → MeetsExport before x w out after → CallMade before x w out after
+call-made before (callOf q b) w out after h = record {
+  made = record { request = q; beside = b; reply = h .0; out = out; after = after };
+  meets = h .1;
+  leaves = refl;
+  asks = refl;
+  shows = rw (h .2) refl;
+}
+call-made before (countsInto room) w out after h = record {
+  made = record { request = counts; beside = alone; reply = h .0 .0; out = []; after = after };
+  meets = (h .0 .1 .0, h .0 .1 .1, h .1 ∙ h .0 .1 .2);
+  leaves = refl;
+  asks = refl;
+  shows = rw (h .0 .2, h .0 .3) refl;
+}
+
+-- what a list of exports makes of what was seen of its calls
+abbrev inWords : List ExportMade → List Seen → List SeenWord
+inWords xs ss = zipWith seenAs (exportsOf xs) ss
+
+calls-made : (before : List ℕ) (xs : List ExportMade) → Exports before xs
+    → (ms : List Made) × History before ms × (asked ms ≡ requestsOf xs) × (inWords xs (map seenOf ms) ≡ map seenExport xs)
+unfolding Exports History zipWith
+calls-made before [] h = ([], tt, refl, refl)
+calls-made before (x ∷ xs) h =
+    let l = call-made before (x .export) (x .result) (x .out) (x .after) (h .0) in
+    let k = calls-made (x .after) xs (h .1) in (
+      l .made ∷ k .0,
+      (l .meets, subst (λ (cs : List ℕ). History cs (k .0)) (sym (l .leaves)) (k .1)),
+      rw (l .asks, k .2) refl,
+      rw (l .shows, k .3) refl,
+    )
+
+pub export-histories : ExportHistories
+export-histories e n f a before space xs r h =
+    let d = fresh-zero e n f a before 0 space r .0 refl in
+    let k = calls-made _ xs (subst (λ (cs : List ℕ). Exports cs xs) (r .1) h) in
+    sym (k .3) ∙ ap (inWords xs) (histories e n f a before (k .0) d (k .1))
+    ∙ ap (λ (qs : List Request). inWords xs (editionTrace e n f a qs)) (k .2)
+
+pub whole-export-histories : WholeExportHistories
+whole-export-histories space xs r h =
+    let k = calls-made space xs h in
+    sym (k .3) ∙ ap (inWords xs) (whole-histories space (k .0) (check-zero space 0 r .0 refl) (k .1))
+    ∙ ap (λ (qs : List Request). inWords xs (tableTrace (codingOf (editionOf space)) (tableOf space) qs)) (k .2)
