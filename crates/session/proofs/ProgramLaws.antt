@@ -24,7 +24,7 @@ use Rattle.store.specs.Calls.{outAfter, underBy, underAny, underAnyBy, spaceSte
 use Rattle.store.specs.Views.{viewOf}
 use Rattle.plain.specs.Coding.{codingOf}
 use Rattle.text.specs.Fields.{Fields, fields, Number, noNumber, someNumber, Cells, noCells, someCells, firstNumber, behind, onlyNumber, hexCells}
-use Rattle.text.specs.Cutting.{newline, Lines, linesFrom, lastLine, linesOf, concatenated, keptMore, taking, Keeps}
+use Rattle.text.specs.Cutting.{newline, Lines, linesFrom, lastLine, linesOf, concatenated, keptMore, Took, taking, Keeps}
 use Rattle.text.specs.declared.Taking.{Taking}
 use Rattle.text.specs.declared.Taking.the-variants.{Line, More}
 use Rattle.text.proofs.CuttingLaws.{keeps-more, lines-end, lines-on, taking-end, taking-on, rest-behind}
@@ -179,10 +179,10 @@ means-cut line out most h =
 -- ---- chunks
 
 -- a turn and what follows it
-abbrev then : Turn → (Holding → Turn) → Turn
+abbrev pub then : Turn → (Holding → Turn) → Turn
 then r later = turn (r .printed ++ later (r .holds) .printed) (later (r .holds) .holds)
 
-feed-append : (xs ys : List ℕ) (p : Holding) → feed (xs ++ ys) p ≡ then (feed xs p) (feed ys)
+pub feed-append : (xs ys : List ℕ) (p : Holding) → feed (xs ++ ys) p ≡ then (feed xs p) (feed ys)
 unfolding feed
 feed-append [] ys p = refl
 feed-append (b ∷ xs) ys p =
@@ -347,3 +347,47 @@ turns (b ∷ bs) chunk at p e =
 
 pub turn-by-turn : TurnByTurn
 turn-by-turn chunk at p = turns (drop at chunk) chunk at p refl
+
+-- the bytes up to the newline where a line ends, and what they leave
+pub record LineFed (bs behind : List ℕ) (p : Holding) (line : List ℕ) (n : ℕ) : Type 0 where
+  pub front : List ℕ
+  pub splits : bs ≡ front ++ behind
+  pub feeds : feed front p .holds ≡ answersLine (withLine p line n) .holds
+
+abbrev pub LineEnds : (chunk bs : List ℕ) → Holding → List ℕ → Taking → Type 0
+LineEnds chunk bs p line (Line place n) = LineFed bs (drop place chunk) p line n
+LineEnds chunk bs p line (More n) = Unit {0}
+
+ends-on : (chunk bs : List ℕ) (p : Holding) (b : ℕ) (line : List ℕ) (r : Taking) → eqb b newline ≡ false
+    → LineEnds chunk bs (keepsByte b p .holds) line r → LineEnds chunk (b ∷ bs) p line r
+ends-on chunk bs p b line (Line place n) t k = record {
+  front = b ∷ k .front;
+  splits = ap (λ (l : List ℕ). b ∷ l) (k .splits);
+  feeds = ap (λ (x : Turn). x .holds) (feed-on (k .front) p b t) ∙ k .feeds;
+}
+ends-on chunk bs p b line (More n) t k = tt
+
+ends-here : (chunk bs : List ℕ) (at : ℕ) (p : Holding) (b : ℕ) → eqb b newline ≡ true → bs ≡ drop (at + 1) chunk
+    → LineFed (b ∷ bs) (drop (at + 1) chunk) p (p .line) (p .kept)
+unfolding feed
+ends-here chunk bs at p b t e = record {
+  front = b ∷ [];
+  splits = ap (λ (l : List ℕ). b ∷ l) e;
+  feeds = rw t;
+}
+
+lines-end-all : (bs chunk : List ℕ) (at : ℕ) (p : Holding) → bs ≡ drop at chunk
+    → (let r = taking bs at (p .line) (p .kept) in LineEnds chunk bs p (r .line) (r .answer))
+lines-end-all [] chunk at p e = unfold taking in tt
+lines-end-all (b ∷ bs) chunk at p e =
+    by-cases (eqb b newline)
+    (λ t. rw (taking-end bs (p .line) at (p .kept) b t) (ends-here chunk bs at p b t (rest-behind chunk bs at b e)))
+    (λ t.
+    let r = taking bs (at + 1) (set (p .line) (p .kept) b) (keptMore (p .line) (p .kept)) in
+    rw (taking-on bs (p .line) at (p .kept) b t)
+    (ends-on chunk bs p b (r .line) (r .answer) t
+    (lines-end-all bs chunk (at + 1) (keepsByte b p .holds) (rest-behind chunk bs at b e))))
+
+pub line-ends : (chunk : List ℕ) (at : ℕ) (p : Holding) (r : Took) → r ≡ taking (drop at chunk) at (p .line) (p .kept)
+    → LineEnds chunk (drop at chunk) p (r .line) (r .answer)
+line-ends chunk at p r e = rw e (lines-end-all (drop at chunk) chunk at p refl)

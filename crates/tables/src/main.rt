@@ -1,5 +1,7 @@
 // The session program: reads calls from standard input, a line each, and prints a line for each. It reads, calls
-// `take_line` and `respond`, and writes; crates/session/specs/Program.antt says what these calls come to.
+// `take_line` and `respond`, and writes; crates/session/specs/Program.antt says what these calls come to. The contracts
+// fix what is held after each function; that the bytes read are the input's, and that the replies are printed, is for
+// the reader to see.
 mod usage;
 
 use libc::STDERR_FILENO;
@@ -17,17 +19,22 @@ use text::lines::take_line;
 use usage::say_usage;
 ghost use Prim.Native.Nat.{_≤_};
 ghost use lib.ListN.{length};
-ghost use Rattle.basis.specs.Moments.{old};
-ghost use Rattle.tables.specs.Progress.{Within};
+ghost use Rattle.basis.specs.Moments.{old, new};
+ghost use Rattle.session.specs.Program.{starts};
+ghost use Rattle.tables.specs.Progress.{Within, Answered, held, TakesChunk, ReadsSome, ReadsOn};
 
-// How many bytes of the line that has begun are kept, or that input or output is over.
+// How many bytes of the line that has begun are kept; or that the input has ended; or that reading or
+// printing failed. Both end the program, but only an input that has ended has a last line.
 pub enum Progress {
     Kept(usize),
-    Over,
+    Ended,
+    Failed,
 }
 
 // Answers a line and prints the reply at once, so that a caller who waits for it gets it.
-fn answer(line: &[u8], space: &mut [u32], out: &mut [u32], text: &mut [u8]) -> bool {
+fn answer(line: &[u8], space: &mut [u32], out: &mut [u32], text: &mut [u8]) -> bool
+    ensures { λ r. ⌜ Answered (old line) (old text) (old space) (old out) (new text) (new space) (new out) ⌝ }
+{
     let n = respond(line, space, out, text);
     let is_written = io::write_all(STDOUT_FILENO, &text[..n]);
     if !is_written {
@@ -47,6 +54,9 @@ fn take_chunk(
 ) -> Progress
     requires { ⌜ kept ≤ length (now line) ⌝ }
     ensures { λ r. ⌜ Within r (length (old line)) ⌝ }
+    ensures { λ r.
+        ⌜ TakesChunk (old chunk) (held (old line) kept (old text) (old space) (old out)) r (new line) (new text)
+        (new space) (new out) ⌝ }
 {
     let mut at = 0;
     let mut n = kept;
@@ -55,7 +65,7 @@ fn take_chunk(
             Taking::More(k) => return Progress::Kept(k),
             Taking::Line(next, end) => {
                 if !answer(&line[..end], space, out, text) {
-                    return Progress::Over;
+                    return Progress::Failed;
                 }
                 at = next;
                 n = 0;
@@ -77,17 +87,20 @@ fn read_some(
 ) -> Progress
     requires { ⌜ kept ≤ length (now line) ⌝ }
     ensures { λ r. ⌜ Within r (length (old line)) ⌝ }
+    ensures { λ r.
+        ⌜ ReadsSome (new read) (held (old line) kept (old text) (old space) (old out)) r (new line) (new text)
+        (new space) (new out) ⌝ }
 {
     let got = libc::read(STDIN_FILENO, read);
     if got < 0 {
         os::fail(b"standard input");
-        return Progress::Over;
+        return Progress::Failed;
     }
     if got == 0 {
         if 0 < kept {
             answer(&line[..kept], space, out, text);
         }
-        return Progress::Over;
+        return Progress::Ended;
     }
     let n = io::count(got, read);
     take_chunk(&read[..n], line, kept, space, out, text)
@@ -95,16 +108,28 @@ fn read_some(
 
 // Reads to the end. A proved loop has to end, and nothing says that the input does, so the loop counts
 // down from a number that no run uses up.
-fn run(read: &mut [u8], line: &mut [u8], space: &mut [u32], out: &mut [u32], text: &mut [u8]) {
+fn run(
+    read: &mut [u8],
+    line: &mut [u8],
+    space: &mut [u32],
+    out: &mut [u32],
+    text: &mut [u8],
+) -> Progress
+    ensures { λ r.
+        ⌜ ReadsOn (starts (old line) (old text) (old space) (old out)) r (new line) (new text) (new space)
+        (new out) ⌝ }
+{
     let mut kept = 0;
     let mut turns = u64::MAX;
     while turns > 0 {
-        let Progress::Kept(n) = read_some(read, line, kept, space, out, text) else {
-            return;
+        let progress = read_some(read, line, kept, space, out, text);
+        let Progress::Kept(n) = progress else {
+            return progress;
         };
         kept = n;
         turns -= 1;
     }
+    Progress::Kept(kept)
 }
 
 // A table in a space of this length is never refused (`Started` in crates/session/specs/Program.antt); what `start`

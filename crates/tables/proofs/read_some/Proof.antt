@@ -1,7 +1,9 @@
 -- `read_some` meets its contract.
 use mathlib.Core.Path.{sym}
+use native.Mathlib.Omega.{arith}
 use lib.Seq.{length-take-le}
 use borrow.Author.Needs.{needs}
+use Rattle.tables.proofs.FedLaws.{feed-none, last-answered, last-none, chunk-read}
 use Rattle.tables.proofs.read_some.Statement.{statement}
 use Rattle.tables.proofs.read_some.Tie as tie
 
@@ -18,7 +20,7 @@ same-length : tie.Need-same-length
 same-length c = search needs
 
 returns : tie.Need-returns
-returns c = search needs
+returns c = (tt, (0, c .before .before .before .before .before .before .before .before .before .before .before .before .args .kept, feed-none _))
 
 slice-reshare-prefix-answer : tie.Need-slice-reshare-prefix-answer
 slice-reshare-prefix-answer c = search needs
@@ -45,13 +47,13 @@ same-length-6 : tie.Need-same-length-6
 same-length-6 c = search needs
 
 returns-2 : tie.Need-returns-2
-returns-2 c = search needs
+returns-2 c = (tt, last-answered _ (c .before .before .before .before .before .before .before .before .before .before .before .before .before .before .before .before .before .before .before .before .before .before .before .args .kept) _ _ _ _ _ _ (omega arith) (c .before .before .before .before .before .before .answer .ensures))
 
 same-length-7 : tie.Need-same-length-7
 same-length-7 c = search needs
 
 returns-3 : tie.Need-returns-3
-returns-3 c = search needs
+returns-3 c = (tt, last-none _ (c .before .before .before .before .before .before .before .before .before .before .before .before .args .kept) _ _ _ (omega arith))
 
 count-requires : tie.Need-count-requires
 count-requires c κs = search needs
@@ -81,7 +83,9 @@ same-length-12 : tie.Need-same-length-12
 same-length-12 c = search needs
 
 returns-4 : tie.Need-returns-4
-returns-4 c = search needs
+returns-4 c =
+    let r = c .before .before .before .before .before .before .before .before .take-chunk in
+    (r .ensures .0, chunk-read _ (c .before .before .before .before .before .before .before .before .before .before .before .before .before .before .count .result) _ (r .result) _ _ _ _ (r .ensures .1))
 
 pub read-some-spec : {M : Type 1} → statement M
 read-some-spec =

@@ -1,29 +1,33 @@
--- `run` is safe and ends.
+-- `run` meets its contract.
 use Prim.Native.Nat.{_≤_}
 use mathlib.Core.Path.{_≡_, refl}
 use native.Mathlib.Omega.{arith}
 use lib.ListN.{length}
 use borrow.Author.Needs.{needs}
+use Rattle.session.specs.Program.{starts}
+use Rattle.tables.specs.declared.Progress.the-variants.{Kept}
+use Rattle.tables.specs.Progress.{held}
+use Rattle.tables.proofs.FedLaws.{HasRead, read-none, reads-on, read-so-far}
 use Rattle.tables.proofs.run.Statement.{statement}
 use Rattle.tables.proofs.run.Tie as tie
 
 abbrev Inv-loop : tie.InvT-loop
-Inv-loop read₀ line₀ space₀ out₀ text₀ kept₀ turns₀ read line space out text kept turns = (length read ≡ length read₀) × (length line ≡ length line₀) × (length space ≡ length space₀) × (length out ≡ length out₀) × (length text ≡ length text₀) × (kept ≤ length line₀)
+Inv-loop read₀ line₀ space₀ out₀ text₀ kept₀ turns₀ read line space out text kept turns =
+    (length read ≡ length read₀) × (length line ≡ length line₀) × (length space ≡ length space₀) × (length out ≡ length out₀)
+    × (length text ≡ length text₀) × (kept ≤ length line₀)
+    × HasRead (starts line₀ text₀ space₀ out₀) (held line kept text space out)
 
 abbrev μ-loop : tie.MeasureT-loop
 μ-loop read₀ line₀ space₀ out₀ text₀ kept₀ turns₀ read line space out text kept turns = turns
 
 loop-holds : tie.Need-loop-holds Inv-loop μ-loop
-loop-holds c = (refl, refl, refl, refl, refl, omega arith)
+loop-holds c = (refl, refl, refl, refl, refl, omega arith, read-none _)
 
 read-some-requires : tie.Need-read-some-requires Inv-loop μ-loop
 read-some-requires c κs = omega arith
 
-enum-known-n : tie.Need-enum-known-n Inv-loop μ-loop
-enum-known-n c = search needs
-
-enum-told : tie.Need-enum-told Inv-loop μ-loop
-enum-told c = search needs
+enum-known-progress : tie.Need-enum-known-progress Inv-loop μ-loop
+enum-known-progress c = search needs
 
 same-length : tie.Need-same-length Inv-loop μ-loop
 same-length c = omega arith
@@ -41,7 +45,9 @@ same-length-5 : tie.Need-same-length-5 Inv-loop μ-loop
 same-length-5 c = omega arith
 
 returns : tie.Need-returns Inv-loop μ-loop
-returns c = tt
+returns c =
+    let r = c .before .before .before .before .before .before .before .before .before .before .before .read-some in
+    reads-on (c .before .before .before .before .before .before .before .before .before .before .before .before .before .before .before .before .before .before .loop .inv .6) _ (r .result) _ _ _ _ (r .ensures .1)
 
 sub-turns : tie.Need-sub-turns Inv-loop μ-loop
 sub-turns c = omega arith
@@ -50,7 +56,18 @@ loop-less : tie.Need-loop-less Inv-loop μ-loop
 loop-less c = omega arith
 
 loop-again : tie.Need-loop-again Inv-loop μ-loop
-loop-again c = let w = rw (c .before .n .given .1) at (c .before .before .before .before .before .before .before .before .before .before .before .before .before .read-some .ensures) in (omega arith, omega arith, omega arith, omega arith, omega arith, omega (arith, w))
+loop-again c =
+    let r = c .before .before .before .before .before .before .before .before .before .before .before .before .before .read-some in
+    let w = rw (c .before .progress .given .1) at (r .ensures .0) in
+    let h = rw (c .before .progress .given .1) at (r .ensures .1) in (
+      omega arith,
+      omega arith,
+      omega arith,
+      omega arith,
+      omega arith,
+      omega (arith, w),
+      read-so-far _ _ (reads-on (c .before .before .before .before .before .before .before .before .before .before .before .before .before .before .before .before .before .before .before .before .loop .inv .6) _ (Kept (c .before .progress .given .0 .0)) _ _ _ _ h),
+    )
 
 same-length-6 : tie.Need-same-length-6 Inv-loop μ-loop
 same-length-6 c = omega arith
@@ -68,7 +85,7 @@ same-length-10 : tie.Need-same-length-10 Inv-loop μ-loop
 same-length-10 c = omega arith
 
 returns-2 : tie.Need-returns-2 Inv-loop μ-loop
-returns-2 c = tt
+returns-2 c = (c .before .loop .inv .6 .bytes, c .before .loop .inv .6 .feeds)
 
 pub run-spec : {M : Type 1} → statement M
 run-spec =
@@ -78,8 +95,7 @@ run-spec =
     μ-loop
     loop-holds
     read-some-requires
-    enum-known-n
-    enum-told
+    enum-known-progress
     same-length
     same-length-2
     same-length-3

@@ -5,6 +5,8 @@ use native.Mathlib.Omega.{arith}
 use lib.ListN.{length}
 use lib.Seq.{length-take-le}
 use borrow.Author.Needs.{needs}
+use Rattle.tables.specs.Progress.{held}
+use Rattle.tables.proofs.FedLaws.{Through, through-none, through-all, through-some, through-more, through-line}
 use Rattle.tables.proofs.take_chunk.Statement.{statement}
 use Rattle.tables.proofs.take_chunk.Tie as tie
 
@@ -12,12 +14,13 @@ abbrev Inv-loop : tie.InvT-loop
 Inv-loop chunk line₀ kept space₀ out₀ text₀ at₀ n₀ line space out text at n =
     (length line ≡ length line₀) × (length space ≡ length space₀) × (length out ≡ length out₀)
     × (length text ≡ length text₀) × (n ≤ length line₀)
+    × Through chunk at (held line₀ kept text₀ space₀ out₀) (held line n text space out)
 
 abbrev μ-loop : tie.MeasureT-loop
 μ-loop chunk line₀ kept space₀ out₀ text₀ at₀ n₀ line space out text at n = length chunk - at
 
 loop-holds : tie.Need-loop-holds Inv-loop μ-loop
-loop-holds c = (refl, refl, refl, refl, c .before .before .before .before .before .pre)
+loop-holds c = (refl, refl, refl, refl, c .before .before .before .before .before .pre, through-none _ _)
 
 take-line-requires : tie.Need-take-line-requires Inv-loop μ-loop
 take-line-requires c κs = search needs
@@ -39,8 +42,10 @@ same-length-4 c = omega arith
 
 returns : tie.Need-returns Inv-loop μ-loop
 returns c =
-    let w = rw (c .before .k .given .1) at (c .before .before .before .before .before .take-line .ensures .1) in
-    omega (arith, w (omega arith))
+    let r = c .before .before .before .before .before .take-line in
+    let w = rw (c .before .k .given .1) at (r .ensures .1) in
+    let e = rw (c .before .k .given .1) at (r .ensures .0) in
+    (omega (arith, w (omega arith)), through-more (c .before .before .before .before .before .before .before .before .loop .inv .5) _ _ e)
 
 enum-known-next : tie.Need-enum-known-next Inv-loop μ-loop
 enum-known-next c = search needs
@@ -71,7 +76,10 @@ same-length-8 : tie.Need-same-length-8 Inv-loop μ-loop
 same-length-8 c = omega arith
 
 returns-2 : tie.Need-returns-2 Inv-loop μ-loop
-returns-2 c = tt
+returns-2 c =
+    let r = c .before .before .before .before .before .before .before .before .before .before .before .before .before .before .before .before .before .take-line in
+    let e = rw (c .before .before .before .before .before .before .before .before .before .before .before .before .before .next .given .1) at (r .ensures .0) in
+    (tt, through-some (through-line (c .before .before .before .before .before .before .before .before .before .before .before .before .before .before .before .before .before .before .before .before .loop .inv .5) _ _ _ _ _ _ e (c .before .before .before .before .before .before .before .answer .ensures)))
 
 loop-less : tie.Need-loop-less Inv-loop μ-loop
 loop-less c =
@@ -79,7 +87,15 @@ loop-less c =
     omega (arith, w .0, w .1)
 
 loop-again : tie.Need-loop-again Inv-loop μ-loop
-loop-again c = (omega arith, omega arith, omega arith, omega arith, omega arith)
+loop-again c =
+    let e = rw (c .before .before .before .before .before .before .before .before .before .before .before .before .before .next .given .1) at (c .before .before .before .before .before .before .before .before .before .before .before .before .before .before .before .before .before .take-line .ensures .0) in (
+      omega arith,
+      omega arith,
+      omega arith,
+      omega arith,
+      omega arith,
+      through-line (c .before .before .before .before .before .before .before .before .before .before .before .before .before .before .before .before .before .before .before .before .loop .inv .5) _ _ _ _ _ _ e (c .before .before .before .before .before .before .before .answer .ensures),
+    )
 
 same-length-9 : tie.Need-same-length-9 Inv-loop μ-loop
 same-length-9 c = omega arith
@@ -94,7 +110,7 @@ same-length-12 : tie.Need-same-length-12 Inv-loop μ-loop
 same-length-12 c = omega arith
 
 returns-3 : tie.Need-returns-3 Inv-loop μ-loop
-returns-3 c = omega arith
+returns-3 c = (omega arith, through-all (c .before .loop .inv .5) (omega arith))
 
 pub take-chunk-spec : {M : Type 1} → statement M
 take-chunk-spec =
