@@ -1,6 +1,6 @@
--- What the program's functions leave of what it holds: the contracts of src/main.rt. Nothing can be said there of what
--- is read and printed; so they say that there are bytes such that the program holds what `feed` of them leaves
--- (crates/session/specs/Program.antt).
+-- What the program's functions leave of what it holds: the contracts of src/main.rt. A contract can say nothing of what
+-- comes from standard input, so they say that there are bytes such that the program holds what `feed` of them leaves
+-- (crates/session/specs/Program.antt); and nothing of what is printed.
 use Prim.Native.Nat.{ℕ, _≤_}
 use mathlib.Core.List.{List}
 use mathlib.Core.Path.{_≡_}
@@ -49,7 +49,7 @@ ReadsSome buffer p Ended line text space out = held line 0 text space out ≡ en
 ReadsSome buffer p Failed line text space out =
     (k : ℕ) × (n : ℕ) × Fed (take k buffer) p (held line n text space out)
 
--- so many bytes were read and taken, and then the input had ended, or not
+-- one read after another: some bytes were taken, and where the input has ended the last line was answered too
 abbrev pub ReadsOn : Holding → Progress → (line text space out : List ℕ) → Type 0
 ReadsOn p (Kept n) line text space out = (bytes : List ℕ) × Fed bytes p (held line n text space out)
 ReadsOn p Ended line text space out = (bytes : List ℕ) × (held line 0 text space out ≡ endsWith (feed bytes p .holds))
