@@ -13,7 +13,7 @@ use Rattle.session.specs.Program.{Holding, Turn, withLine, answersLine, feed, g
 use Rattle.session.proofs.ProgramLaws.{then, feed-append, LineFed, line-ends, turn-by-turn}
 use Rattle.tables.specs.declared.Progress.{Progress}
 use Rattle.tables.specs.declared.Progress.the-variants.{Kept, Ended, Failed}
-use Rattle.tables.specs.Progress.{Answered, held, Fed, endsWith, TakesChunk, ReadsSome, ReadsOn}
+use Rattle.tables.specs.Progress.{Answered, programHolds, Fed, endsWith, TakesChunk, ReadsSome, ReadsOn}
 
 pub feed-none : (p : Holding) → Fed [] p p
 unfolding feed
@@ -62,7 +62,7 @@ module _ {chunk : List ℕ} {at : ℕ} {p q : Holding} (k : Through chunk at p q
   pub through-line : (line : List ℕ) (next n : ℕ) (text space out : List ℕ)
       → took (Line next n) line ≡ taking (drop at chunk) at (q .line) (q .kept)
       → Answered (take n line) (q .text) (q .space) (q .out) text space out
-      → Through chunk next p (held line 0 text space out)
+      → Through chunk next p (programHolds line 0 text space out)
   through-line line next n text space out e a =
       let l : LineFed (drop at chunk) (drop next chunk) q line n = line-ends chunk at q (took (Line next n) line) e in
       record {
@@ -70,17 +70,17 @@ module _ {chunk : List ℕ} {at : ℕ} {p q : Holding} (k : Through chunk at p q
         splits =
             k .splits ∙ ap (λ (xs : List ℕ). k .bytes ++ xs) (l .splits)
             ∙ sym (append-assoc (k .bytes) (l .front) (drop next chunk));
-        feeds = feed-both (k .bytes) (l .front) p q (held line 0 text space out) (k .feeds) (rw (a .0, a .1, a .2) (l .feeds));
+        feeds = feed-both (k .bytes) (l .front) p q (programHolds line 0 text space out) (k .feeds) (rw (a .0, a .1, a .2) (l .feeds));
       }
 
 -- ---- the input's end
 
 module _ (line : List ℕ) (kept : ℕ) (text space out : List ℕ) where
   pub last-answered : (text′ space′ out′ : List ℕ) → 0 < kept → Answered (take kept line) text space out text′ space′ out′
-      → held line 0 text′ space′ out′ ≡ endsWith (held line kept text space out)
+      → programHolds line 0 text′ space′ out′ ≡ endsWith (programHolds line kept text space out)
   last-answered text′ space′ out′ h a = rw (ne-eqb kept 0 (λ e. omega (arith, h, e)), a .0, a .1, a .2)
 
-  pub last-none : kept ≤ 0 → held line 0 text space out ≡ endsWith (held line kept text space out)
+  pub last-none : kept ≤ 0 → programHolds line 0 text space out ≡ endsWith (programHolds line kept text space out)
   last-none h = let e : kept ≡ 0 = omega (arith, h) in rw (e)
 
 -- ---- one read after another
@@ -115,10 +115,10 @@ read-none p = record { bytes = []; feeds = feed-none p }
 pub reads-on : {p q : Holding} → HasRead p q → (buffer : List ℕ) (r : Progress) (line text space out : List ℕ)
     → ReadsSome buffer q r line text space out → ReadsOn p r line text space out
 reads-on {p} {q} k buffer (Kept n) line text space out h =
-    (k .bytes ++ take (h .0) buffer, feed-both (k .bytes) (take (h .0) buffer) p q (held line n text space out) (k .feeds) (h .1))
+    (k .bytes ++ take (h .0) buffer, feed-both (k .bytes) (take (h .0) buffer) p q (programHolds line n text space out) (k .feeds) (h .1))
 reads-on {p} {q} k buffer Ended line text space out h = (k .bytes, h ∙ ap endsWith (sym (k .feeds)))
 reads-on {p} {q} k buffer Failed line text space out h =
-    (k .bytes ++ take (h .0) buffer, h .1, feed-both (k .bytes) (take (h .0) buffer) p q (held line (h .1) text space out) (k .feeds) (h .2))
+    (k .bytes ++ take (h .0) buffer, h .1, feed-both (k .bytes) (take (h .0) buffer) p q (programHolds line (h .1) text space out) (k .feeds) (h .2))
 
 pub read-so-far : (p q : Holding) → (bytes : List ℕ) × Fed bytes p q → HasRead p q
 read-so-far p q h = record { bytes = h .0; feeds = h .1 }

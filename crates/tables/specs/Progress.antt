@@ -25,8 +25,8 @@ Answered line text space out text′ space′ out′ =
     × (out′ ≡ responding line text space out .out)
 
 -- what the program holds, of its parts
-abbrev pub held : List ℕ → ℕ → List ℕ → List ℕ → List ℕ → Holding
-held line kept text space out = record { line = line; kept = kept; text = text; space = space; out = out }
+abbrev pub programHolds : List ℕ → ℕ → List ℕ → List ℕ → List ℕ → Holding
+programHolds line kept text space out = record { line = line; kept = kept; text = text; space = space; out = out }
 
 -- these bytes lead from p to q
 abbrev pub Fed : List ℕ → Holding → Holding → Type 0
@@ -38,19 +38,20 @@ endsWith p = pick (eqb (p .kept) 0) p (answersLine p .holds)
 
 -- all of a chunk is taken; or a reply could not be printed, and it is taken up to the end of the line replied to
 abbrev pub TakesChunk : List ℕ → Holding → Progress → (line text space out : List ℕ) → Type 0
-TakesChunk chunk p (Kept n) line text space out = Fed chunk p (held line n text space out)
+TakesChunk chunk p (Kept n) line text space out = Fed chunk p (programHolds line n text space out)
 TakesChunk chunk p Ended line text space out = ⊥
-TakesChunk chunk p Failed line text space out = (k : ℕ) × Fed (take k chunk) p (held line 0 text space out)
+TakesChunk chunk p Failed line text space out = (k : ℕ) × Fed (take k chunk) p (programHolds line 0 text space out)
 
 -- the first bytes of the buffer were read and taken; or the input had ended
 abbrev pub ReadsSome : List ℕ → Holding → Progress → (line text space out : List ℕ) → Type 0
-ReadsSome buffer p (Kept n) line text space out = (k : ℕ) × Fed (take k buffer) p (held line n text space out)
-ReadsSome buffer p Ended line text space out = held line 0 text space out ≡ endsWith p
+ReadsSome buffer p (Kept n) line text space out = (k : ℕ) × Fed (take k buffer) p (programHolds line n text space out)
+ReadsSome buffer p Ended line text space out = programHolds line 0 text space out ≡ endsWith p
 ReadsSome buffer p Failed line text space out =
-    (k : ℕ) × (n : ℕ) × Fed (take k buffer) p (held line n text space out)
+    (k : ℕ) × (n : ℕ) × Fed (take k buffer) p (programHolds line n text space out)
 
 -- one read after another: some bytes were taken, and where the input has ended the last line was answered too
 abbrev pub ReadsOn : Holding → Progress → (line text space out : List ℕ) → Type 0
-ReadsOn p (Kept n) line text space out = (bytes : List ℕ) × Fed bytes p (held line n text space out)
-ReadsOn p Ended line text space out = (bytes : List ℕ) × (held line 0 text space out ≡ endsWith (feed bytes p .holds))
-ReadsOn p Failed line text space out = (bytes : List ℕ) × (n : ℕ) × Fed bytes p (held line n text space out)
+ReadsOn p (Kept n) line text space out = (bytes : List ℕ) × Fed bytes p (programHolds line n text space out)
+ReadsOn p Ended line text space out =
+    (bytes : List ℕ) × (programHolds line 0 text space out ≡ endsWith (feed bytes p .holds))
+ReadsOn p Failed line text space out = (bytes : List ℕ) × (n : ℕ) × Fed bytes p (programHolds line n text space out)

@@ -21,7 +21,7 @@ ghost use Prim.Native.Nat.{_≤_};
 ghost use lib.ListN.{length};
 ghost use Rattle.basis.specs.Moments.{old, new};
 ghost use Rattle.session.specs.Program.{starts};
-ghost use Rattle.tables.specs.Progress.{Within, Answered, held, TakesChunk, ReadsSome, ReadsOn};
+ghost use Rattle.tables.specs.Progress.{Within, Answered, programHolds, TakesChunk, ReadsSome, ReadsOn};
 
 // How many bytes of the line that has begun are kept; or that the input has ended; or that reading or
 // printing failed. Both end the program, but only an input that has ended has a last line.
@@ -55,7 +55,7 @@ fn take_chunk(
     requires { ⌜ kept ≤ length (now line) ⌝ }
     ensures { λ r. ⌜ Within r (length (old line)) ⌝ }
     ensures { λ r.
-        ⌜ TakesChunk (old chunk) (held (old line) kept (old text) (old space) (old out)) r (new line) (new text)
+        ⌜ TakesChunk (old chunk) (programHolds (old line) kept (old text) (old space) (old out)) r (new line) (new text)
         (new space) (new out) ⌝ }
 {
     let mut at = 0;
@@ -88,7 +88,7 @@ fn read_some(
     requires { ⌜ kept ≤ length (now line) ⌝ }
     ensures { λ r. ⌜ Within r (length (old line)) ⌝ }
     ensures { λ r.
-        ⌜ ReadsSome (new read) (held (old line) kept (old text) (old space) (old out)) r (new line) (new text)
+        ⌜ ReadsSome (new read) (programHolds (old line) kept (old text) (old space) (old out)) r (new line) (new text)
         (new space) (new out) ⌝ }
 {
     let got = libc::read(STDIN_FILENO, read);

@@ -47,7 +47,10 @@ same-length-6 : tie.Need-same-length-6
 same-length-6 c = search needs
 
 returns-2 : tie.Need-returns-2
-returns-2 c = (tt, last-answered _ (c .before .before .before .before .before .before .before .before .before .before .before .before .before .before .before .before .before .before .before .before .before .before .before .args .kept) _ _ _ _ _ _ (omega arith) (c .before .before .before .before .before .before .answer .ensures))
+returns-2 c =
+    let answered = c .before .before .before .before .before .before in
+    let kept = answered .before .before .before .before .before .before .before .before .before .before .before .before .before .before .before .before .before .args .kept in
+    (tt, last-answered _ kept _ _ _ _ _ _ (omega arith) (answered .answer .ensures))
 
 same-length-7 : tie.Need-same-length-7
 same-length-7 c = search needs
@@ -84,8 +87,9 @@ same-length-12 c = search needs
 
 returns-4 : tie.Need-returns-4
 returns-4 c =
-    let r = c .before .before .before .before .before .before .before .before .take-chunk in
-    (r .ensures .0, chunk-read _ (c .before .before .before .before .before .before .before .before .before .before .before .before .before .before .count .result) _ (r .result) _ _ _ _ (r .ensures .1))
+    let taken = c .before .before .before .before .before .before .before .before in
+    let r = taken .take-chunk in
+    (r .ensures .0, chunk-read _ (taken .before .before .before .before .before .before .count .result) _ (r .result) _ _ _ _ (r .ensures .1))
 
 pub read-some-spec : {M : Type 1} → statement M
 read-some-spec =

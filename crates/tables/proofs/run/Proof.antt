@@ -6,7 +6,7 @@ use lib.ListN.{length}
 use borrow.Author.Needs.{needs}
 use Rattle.session.specs.Program.{starts}
 use Rattle.tables.specs.declared.Progress.the-variants.{Kept}
-use Rattle.tables.specs.Progress.{held}
+use Rattle.tables.specs.Progress.{programHolds}
 use Rattle.tables.proofs.FedLaws.{HasRead, read-none, reads-on, read-so-far}
 use Rattle.tables.proofs.run.Statement.{statement}
 use Rattle.tables.proofs.run.Tie as tie
@@ -15,7 +15,7 @@ abbrev Inv-loop : tie.InvT-loop
 Inv-loop read₀ line₀ space₀ out₀ text₀ kept₀ turns₀ read line space out text kept turns =
     (length read ≡ length read₀) × (length line ≡ length line₀) × (length space ≡ length space₀) × (length out ≡ length out₀)
     × (length text ≡ length text₀) × (kept ≤ length line₀)
-    × HasRead (starts line₀ text₀ space₀ out₀) (held line kept text space out)
+    × HasRead (starts line₀ text₀ space₀ out₀) (programHolds line kept text space out)
 
 abbrev μ-loop : tie.MeasureT-loop
 μ-loop read₀ line₀ space₀ out₀ text₀ kept₀ turns₀ read line space out text kept turns = turns
@@ -46,8 +46,9 @@ same-length-5 c = omega arith
 
 returns : tie.Need-returns Inv-loop μ-loop
 returns c =
-    let r = c .before .before .before .before .before .before .before .before .before .before .before .read-some in
-    reads-on (c .before .before .before .before .before .before .before .before .before .before .before .before .before .before .before .before .before .before .loop .inv .6) _ (r .result) _ _ _ _ (r .ensures .1)
+    let done = c .before .before .before .before .before .before .before .before .before .before .before in
+    let r = done .read-some in
+    reads-on (done .before .before .before .before .before .before .before .loop .inv .6) _ (r .result) _ _ _ _ (r .ensures .1)
 
 sub-turns : tie.Need-sub-turns Inv-loop μ-loop
 sub-turns c = omega arith
@@ -57,17 +58,12 @@ loop-less c = omega arith
 
 loop-again : tie.Need-loop-again Inv-loop μ-loop
 loop-again c =
-    let r = c .before .before .before .before .before .before .before .before .before .before .before .before .before .read-some in
-    let w = rw (c .before .progress .given .1) at (r .ensures .0) in
-    let h = rw (c .before .progress .given .1) at (r .ensures .1) in (
-      omega arith,
-      omega arith,
-      omega arith,
-      omega arith,
-      omega arith,
-      omega (arith, w),
-      read-so-far _ _ (reads-on (c .before .before .before .before .before .before .before .before .before .before .before .before .before .before .before .before .before .before .before .before .loop .inv .6) _ (Kept (c .before .progress .given .0 .0)) _ _ _ _ h),
-    )
+    let kept = c .before .progress .given in
+    let done = c .before .before .before .before .before .before .before .before .before .before .before .before .before in
+    let w = rw (kept .1) at (done .read-some .ensures .0) in
+    let h = rw (kept .1) at (done .read-some .ensures .1) in
+    let so-far = read-so-far _ _ (reads-on (done .before .before .before .before .before .before .before .loop .inv .6) _ (Kept (kept .0 .0)) _ _ _ _ h) in
+    (omega arith, omega arith, omega arith, omega arith, omega arith, omega (arith, w), so-far)
 
 same-length-6 : tie.Need-same-length-6 Inv-loop μ-loop
 same-length-6 c = omega arith

@@ -5,7 +5,7 @@ use native.Mathlib.Omega.{arith}
 use lib.ListN.{length}
 use lib.Seq.{length-take-le}
 use borrow.Author.Needs.{needs}
-use Rattle.tables.specs.Progress.{held}
+use Rattle.tables.specs.Progress.{programHolds}
 use Rattle.tables.proofs.FedLaws.{Through, through-none, through-all, through-some, through-more, through-line}
 use Rattle.tables.proofs.take_chunk.Statement.{statement}
 use Rattle.tables.proofs.take_chunk.Tie as tie
@@ -14,7 +14,7 @@ abbrev Inv-loop : tie.InvT-loop
 Inv-loop chunk line₀ kept space₀ out₀ text₀ at₀ n₀ line space out text at n =
     (length line ≡ length line₀) × (length space ≡ length space₀) × (length out ≡ length out₀)
     × (length text ≡ length text₀) × (n ≤ length line₀)
-    × Through chunk at (held line₀ kept text₀ space₀ out₀) (held line n text space out)
+    × Through chunk at (programHolds line₀ kept text₀ space₀ out₀) (programHolds line n text space out)
 
 abbrev μ-loop : tie.MeasureT-loop
 μ-loop chunk line₀ kept space₀ out₀ text₀ at₀ n₀ line space out text at n = length chunk - at
@@ -77,25 +77,26 @@ same-length-8 c = omega arith
 
 returns-2 : tie.Need-returns-2 Inv-loop μ-loop
 returns-2 c =
-    let r = c .before .before .before .before .before .before .before .before .before .before .before .before .before .before .before .before .before .take-line in
-    let e = rw (c .before .before .before .before .before .before .before .before .before .before .before .before .before .next .given .1) at (r .ensures .0) in
-    (tt, through-some (through-line (c .before .before .before .before .before .before .before .before .before .before .before .before .before .before .before .before .before .before .before .before .loop .inv .5) _ _ _ _ _ _ e (c .before .before .before .before .before .before .before .answer .ensures)))
+    let answered = c .before .before .before .before .before .before .before in
+    let cut = answered .before .before .before .before .before .before in
+    let taken = cut .before .before .before .before in
+    let e = rw (cut .next .given .1) at (taken .take-line .ensures .0) in
+    (tt, through-some (through-line (taken .before .before .before .loop .inv .5) _ _ _ _ _ _ e (answered .answer .ensures)))
 
 loop-less : tie.Need-loop-less Inv-loop μ-loop
 loop-less c =
-    let w = rw (c .before .before .before .before .before .before .before .before .before .before .before .before .before .next .given .1) at (c .before .before .before .before .before .before .before .before .before .before .before .before .before .before .before .before .before .take-line .ensures .1) in
+    let cut = c .before .before .before .before .before .before .before .before .before .before .before .before .before in
+    let w = rw (cut .next .given .1) at (cut .before .before .before .before .take-line .ensures .1) in
     omega (arith, w .0, w .1)
 
 loop-again : tie.Need-loop-again Inv-loop μ-loop
 loop-again c =
-    let e = rw (c .before .before .before .before .before .before .before .before .before .before .before .before .before .next .given .1) at (c .before .before .before .before .before .before .before .before .before .before .before .before .before .before .before .before .before .take-line .ensures .0) in (
-      omega arith,
-      omega arith,
-      omega arith,
-      omega arith,
-      omega arith,
-      through-line (c .before .before .before .before .before .before .before .before .before .before .before .before .before .before .before .before .before .before .before .before .loop .inv .5) _ _ _ _ _ _ e (c .before .before .before .before .before .before .before .answer .ensures),
-    )
+    let answered = c .before .before .before .before .before .before .before in
+    let cut = answered .before .before .before .before .before .before in
+    let taken = cut .before .before .before .before in
+    let e = rw (cut .next .given .1) at (taken .take-line .ensures .0) in
+    let fed = through-line (taken .before .before .before .loop .inv .5) _ _ _ _ _ _ e (answered .answer .ensures) in
+    (omega arith, omega arith, omega arith, omega arith, omega arith, fed)
 
 same-length-9 : tie.Need-same-length-9 Inv-loop μ-loop
 same-length-9 c = omega arith
