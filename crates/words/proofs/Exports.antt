@@ -5,19 +5,25 @@ use mathlib.Core.List.{List, [], _∷_, map, zipWith}
 use mathlib.Core.Path.{_≡_, refl, sym, ap, _∙_, subst}
 use native.Mathlib.Omega.{arith}
 use Rattle.plain.specs.Coding.{codingOf}
-use Rattle.plain.specs.Requests.{Request, counts, Seen}
+use Rattle.plain.specs.Requests.{Request, counts, lent, Seen}
 use Rattle.plain.specs.Table.{tableTrace, editionTrace}
 use Rattle.space.specs.declared.FreshAnswer.{FreshAnswer}
 use Rattle.space.specs.declared.FreshAnswer.the-variants.{Done, Refused}
-use Rattle.store.specs.Calls.{countedCells}
-use Rattle.agreement.specs.History.{alone, Made, Meets, History, asked, seenOf}
+use Rattle.space.specs.Heading.{spaceHeader}
+use Rattle.space.specs.declared.Header.{Header}
+use Rattle.space.specs.declared.Header.the-variants as header
+use Rattle.trie.specs.Siblings.{searchChildren}
+use Rattle.store.specs.Decisions.{decideBy}
+use Rattle.store.specs.Changes.{changeBy}
+use Rattle.store.specs.Calls.{outAfter, underBy, underAnyBy, spaceStepBy, spaceStep, countedCells}
+use Rattle.agreement.specs.History.{alone, wayOf, Made, Meets, History, asked, seenOf}
 use Rattle.agreement.specs.Whole.{tableOf, editionOf}
 use Rattle.agreement.specs.Faults.{Fault, nothing, heading, node, subgoal, answer, faultOf}
 use Rattle.agreement.proofs.Faults.{fault-told}
 use Rattle.agreement.proofs.Histories.{histories, whole-histories}
-use Rattle.words.specs.Words.{word, saidFresh, wordCheck}
+use Rattle.words.specs.Words.{word, saidFresh, countsReply, countsOut, wordCheck}
 use Rattle.words.specs.Exports.{Export, callOf, countsInto, requestOf, ExportMade, MeetsExport, Exports, exportsOf, requestsOf, SeenWord, seenExport, seenAs}
-use Rattle.words.specs.Exports.{ExportHistories, WholeExportHistories, FreshZero, CheckZero}
+use Rattle.words.specs.Exports.{ExportHistories, WholeExportHistories, ExportsLived, FreshZero, CheckZero}
 
 -- ---- word 0
 
@@ -102,3 +108,32 @@ whole-export-histories space xs r h =
     let k = calls-made space xs h in
     sym (k .3) ∙ ap (inWords xs) (whole-histories space (k .0) (check-zero space 0 r .0 refl) (k .1))
     ∙ ap (λ (qs : List Request). inWords xs (tableTrace (codingOf (editionOf space)) (tableOf space) qs)) (k .2)
+
+-- the exports of the library itself
+
+counts-under : (cs : List ℕ) (x : Header) → ([] ≡ underAnyBy searchChildren cs counts x .out) × (cs ≡ underAnyBy searchChildren cs counts x .state)
+unfolding underAnyBy underBy decideBy changeBy outAfter lent
+counts-under cs (header.Sound h) = (refl, refl)
+counts-under cs (header.Refused r) = (refl, refl)
+
+counts-kept : (cs : List ℕ) → ([] ≡ spaceStep cs counts .out) × (cs ≡ spaceStep cs counts .state)
+unfolding spaceStepBy
+counts-kept cs = counts-under cs (spaceHeader cs)
+
+export-lived : (before : List ℕ) (x : Export) → (w : ℕ) × (out : List ℕ) × (after : List ℕ) × MeetsExport before x w out after
+export-lived before (callOf q b) =
+    let r = spaceStepBy (wayOf b) before q in
+    (word (r .reply), r .out, r .state, (r .reply, (refl, refl, refl), refl))
+export-lived before (countsInto room) =
+    let r = spaceStep before counts .reply in
+    let k = counts-kept before in
+    (word (countsReply r room), countsOut r room, before, ((r, (refl, k .0, k .1), refl, refl), refl))
+
+pub exports-lived : ExportsLived
+unfolding Exports
+exports-lived before [] = ([], tt, refl)
+exports-lived before (x ∷ xs) =
+    let l = export-lived before x in
+    let m : ExportMade = record { export = x; result = l .0; out = l .1; after = l .2 } in
+    let k = exports-lived (l .2) xs in
+    (m ∷ k .0, (l .3, k .1), ap (λ (ys : List Export). x ∷ ys) (k .2))

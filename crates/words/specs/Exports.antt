@@ -79,6 +79,10 @@ WholeExportHistories =
     → map seenExport xs
     ≡ zipWith seenAs (exportsOf xs) (tableTrace (codingOf (editionOf space)) (tableOf space) (requestsOf xs))
 
+-- every list of exports has one
+abbrev pub ExportsLived : Type 0
+ExportsLived = (before : List ℕ) (xs : List Export) → (ms : List ExportMade) × Exports before ms × (exportsOf ms ≡ xs)
+
 -- ---- word 0
 
 -- fresh answered done
