@@ -576,15 +576,15 @@ uint64_t tables_join(uint32_t *space, size_t space_cells, uint32_t first, uint32
  *     ...
  *     word = tables_call_indexed(space, space_cells, index, 65536, term, term_cells);
  *
- * An index cannot change what is answered. An entry counts only if the record of
- * the node that it names confirms it, so with an index of another time, of another
- * table, of another length, or of any cells whatever, every call on a table made by
- * calls answers and leaves what it does without one. An index whose cells are no
- * power of two, or that has none, is as none. On a damaged space a call with an
- * index may answer otherwise than without: it may reach a child that the siblings
- * do not lead to, or pass by one that is damaged; and a join that has begun to
- * enter its answers may find there what it did not find when it counted, and leave
- * out what has no room. It returns, and stays within what is lent, all the same.
+ * An index cannot change what is answered on a table made by calls, or on a space
+ * that tables_check finds whole. An entry counts only if the record of the node that
+ * it names confirms it, so with an index of another time, of another table, of
+ * another length, or of any cells whatever, every call there answers and leaves what
+ * it does without one. An index whose cells are no power of two, or that has none, is
+ * as none. On a damaged space a call with an index may answer otherwise than without:
+ * it may reach a child that the siblings do not lead to, or pass by one that is
+ * damaged. It returns, and stays within what is lent, all the same; and a join that
+ * is accepted leaves no answer out, there too.
  *
  * What it buys: a child is found in one or two steps where one node has thousands
  * of children, or several have and their tokens are scattered, as atoms mostly are.
