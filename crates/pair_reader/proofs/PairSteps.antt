@@ -22,7 +22,7 @@ use Rattle.forms.proofs.ShapeLaws.{pair-cell-of}
 use Rattle.forms.proofs.ReadLaws.{applied-short, applied-length, applied-every, pairs-joins, compact-joins, compact-size, reads-after, reads-within}
 use Rattle.forms.proofs.DueLaws.{due-after}
 use Rattle.forms.proofs.NumberingLaws.{met-length}
-use Rattle.forms.proofs.FormLaws.{met-compact}
+use Rattle.forms.proofs.FormLaws.{met-compact, every-pairs-least}
 use Rattle.pair_reader.specs.Storing.{Stored, termsAt, TermsRan, ListRan, elementsOf}
 use Rattle.pair_reader.proofs.StoringLaws.{stored-none, stored-cell, stored-append, stored-last}
 
@@ -50,6 +50,16 @@ module _ (arity : ℕ → ℕ) (s : List ℕ) where
 
   pub terms-end : (at n : ℕ) → 0 < n → length s ≤ at → length (termsAt arity s at) < n
   terms-end at n f h = rw (at-end at h) (omega arith)
+
+  -- n terms have as many cells at least
+  pub terms-few : (n : ℕ) → length s < n → length (termsAt arity s 0) < n
+  terms-few n h = go (leb n (length (termsAt arity s 0))) refl
+    where
+      go : (b : Bool) → leb n (length (termsAt arity s 0)) ≡ b → length (termsAt arity s 0) < n
+      go true e =
+          let k : n ≤ length (termsAt arity s 0) = leb-true _ _ e in
+          absurd (omega (arith, reads-within (shapeOf arity) (pair-cell-of arity) (drop 0 s) n k, every-pairs-least (take n (termsAt arity s 0)), length-take-le n (termsAt arity s 0) k, length-drop 0 s))
+      go false e = leb-false _ _ e
 
   module _ (at n : ℕ) (some : 0 < n) (h : at < length s) where
     pub terms-illegal : shapeOf arity (getD s at 0) ≡ Illegal → length (termsAt arity s at) < n

@@ -1,4 +1,5 @@
 // The readers of pair form, which write compact form and number variables as they read.
+use forms::Place;
 use forms::Step;
 ghost use mathlib.Core.Path.{_≡_};
 ghost use mathlib.Core.List.{_∷_};
@@ -65,47 +66,49 @@ pub fn store(c: u32, vars: &mut [u32], count: usize, out: &mut [u32], to: usize)
     count
 }
 
-// Reads the first n terms in s, and leaves their compact forms at the start of out.
+// Reads the first n terms in s, and leaves their compact forms at the start of out. The one sum of the terms still due
+// is begun here, with n, which the number of cells bounds: each term has one at least. Constants that stand before any
+// other cell take no call, and come to stand in out where they stand in s. At the first other cell `scan` goes on with
+// what is due there.
 pub fn terms(s: &[u32], n: usize, vars: &mut [u32], out: &mut [u32], edition: u32) -> Step
     requires { ⌜ PairRoom (now s) (placed 0 0 0) (now vars) (now out) ⌝ }
     ensures { λ r. ⌜ ReadsTerms edition (old s) (placed 0 0 0) n (old vars) (old out) (new vars) (new out) r ⌝ }
 {
+    if s.len() < n {
+        return Step::Malformed;
+    }
     let mut at = 0;
     let mut due = n;
-    let mut count = 0;
-    let mut to = 0;
     while 0 < due {
-        let Step::Done(next, end, met) = element(s, at, vars, count, out, to, edition) else {
+        if s.len() <= at {
             return Step::Malformed;
-        };
-        at = next;
-        to = end;
-        count = met;
-        due -= 1;
+        }
+        let c = s[at];
+        if !forms::is_constant(c) {
+            let place = Place {
+                at: at,
+                to: at,
+                count: 0,
+            };
+            return scan(s, place, due, vars, out, edition);
+        }
+        out[at] = c;
+        at += 1;
+        due = forms::due_after(due, 0);
     }
-    Step::Done(at, to, count)
+    Step::Done(at, at, 0)
 }
 
-// Reads one term from `from` on and writes its compact form from `start` on. A list counts as a term without
-// arguments, since the two that its pair has are read with it. The places are numbers, and not one struct as in the
-// form reader: handed over in memory, an element of a list took a quarter longer.
-fn term(
-    s: &[u32],
-    from: usize,
-    vars: &mut [u32],
-    known: usize,
-    out: &mut [u32],
-    start: usize,
-    edition: u32,
-) -> Step
-    requires { ⌜ PairRoom (now s) (placed from start known) (now vars) (now out) ⌝ }
-    ensures { λ r.
-        ⌜ ReadsTerms edition (old s) (placed from start known) 1 (old vars) (old out) (new vars) (new out) r ⌝ }
+// Reads the n terms that are due at a place, and writes their compact forms. In a pair's place its element and its tail
+// become due, and the list reader reads both.
+fn scan(s: &[u32], from: Place, n: usize, vars: &mut [u32], out: &mut [u32], edition: u32) -> Step
+    requires { ⌜ PairRoom (now s) from (now vars) (now out) × (n ≤ 256) ⌝ }
+    ensures { λ r. ⌜ ReadsTerms edition (old s) from n (old vars) (old out) (new vars) (new out) r ⌝ }
 {
-    let mut at = from;
-    let mut due = 1;
-    let mut count = known;
-    let mut to = start;
+    let mut at = from.at;
+    let mut due = n;
+    let mut count = from.count;
+    let mut to = from.to;
     while 0 < due {
         if s.len() <= at {
             return Step::Malformed;
@@ -127,12 +130,30 @@ fn term(
                 at = next;
                 to = end;
                 count = met;
-                due = forms::due_after(due, 0);
+                due = forms::due_after(due, 2) - 2;
             }
             forms::Shape::Illegal => return Step::Malformed,
         }
     }
     Step::Done(at, to, count)
+}
+
+// Reads the term at a place. The list reader has its place in numbers, and here they are put together: with a struct
+// for each element a flat list took an eighth more instructions.
+fn term(
+    s: &[u32],
+    at: usize,
+    vars: &mut [u32],
+    count: usize,
+    out: &mut [u32],
+    to: usize,
+    edition: u32,
+) -> Step
+    requires { ⌜ PairRoom (now s) (placed at to count) (now vars) (now out) ⌝ }
+    ensures { λ r. ⌜ ReadsTerms edition (old s) (placed at to count) 1 (old vars) (old out) (new vars) (new out) r ⌝ }
+{
+    let place = Place { at, to, count };
+    scan(s, place, 1, vars, out, edition)
 }
 
 // Reads a list's element and its tail from `from` on, and writes the list's elements from `start` on.
@@ -173,7 +194,7 @@ fn list(
     }
 }
 
-// Reads one term, in a list or outside. Most are constants, and take no call of the term reader.
+// Reads an element of a list. Most are constants, and take no call of the reader of terms.
 fn element(
     s: &[u32],
     at: usize,
@@ -186,12 +207,13 @@ fn element(
     requires { ⌜ PairRoom (now s) (placed at to count) (now vars) (now out) ⌝ }
     ensures { λ r. ⌜ ReadsTerms edition (old s) (placed at to count) 1 (old vars) (old out) (new vars) (new out) r ⌝ }
 {
-    if at < s.len() {
-        let c = s[at];
-        if forms::is_constant(c) {
-            out[to] = c;
-            return Step::Done(at + 1, to + 1, count);
-        }
+    if s.len() <= at {
+        return Step::Malformed;
+    }
+    let c = s[at];
+    if forms::is_constant(c) {
+        out[to] = c;
+        return Step::Done(at + 1, to + 1, count);
     }
     term(s, at, vars, count, out, to, edition)
 }
