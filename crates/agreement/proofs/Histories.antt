@@ -30,7 +30,7 @@ made-shown cs q r out after qs seen k e = rw (e, k .0, k .1, k .2) refl
 
 module _ (e : ℕ) (known : knownEdition e ≡ true) where
   -- whatever the call was lent
-  pub way-same : (t : Table) (cs : List ℕ) → Holds (sizesOf e) (codingOf e) t cs → (b : Beside) (q : Request) → spaceStepBy (wayOf b) cs q ≡ spaceStep cs q
+  pub way-same : (t : Table) (cs : List ℕ) → Holds (sizesOf e) (codingOf e) t cs → (b : Beside) (q : Request) → spaceStepBy (wayOf cs b) cs q ≡ spaceStep cs q
   way-same t cs k alone q = refl
   way-same t cs k (index xs) q = step-indexed e known t cs k xs q
 
@@ -68,7 +68,7 @@ pub lived : Lived
 unfolding History
 lived cs [] = ([], tt, refl)
 lived cs (q ∷ qs) =
-    let r = spaceStepBy (wayOf (q .beside)) cs (q .request) in
+    let r = spaceStepBy (wayOf cs (q .beside)) cs (q .request) in
     let m : Made = record { request = q .request; beside = q .beside; reply = r .reply; out = r .out; after = r .state } in
     let l = lived (r .state) qs in
     (m ∷ l .0, ((refl, refl, refl), l .1), ap (λ (ps : List Lent). q ∷ ps) (l .2))

@@ -19,10 +19,9 @@ use Rattle.space.specs.declared.FreshAnswer.the-variants.{Done}
 use Rattle.space.specs.declared.Head.{Head}
 use Rattle.space.specs.declared.Header.the-variants as header
 use Rattle.trie.specs.Walks.{Finding}
-use Rattle.trie.specs.Index.{searchIndexed}
 use Rattle.trie.proofs.IndexLaws.{AsChains, indexes-as-chains}
 use Rattle.store.specs.Views.{View, viewOf}
-use Rattle.store.specs.Calls.{under, underBy, underAnyBy, spaceStep, spaceStepBy, indexedStep, countedCells}
+use Rattle.store.specs.Calls.{under, underBy, underAnyBy, spaceStep, spaceStepBy, usedNodes, indexedWay, indexedStep, countedCells}
 use Rattle.store.proofs.FindingLaws as finding
 use Rattle.store.proofs.FindingLaws.{decide-alike}
 use Rattle.agreement.specs.Indexed.{Indexed, requests, indexedTrace, IndexedPromise, IndexedSame, Unindexed}
@@ -58,7 +57,7 @@ module _ (e : ℕ) (known : knownEdition e ≡ true) where
       (under-alike (sizesOf e) (codingOf e) cells-in (coding-laws e) find t cs (k .head) as-chains (k .sound) (k .same) q))
 
   pub step-indexed : (t : Table) (cs : List ℕ) → Holds (sizesOf e) (codingOf e) t cs → (index : List ℕ) (q : Request) → indexedStep index cs q ≡ spaceStep cs q
-  step-indexed t cs k index q = step-alike (searchIndexed index) t cs k (indexes-as-chains index (nodeIn (sizesOf e) cs) (k .head .nodes)) q
+  step-indexed t cs k index q = step-alike (indexedWay index cs) t cs k (indexes-as-chains index (usedNodes cs) (nodeIn (sizesOf e) cs) (k .head .nodes)) q
 
   pub state-holds : (t : Table) (cs : List ℕ) (q : Request) → Holds (sizesOf e) (codingOf e) t cs → Holds (sizesOf e) (codingOf e) (step (codingOf e) t q .state) (spaceStep cs q .state)
   state-holds = step-state (sizesOf e) (codingOf e) cells-in (coding-laws e) spaceStep (deciding e known)

@@ -83,7 +83,7 @@ module _ (e : ℕ) (known : knownEdition e ≡ true) where
 
   -- ---- calls one after another
 
-  way-same : (t : Table) (cs : List ℕ) → Holds (sizesOf e) (codingOf e) t cs → (l : Ledger) → TrueOf cs l → (b : Aid) (q : Request) → spaceStepBy (wayBy l b) cs q ≡ spaceStep cs q
+  way-same : (t : Table) (cs : List ℕ) → Holds (sizesOf e) (codingOf e) t cs → (l : Ledger) → TrueOf cs l → (b : Aid) (q : Request) → spaceStepBy (wayBy cs l b) cs q ≡ spaceStep cs q
   way-same t cs k l c unaided q = refl
   way-same t cs k l c (indexed xs) q = step-indexed e known t cs k xs q
   way-same t cs k l c kept q = step-kept t cs k l c q
@@ -147,7 +147,7 @@ pub kept-lived : KeptLived
 unfolding KeptHistory
 kept-lived cs l [] = ([], tt, refl)
 kept-lived cs l (q ∷ qs) =
-    let r = spaceStepBy (wayBy l (q .aid)) cs (q .request) in
+    let r = spaceStepBy (wayBy cs l (q .aid)) cs (q .request) in
     let m : KeptMade = record { request = q .request; aid = q .aid; reply = r .reply; out = r .out; after = r .state; ledger = ledgerLeft l (q .aid) (r .state) } in
     let o = kept-lived (r .state) (m .ledger) qs in
     (m ∷ o .0, (((refl, refl, refl), refl), o .1), ap (λ (ps : List Aided). q ∷ ps) (o .2))

@@ -12,8 +12,7 @@ use Rattle.space.specs.Fresh.{freshAnswerIn, freshSpaceIn}
 use Rattle.space.specs.declared.FreshAnswer.the-variants.{Done}
 use Rattle.trie.specs.Siblings.{searchChildren}
 use Rattle.trie.specs.Walks.{Finding}
-use Rattle.trie.specs.Index.{searchIndexed}
-use Rattle.store.specs.Calls.{AnswersBy, countedCells}
+use Rattle.store.specs.Calls.{AnswersBy, indexedWay, countedCells}
 use Rattle.agreement.specs.Whole.{wholeSpace, tableOf, editionOf}
 
 -- what a call that searches is lent beside the space: nothing, or an index, of any cells
@@ -21,9 +20,10 @@ pub data Beside : Type 0 where
   alone : Beside
   index : List ℕ → Beside
 
-abbrev pub wayOf : Beside → Finding
-wayOf alone = searchChildren
-wayOf (index cs) = searchIndexed cs
+-- how a call on the cells `before` finds a child
+abbrev pub wayOf : List ℕ → Beside → Finding
+wayOf before alone = searchChildren
+wayOf before (index cs) = indexedWay cs before
 
 -- a call and what it is lent
 pub record Lent : Type 0 where
@@ -40,7 +40,7 @@ pub record Made : Type 0 where
 
 -- a call on the cells `before` meets its contract
 abbrev pub Meets : List ℕ → Made → Type 0
-Meets before m = AnswersBy (wayOf (m .beside)) before (m .request) (m .reply) (m .out) (m .after)
+Meets before m = AnswersBy (wayOf before (m .beside)) before (m .request) (m .reply) (m .out) (m .after)
 
 -- each does, on the cells that the one before it left
 unfoldable pub History : List ℕ → List Made → Type 0

@@ -13,10 +13,9 @@ use Rattle.space.specs.Fresh.{freshAnswerIn, freshSpaceIn}
 use Rattle.space.specs.declared.FreshAnswer.the-variants.{Done}
 use Rattle.trie.specs.Siblings.{searchChildren}
 use Rattle.trie.specs.Walks.{Finding}
-use Rattle.trie.specs.Index.{searchIndexed}
 use Rattle.trie.specs.Ledger.{Ledger, blankLedger, ledgerCapacity, usable, searchKept, trustedKept, zeros, Complete}
 use Rattle.store.specs.Building.{nodesOf}
-use Rattle.store.specs.Calls.{spaceStep, spaceStepBy, AnswersBy, countedCells}
+use Rattle.store.specs.Calls.{spaceStep, spaceStepBy, AnswersBy, indexedWay, countedCells}
 use Rattle.store.specs.Keeping.{keptStep, ledgerOf}
 use Rattle.agreement.specs.Indexed.{spaceAfter}
 use Rattle.agreement.specs.Whole.{wholeSpace}
@@ -67,10 +66,11 @@ pub data Aid : Type 0 where
   indexed : List ℕ → Aid
   kept : Aid
 
-abbrev pub wayBy : Ledger → Aid → Finding
-wayBy k unaided = searchChildren
-wayBy k (indexed cs) = searchIndexed cs
-wayBy k kept = searchKept k
+-- how a call on the cells `before` finds a child
+abbrev pub wayBy : List ℕ → Ledger → Aid → Finding
+wayBy before k unaided = searchChildren
+wayBy before k (indexed cs) = indexedWay cs before
+wayBy before k kept = searchKept k
 
 -- the ledger after a call that leaves these cells: only a call that is lent it writes it
 abbrev pub ledgerLeft : Ledger → Aid → List ℕ → Ledger
@@ -95,7 +95,7 @@ pub record KeptMade : Type 0 where
 -- a call on the cells `before` beside the ledger k meets its contract
 abbrev pub MeetsKept : List ℕ → Ledger → KeptMade → Type 0
 MeetsKept before k m =
-    AnswersBy (wayBy k (m .aid)) before (m .request) (m .reply) (m .out) (m .after)
+    AnswersBy (wayBy before k (m .aid)) before (m .request) (m .reply) (m .out) (m .after)
     × (m .ledger ≡ ledgerLeft k (m .aid) (m .after))
 
 -- each does, on the cells and beside the ledger that the one before it left

@@ -23,7 +23,7 @@ abbrev pub Lending : {S : Type 0} → (S → List ℕ) → (S → Request → Re
 Lending {S} cells library =
     (s : S) (q : Request)
     → (b : Beside)
-    × AnswersBy (wayOf b) (cells s) q (library s q .reply) (library s q .out) (cells (library s q .state))
+    × AnswersBy (wayOf (cells s) b) (cells s) q (library s q .reply) (library s q .out) (cells (library s q .state))
 
 -- for every such caller: the indexes may differ from call to call, and from one order of the calls to the other
 abbrev pub IndexedArrivalOrder : Type 1

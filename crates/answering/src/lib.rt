@@ -215,7 +215,8 @@ fn answer_old(
     AnswerAnswer::Refused(RECORDS)
 }
 
-// Terms with this form answer subgoal s.
+// Terms with this form answer subgoal s. `stood` nodes were there when the call began: all, unless a join has entered
+// some.
 pub fn answer_at(
     space: &mut [u32],
     h: Head,
@@ -223,13 +224,14 @@ pub fn answer_at(
     g: Subgoal,
     tokens: &[u32],
     index: &[u32],
+    stood: usize,
 ) -> AnswerAnswer
     requires { ⌜ Held (now space) h s g ⌝ }
     ensures { λ r.
-        ⌜ Does (old space) h (answeredFrom (searchIndexed (old index)) s (g .root) (old tokens)) (saidAnswer r)
+        ⌜ Does (old space) h (answeredFrom (searchIndexed (old index) stood) s (g .root) (old tokens)) (saidAnswer r)
         (new space) ⌝ }
 {
-    let walked = walk_tokens(space, h.nodes, h.answers, g.root, tokens, index);
+    let walked = walk_tokens(space, h.nodes, h.answers, g.root, tokens, index, stood);
     match walked {
         Walked::Whole(leaf) => {
             let y = node_in(space, h.nodes, leaf);
@@ -255,12 +257,13 @@ fn answer_read(
 ) -> AnswerAnswer
     requires { ⌜ Held (now space) h s g × FormIn (now form) read ⌝ }
     ensures { λ r.
-        ⌜ DoesRead (searchIndexed (old index)) (old space) h s g read (old form) (saidAnswer r) (new space) ⌝ }
+        ⌜ DoesRead (searchIndexed (old index) (h .nodes)) (old space) h s g read (old form) (saidAnswer r)
+        (new space) ⌝ }
 {
     let Reading::Form(n, _) = read else {
         return AnswerAnswer::Refused(refused_by(read));
     };
-    answer_at(space, h, s, g, &form[..n], index)
+    answer_at(space, h, s, g, &form[..n], index, h.nodes)
 }
 
 // A subgoal is answered. Short terms get short buffers.
@@ -274,8 +277,8 @@ fn answer_terms(
 ) -> AnswerAnswer
     requires { ⌜ Held (now space) h s g ⌝ }
     ensures { λ r.
-        ⌜ Does (old space) h (answeredTerms (searchIndexed (old index)) h s (g .variables) (old terms)) (saidAnswer r)
-        (new space) ⌝ }
+        ⌜ Does (old space) h (answeredTerms (searchIndexed (old index) (h .nodes)) h s (g .variables) (old terms))
+        (saidAnswer r) (new space) ⌝ }
 {
     if cells_rung(terms.len()) <= FEW_CELLS {
         let mut vars = [0u32; FEW_CELLS];
@@ -293,8 +296,8 @@ fn answer_terms(
 fn answer_in(space: &mut [u32], h: Head, s: usize, terms: &[u32], index: &[u32]) -> AnswerAnswer
     requires { ⌜ Bounds (now space) h ⌝ }
     ensures { λ r.
-        ⌜ AnswersUnder (searchIndexed (old index)) (old space) h (request.answer s (old terms)) (saidAnswer r)
-        (new space) ⌝ }
+        ⌜ AnswersUnder (searchIndexed (old index) (h .nodes)) (old space) h (request.answer s (old terms))
+        (saidAnswer r) (new space) ⌝ }
 {
     if s == 0 {
         return AnswerAnswer::Refused(NUMBER);

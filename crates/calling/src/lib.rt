@@ -140,9 +140,10 @@ fn call_new(
 pub fn call_at(space: &mut [u32], h: Head, tokens: &[u32], m: usize, index: &[u32]) -> CallAnswer
     requires { ⌜ Bounds (now space) h × (m ≤ 32) ⌝ }
     ensures { λ r.
-        ⌜ Does (old space) h (calledFrom (searchIndexed (old index)) (old tokens) m) (saidCall r) (new space) ⌝ }
+        ⌜ Does (old space) h (calledFrom (searchIndexed (old index) (h .nodes)) (old tokens) m) (saidCall r)
+        (new space) ⌝ }
 {
-    let walked = walk_tokens(space, h.nodes, h.subgoals, 0, tokens, index);
+    let walked = walk_tokens(space, h.nodes, h.subgoals, 0, tokens, index, h.nodes);
     match walked {
         Walked::Whole(leaf) => {
             let y = node_in(space, h.nodes, leaf);
@@ -168,7 +169,8 @@ fn call_with(
     requires { ⌜ Bounds (now space) h ⌝ }
     requires { ⌜ RoomForForm (now term) (now vars) (now form) ⌝ }
     ensures { λ r.
-        ⌜ AnswersUnder (searchIndexed (old index)) (old space) h (request.call (old term)) (saidCall r) (new space) ⌝ }
+        ⌜ AnswersUnder (searchIndexed (old index) (h .nodes)) (old space) h (request.call (old term)) (saidCall r)
+        (new space) ⌝ }
 {
     let read = read_terms(term, 1, vars, form, h.edition);
     let Reading::Form(n, m) = read else {

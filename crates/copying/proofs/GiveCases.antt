@@ -43,15 +43,15 @@ module _ (cs w : List ℕ) (m : ℕ) (two : spaceHeader cs ≡ headerOf (sizesOf
   unfolding subgoalGiven
   given-refused r e = rw (sym (e ∙ two)) refl
 
-  pub given-entered : (h : Head) → header.Sound h ≡ spaceHeader cs → (x : Reply) (after : List ℕ) → Does cs h (calledFrom (searchIndexed []) w m) x after
+  pub given-entered : (h : Head) → header.Sound h ≡ spaceHeader cs → (x : Reply) (after : List ℕ) → Does cs h (calledFrom (searchIndexed [] (h .nodes)) w m) x after
       → after ≡ subgoalGiven (sizesOf 2) cs w m (headerOf (sizesOf 2) cs)
   unfolding subgoalGiven calledBy
   given-entered h e x after d =
       let s : headerOf (sizesOf 2) cs ≡ header.Sound h = sym (e ∙ two) in
       let r = header-read (sizesOf 2) cs h s in
       let i : h .edition ≡ 2 = ap (λ (k : Head). k .edition) (r .is) ∙ r .headed .edition in
-      rw s (d .1 ∙ ap (λ (k : ℕ). change (sizesOf k) cs h (calledFrom (searchIndexed []) w m (viewOf (sizesOf k) cs h))) i
-      ∙ ap (λ (y : Walk). change (sizesOf 2) cs h (calledAt (viewOf (sizesOf 2) cs h) y m)) (walk-none (subgoalTrie (viewOf (sizesOf 2) cs h)) 0 w))
+      rw s (d .1 ∙ ap (λ (k : ℕ). change (sizesOf k) cs h (calledFrom (searchIndexed [] (h .nodes)) w m (viewOf (sizesOf k) cs h))) i
+      ∙ ap (λ (y : Walk). change (sizesOf 2) cs h (calledAt (viewOf (sizesOf 2) cs h) y m)) (walk-none (h .nodes) (subgoalTrie (viewOf (sizesOf 2) cs h)) 0 w))
 
 -- ---- a gathered path
 
@@ -154,16 +154,16 @@ module _ (cs w : List ℕ) (s : ℕ) (two : spaceHeader cs ≡ headerOf (sizesOf
   form-refused r e = rw (sym (e ∙ two)) refl
 
   pub form-entered : (h : Head) → header.Sound h ≡ spaceHeader cs → (g : Subgoal) → g ≡ subgoalUnder cs h s → (x : Reply) (after : List ℕ)
-      → Does cs h (answeredFrom (searchIndexed []) s (g .root) w) x after → after ≡ formGiven (sizesOf 2) cs s w (headerOf (sizesOf 2) cs)
+      → Does cs h (answeredFrom (searchIndexed [] (h .nodes)) s (g .root) w) x after → after ≡ formGiven (sizesOf 2) cs s w (headerOf (sizesOf 2) cs)
   unfolding formGivenBy
   form-entered h e g q x after d =
       let t : headerOf (sizesOf 2) cs ≡ header.Sound h = sym (e ∙ two) in
       let r = header-read (sizesOf 2) cs h t in
       let i : h .edition ≡ 2 = ap (λ (k : Head). k .edition) (r .is) ∙ r .headed .edition in
       let own : g .root ≡ viewOf (sizesOf 2) cs h .subgoal s .root = ap (λ (y : Subgoal). y .root) q ∙ ap (λ (k : ℕ). viewOf (sizesOf k) cs h .subgoal s .root) i in
-      rw t (d .1 ∙ ap (λ (k : ℕ). change (sizesOf k) cs h (answeredFrom (searchIndexed []) s (g .root) w (viewOf (sizesOf k) cs h))) i
-      ∙ ap (λ (k : ℕ). change (sizesOf 2) cs h (answeredFrom (searchIndexed []) s k w (viewOf (sizesOf 2) cs h))) own
-      ∙ ap (λ (y : Walk). change (sizesOf 2) cs h (answeredAt (viewOf (sizesOf 2) cs h) s w y)) (walk-none (answerTrie (viewOf (sizesOf 2) cs h)) (viewOf (sizesOf 2) cs h .subgoal s .root) w)
+      rw t (d .1 ∙ ap (λ (k : ℕ). change (sizesOf k) cs h (answeredFrom (searchIndexed [] (h .nodes)) s (g .root) w (viewOf (sizesOf k) cs h))) i
+      ∙ ap (λ (k : ℕ). change (sizesOf 2) cs h (answeredFrom (searchIndexed [] (h .nodes)) s k w (viewOf (sizesOf 2) cs h))) own
+      ∙ ap (λ (y : Walk). change (sizesOf 2) cs h (answeredAt (viewOf (sizesOf 2) cs h) s w y)) (walk-none (h .nodes) (answerTrie (viewOf (sizesOf 2) cs h)) (viewOf (sizesOf 2) cs h .subgoal s .root) w)
       ∙ given-written searchChildren (sizesOf 2) cs h s w (walkTo (viewOf (sizesOf 2) cs h) s w))
 
 -- what an answer asks of the space

@@ -145,7 +145,7 @@ pub fn give_answer(target: &mut [u32], s: usize, form: &[u32])
         return;
     };
     let g = subgoal_in(target, h, s);
-    answer_at(target, h, s, g, form, &[]);
+    answer_at(target, h, s, g, form, &[], h.nodes);
 }
 
 // An answer of the source to subgoal s, by the end of its path, enters the target.

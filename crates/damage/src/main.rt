@@ -242,7 +242,7 @@ fn walks_of(space: &[u32], nodes: usize, links: usize, tokens: &[u32], start: Ta
     while root < nodes {
         t = with_walk(
             t,
-            walk_tokens(space, nodes, links, root, tokens, &tokens[..0]),
+            walk_tokens(space, nodes, links, root, tokens, &tokens[..0], nodes),
         );
         root += 1;
     }

@@ -26,12 +26,13 @@ use Rattle.space.specs.declared.SubgoalRead.the-variants as subgoal-read
 use Rattle.space.proofs.HeaderLaws.{header-bounds}
 use Rattle.space.proofs.JudgingLaws.{read-node-sound, read-node-damaged, read-subgoal-sound, subgoal-bounds}
 use Rattle.trie.specs.Walks.{Finding, rootSound}
+use Rattle.trie.specs.Index.{searchIndexed}
 use Rattle.trie.proofs.SearchLaws.{Finds}
 use Rattle.store.specs.Views.{answerTrie}
 use Rattle.store.specs.Decisions.{soundLast, allSoundBy, nodesNeededBy, answersNeededBy}
-use Rattle.store.specs.Calls.{usedAnswers, AnswersBy}
+use Rattle.store.specs.Calls.{usedAnswers, AnswersBy, AnswersIndexed}
 use Rattle.store.specs.Contracts.{viewIn, Held, AnswersUnder}
-use Rattle.store.proofs.CallsCases.{steps-refused, steps-sound}
+use Rattle.store.proofs.CallsCases.{steps-refused, steps-sound, way-counted}
 use Rattle.store.proofs.CallsRecords.{read-subgoal-damaged}
 use Rattle.store.proofs.AnswersLaws.{step-none}
 use Rattle.agreement.proofs.Frame.{Framed, forms-framed}
@@ -150,7 +151,7 @@ module _ (find : Finding) (cs : List ℕ) (f g : ℕ) (ps : List ℕ) (s : ℕ) 
       (k .0, step-none find cs (join f g ps s ks) refl, k .1)
 
   -- the numbers came as cells
-  pub join-cells : (h : Head) (r : Reply) (cs′ : List ℕ) (f′ g′ s′ : ℕ) → f′ ≡ f → g′ ≡ g → s′ ≡ s → header.Sound h ≡ spaceHeader cs
+  join-cells : (h : Head) (r : Reply) (cs′ : List ℕ) (f′ g′ s′ : ℕ) → f′ ≡ f → g′ ≡ g → s′ ≡ s → header.Sound h ≡ spaceHeader cs
       → AnswersUnder find cs h (join f′ g′ ps s′ ks) r cs′ → AnswersBy find cs (join f g ps s ks) r [] cs′
   unfolding lent
   join-cells h r cs′ f′ g′ s′ i j l e u =
@@ -159,6 +160,13 @@ module _ (find : Finding) (cs : List ℕ) (f g : ℕ) (ps : List ℕ) (s : ℕ) 
       (subst (λ (q : ℕ). AnswersUnder find cs h (join f q ps s′ ks) r cs′) j
       (subst (λ (q : ℕ). AnswersUnder find cs h (join q g′ ps s′ ks) r cs′) i u))) in
       (k .0, step-none find cs (join f g ps s ks) refl, k .1)
+
+-- with an index
+pub join-counted : (index cs : List ℕ) (f g : ℕ) (ps : List ℕ) (s : ℕ) (ks : List ℕ) (h : Head) (r : Reply) (cs′ : List ℕ) (f′ g′ s′ : ℕ) → f′ ≡ f → g′ ≡ g → s′ ≡ s → header.Sound h ≡ spaceHeader cs
+    → AnswersUnder (searchIndexed index (h .nodes)) cs h (join f′ g′ ps s′ ks) r cs′ → AnswersIndexed index cs (join f g ps s ks) r [] cs′
+join-counted index cs f g ps s ks h r cs′ f′ g′ s′ i j l e u =
+    subst (λ (find : Finding). AnswersBy find cs (join f g ps s ks) r [] cs′) (way-counted index cs h e)
+    (join-cells (searchIndexed index (h .nodes)) cs f g ps s ks h r cs′ f′ g′ s′ i j l e u)
 
 -- ---- sources that the rule lets through
 
@@ -182,29 +190,30 @@ module _ (cs : List ℕ) (h : Head) (y : Parties) (ps ks : List ℕ) (g : Ground
   pub may-count : JoinReady cs x ps ks × (y .t .root < x .h .nodes)
   may-count = subst (λ (z : Sides). JoinReady cs z ps ks × (y .t .root < z .h .nodes)) (sym i) (ready cs h y ps ks g, root-within cs h y ps ks g)
 
-  module _ (find : Finding) (r : Counted) (n : CountsForms find cs x (y .t .root) ps ks r) where
-    counted-of : CountedOf find (viewIn cs h) (y .target) (storedOf (h .edition)) (allForms cs (sidesOf h y) ps ks) r
-    counted-of = subst (λ (z : Sides). CountsForms find cs z (y .t .root) ps ks r) i n (y .target) (target-root cs h y ps ks g)
+  -- by the nodes that stand
+  module _ (way : ℕ → Finding) (r : Counted) (n : CountsForms (way (x .h .nodes)) cs x (y .t .root) ps ks r) where
+    counted-of : CountedOf (way (h .nodes)) (viewIn cs h) (y .target) (storedOf (h .edition)) (allForms cs (sidesOf h y) ps ks) r
+    counted-of = subst (λ (z : Sides). CountsForms (way (z .h .nodes)) cs z (y .t .root) ps ks r) i n (y .target) (target-root cs h y ps ks g)
 
-    pub ground-long : r ≡ counted.TooLong → AnswersUnder find cs h (joinAsked y ps ks) (refused 4) cs
+    pub ground-long : r ≡ counted.TooLong → AnswersUnder (way (h .nodes)) cs h (joinAsked y ps ks) (refused 4) cs
     ground-long e =
-        too-long find cs h y ps ks g
-        (subst (CountedOf find (viewIn cs h) (y .target) (storedOf (h .edition)) (allForms cs (sidesOf h y) ps ks)) e counted-of)
+        too-long (way (h .nodes)) cs h y ps ks g
+        (subst (CountedOf (way (h .nodes)) (viewIn cs h) (y .target) (storedOf (h .edition)) (allForms cs (sidesOf h y) ps ks)) e counted-of)
 
     module _ (sums : Sums) (e : r ≡ counted.Sums sums) where
-      summed-of : CountedOf find (viewIn cs h) (y .target) (storedOf (h .edition)) (allForms cs (sidesOf h y) ps ks) (counted.Sums sums)
-      summed-of = subst (CountedOf find (viewIn cs h) (y .target) (storedOf (h .edition)) (allForms cs (sidesOf h y) ps ks)) e counted-of
+      summed-of : CountedOf (way (h .nodes)) (viewIn cs h) (y .target) (storedOf (h .edition)) (allForms cs (sidesOf h y) ps ks) (counted.Sums sums)
+      summed-of = subst (CountedOf (way (h .nodes)) (viewIn cs h) (y .target) (storedOf (h .edition)) (allForms cs (sidesOf h y) ps ks)) e counted-of
 
-      pub ground-unsound : sums .sound ≡ false → AnswersUnder find cs h (joinAsked y ps ks) (refused 9) cs
-      ground-unsound d = forms-unsound find cs h y ps ks g (summed-of .0) (sym (summed-of .1) ∙ d)
+      pub ground-unsound : sums .sound ≡ false → AnswersUnder (way (h .nodes)) cs h (joinAsked y ps ks) (refused 9) cs
+      ground-unsound d = forms-unsound (way (h .nodes)) cs h y ps ks g (summed-of .0) (sym (summed-of .1) ∙ d)
 
       module _ (d : sums .sound ≡ true) where
-        pub ground-none : sums .lacking ≡ 0 → AnswersUnder find cs h (joinAsked y ps ks) (joined 0) cs
+        pub ground-none : sums .lacking ≡ 0 → AnswersUnder (way (h .nodes)) cs h (joinAsked y ps ks) (joined 0) cs
         ground-none z =
             let b = parties-bounds cs h y (g .parties) in
-            none-new find cs h y ps ks g (summed-of .0) (sym (summed-of .1) ∙ d) (sym (summed-of .3) ∙ z) (b .nodes-within) (b .answers-within) (b .answers-cell)
+            none-new (way (h .nodes)) cs h y ps ks g (summed-of .0) (sym (summed-of .1) ∙ d) (sym (summed-of .3) ∙ z) (b .nodes-within) (b .answers-within) (b .answers-cell)
 
-        pub ground-some : (sums .lacking ≡ 0 → ⊥) → SomeNew find cs h y ps ks sums
+        pub ground-some : (sums .lacking ≡ 0 → ⊥) → SomeNew (way (h .nodes)) cs h y ps ks sums
         ground-some z = record { grounded = g; summed = summed-of; sound = d; some = z }
 
 -- ---- forms of which some are new
@@ -242,15 +251,15 @@ room-parts h nodes answers e =
     let m : nodes ≤ h .«node_capacity» - h .nodes = at-most nodes (h .«node_capacity» - h .nodes) (λ l. let q : _≡_ {A = ℕ} 0 10 = e ∙ sym (room-nodes h nodes answers l) in omega arith) in
     (m, at-most answers (h .«answer_capacity» - h .answers) (λ l. let q : _≡_ {A = ℕ} 0 11 = e ∙ sym (room-answers h nodes answers m l) in omega arith))
 
-module _ (find : Finding) (cs : List ℕ) (h : Head) (y : Parties) (ps ks : List ℕ) (sums : Sums) (n : SomeNew find cs h y ps ks sums) where
+module _ (way : ℕ → Finding) (cs : List ℕ) (h : Head) (y : Parties) (ps ks : List ℕ) (sums : Sums) (n : SomeNew (way (h .nodes)) cs h y ps ks sums) where
   pub new-bounds : Bounds cs h
   new-bounds = parties-bounds cs h y (n .grounded .parties)
 
-  all-sound : allSoundBy find (viewIn cs h) (y .target) (allForms cs (sidesOf h y) ps ks) ≡ true
+  all-sound : allSoundBy (way (h .nodes)) (viewIn cs h) (y .target) (allForms cs (sidesOf h y) ps ks) ≡ true
   all-sound = sym (n .summed .1) ∙ n .sound
 
-  pub new-last : soundLast (viewIn cs h) (y .target) ≡ false → AnswersUnder find cs h (joinAsked y ps ks) (refused 9) cs
-  new-last e = last-damaged find cs h y ps ks (n .grounded) (n .summed .0) all-sound (λ q. n .some (n .summed .3 ∙ q)) e
+  pub new-last : soundLast (viewIn cs h) (y .target) ≡ false → AnswersUnder (way (h .nodes)) cs h (joinAsked y ps ks) (refused 9) cs
+  new-last e = last-damaged (way (h .nodes)) cs h y ps ks (n .grounded) (n .summed .0) all-sound (λ q. n .some (n .summed .3 ∙ q)) e
 
   module _ (x : Sides) (i : x ≡ sidesOf h y) where
     pub may-enter : Enterable cs x (y .target) ps ks
@@ -268,53 +277,53 @@ module _ (find : Finding) (cs : List ℕ) (h : Head) (y : Parties) (ps ks : List
     may-need-root = may-count cs h y ps ks (n .grounded) x i .1
 
     module _ (l : soundLast (viewIn cs h) (y .target) ≡ true) where
-      entered-all : h .nodes + nodesNeededBy find (viewIn cs h) (y .target) [] (allForms cs (sidesOf h y) ps ks) ≤ h .«node_capacity»
-          → h .answers + answersNeededBy find (viewIn cs h) (y .target) [] (allForms cs (sidesOf h y) ps ks) ≤ h .«answer_capacity»
-          → (r : JoinAnswer) (cs′ : List ℕ) → EntersAll find cs x (y .target) ps ks r cs′ → JoinsUnder find cs h y ps ks r cs′
+      entered-all : h .nodes + nodesNeededBy (way (h .nodes)) (viewIn cs h) (y .target) [] (allForms cs (sidesOf h y) ps ks) ≤ h .«node_capacity»
+          → h .answers + answersNeededBy (way (h .nodes)) (viewIn cs h) (y .target) [] (allForms cs (sidesOf h y) ps ks) ≤ h .«answer_capacity»
+          → (r : JoinAnswer) (cs′ : List ℕ) → EntersAll (way (x .h .nodes)) cs x (y .target) ps ks r cs′ → JoinsUnder (way (h .nodes)) cs h y ps ks r cs′
       entered-all a b r cs′ e =
-          let d : EntersAll find cs (sidesOf h y) (y .target) ps ks r cs′ = subst (λ (z : Sides). EntersAll find cs z (y .target) ps ks r cs′) i e in
-          subst (λ (q : Reply). AnswersUnder find cs h (joinAsked y ps ks) q cs′) (sym (d .1))
-          (all-entered find cs h y ps ks (n .grounded) (n .summed .0) all-sound l a b (usedAnswers cs′ - h .answers) cs′ (d .0) refl)
+          let d : EntersAll (way (h .nodes)) cs (sidesOf h y) (y .target) ps ks r cs′ = subst (λ (z : Sides). EntersAll (way (z .h .nodes)) cs z (y .target) ps ks r cs′) i e in
+          subst (λ (q : Reply). AnswersUnder (way (h .nodes)) cs h (joinAsked y ps ks) q cs′) (sym (d .1))
+          (all-entered (way (h .nodes)) cs h y ps ks (n .grounded) (n .summed .0) all-sound l a b (usedAnswers cs′ - h .answers) cs′ (d .0) refl)
 
-      pub new-by-sums : sumsFit h sums ≡ true → (r : JoinAnswer) (cs′ : List ℕ) → EntersAll find cs x (y .target) ps ks r cs′ → JoinsUnder find cs h y ps ks r cs′
+      pub new-by-sums : sumsFit h sums ≡ true → (r : JoinAnswer) (cs′ : List ℕ) → EntersAll (way (x .h .nodes)) cs x (y .target) ps ks r cs′ → JoinsUnder (way (h .nodes)) cs h y ps ks r cs′
       new-by-sums e =
           let f = fit-parts h sums e in
           let b = new-bounds in
-          let m = sums-suffice find cs h y ps ks (n .grounded) (n .summed .0) all-sound l
+          let m = sums-suffice (way (h .nodes)) cs h y ps ks (n .grounded) (n .summed .0) all-sound l
           (subst (λ (k : ℕ). k ≤ h .«node_capacity» - h .nodes) (n .summed .2) (f .0))
           (subst (λ (k : ℕ). k ≤ h .«answer_capacity» - h .answers) (n .summed .3) (f .1))
           (b .nodes-within) (b .answers-within) in
           entered-all (m .0) (m .1)
 
-      module _ (k : ℕ) (w : TellsRoom find cs x (y .t .root) ps ks k) where
-        room-is : k ≡ roomFor h (nodesNeededBy find (viewIn cs h) (y .target) [] (allForms cs (sidesOf h y) ps ks)) (answersNeededBy find (viewIn cs h) (y .target) [] (allForms cs (sidesOf h y) ps ks))
-        room-is = subst (λ (z : Sides). TellsRoom find cs z (y .t .root) ps ks k) i w (y .target) (target-root cs h y ps ks (n .grounded))
+      module _ (k : ℕ) (w : TellsRoom (way (x .h .nodes)) cs x (y .t .root) ps ks k) where
+        room-is : k ≡ roomFor h (nodesNeededBy (way (h .nodes)) (viewIn cs h) (y .target) [] (allForms cs (sidesOf h y) ps ks)) (answersNeededBy (way (h .nodes)) (viewIn cs h) (y .target) [] (allForms cs (sidesOf h y) ps ks))
+        room-is = subst (λ (z : Sides). TellsRoom (way (z .h .nodes)) cs z (y .t .root) ps ks k) i w (y .target) (target-root cs h y ps ks (n .grounded))
 
-        pub new-exactly : k ≡ 0 → (r : JoinAnswer) (cs′ : List ℕ) → EntersAll find cs x (y .target) ps ks r cs′ → JoinsUnder find cs h y ps ks r cs′
+        pub new-exactly : k ≡ 0 → (r : JoinAnswer) (cs′ : List ℕ) → EntersAll (way (x .h .nodes)) cs x (y .target) ps ks r cs′ → JoinsUnder (way (h .nodes)) cs h y ps ks r cs′
         new-exactly z =
-            let m = room-parts h (nodesNeededBy find (viewIn cs h) (y .target) [] (allForms cs (sidesOf h y) ps ks)) (answersNeededBy find (viewIn cs h) (y .target) [] (allForms cs (sidesOf h y) ps ks)) (sym z ∙ room-is) in
+            let m = room-parts h (nodesNeededBy (way (h .nodes)) (viewIn cs h) (y .target) [] (allForms cs (sidesOf h y) ps ks)) (answersNeededBy (way (h .nodes)) (viewIn cs h) (y .target) [] (allForms cs (sidesOf h y) ps ks)) (sym z ∙ room-is) in
             let b = new-bounds in
             entered-all (omega (arith, m .0, b .nodes-within)) (omega (arith, m .1, b .answers-within))
 
-        refused-at : (j : ℕ) → k ≡ j → AnswersUnder find cs h (joinAsked y ps ks) (refused j) cs → AnswersUnder find cs h (joinAsked y ps ks) (refused k) cs
-        refused-at j e u = subst (λ (q : ℕ). AnswersUnder find cs h (joinAsked y ps ks) (refused q) cs) (sym e) u
+        refused-at : (j : ℕ) → k ≡ j → AnswersUnder (way (h .nodes)) cs h (joinAsked y ps ks) (refused j) cs → AnswersUnder (way (h .nodes)) cs h (joinAsked y ps ks) (refused k) cs
+        refused-at j e u = subst (λ (q : ℕ). AnswersUnder (way (h .nodes)) cs h (joinAsked y ps ks) (refused q) cs) (sym e) u
 
-        pub new-full : (k ≡ 0 → ⊥) → AnswersUnder find cs h (joinAsked y ps ks) (refused k) cs
+        pub new-full : (k ≡ 0 → ⊥) → AnswersUnder (way (h .nodes)) cs h (joinAsked y ps ks) (refused k) cs
         new-full z =
             let b = new-bounds in
-            by-cases (leb (nodesNeededBy find (viewIn cs h) (y .target) [] (allForms cs (sidesOf h y) ps ks)) (h .«node_capacity» - h .nodes))
+            by-cases (leb (nodesNeededBy (way (h .nodes)) (viewIn cs h) (y .target) [] (allForms cs (sidesOf h y) ps ks)) (h .«node_capacity» - h .nodes))
             (λ t.
-            let m : nodesNeededBy find (viewIn cs h) (y .target) [] (allForms cs (sidesOf h y) ps ks) ≤ h .«node_capacity» - h .nodes = leb-true _ _ t in
-            by-cases (leb (answersNeededBy find (viewIn cs h) (y .target) [] (allForms cs (sidesOf h y) ps ks)) (h .«answer_capacity» - h .answers))
+            let m : nodesNeededBy (way (h .nodes)) (viewIn cs h) (y .target) [] (allForms cs (sidesOf h y) ps ks) ≤ h .«node_capacity» - h .nodes = leb-true _ _ t in
+            by-cases (leb (answersNeededBy (way (h .nodes)) (viewIn cs h) (y .target) [] (allForms cs (sidesOf h y) ps ks)) (h .«answer_capacity» - h .answers))
             (λ u. absurd (z (room-is ∙ sym (room-enough h _ _ m (leb-true _ _ u)))))
             (λ u.
-            let o : h .«answer_capacity» - h .answers < answersNeededBy find (viewIn cs h) (y .target) [] (allForms cs (sidesOf h y) ps ks) = leb-false _ _ u in
+            let o : h .«answer_capacity» - h .answers < answersNeededBy (way (h .nodes)) (viewIn cs h) (y .target) [] (allForms cs (sidesOf h y) ps ks) = leb-false _ _ u in
             refused-at 11 (room-is ∙ sym (room-answers h _ _ m o))
-            (no-records find cs h y ps ks (n .grounded) (n .summed .0) all-sound l (omega (arith, m, b .nodes-within)) (omega (arith, o, b .answers-within)))))
+            (no-records (way (h .nodes)) cs h y ps ks (n .grounded) (n .summed .0) all-sound l (omega (arith, m, b .nodes-within)) (omega (arith, o, b .answers-within)))))
             (λ t.
-            let o : h .«node_capacity» - h .nodes < nodesNeededBy find (viewIn cs h) (y .target) [] (allForms cs (sidesOf h y) ps ks) = leb-false _ _ t in
+            let o : h .«node_capacity» - h .nodes < nodesNeededBy (way (h .nodes)) (viewIn cs h) (y .target) [] (allForms cs (sidesOf h y) ps ks) = leb-false _ _ t in
             refused-at 10 (room-is ∙ sym (room-nodes h _ _ o))
-            (no-nodes find cs h y ps ks (n .grounded) (n .summed .0) all-sound l (omega (arith, o, b .nodes-within))))
+            (no-nodes (way (h .nodes)) cs h y ps ks (n .grounded) (n .summed .0) all-sound l (omega (arith, o, b .nodes-within))))
 
 -- ---- all forms were entered
 

@@ -17,13 +17,13 @@ ghost use Rattle.trie.specs.Index.{searchIndexed};
 ghost use Rattle.join.specs.Entering.{Givable, GivesForm, underHead, Enters};
 ghost use Rattle.join.specs.Joining.{Enterable};
 
-// A form given to subgoal s, whatever comes of it.
-fn give(space: &mut [u32], h: Head, s: usize, tokens: &[u32], index: &[u32])
+// A form given to subgoal s, whatever comes of it, in a join that began with so many nodes.
+fn give(space: &mut [u32], h: Head, s: usize, tokens: &[u32], index: &[u32], stood: usize)
     requires { ⌜ Givable (now space) h s ⌝ }
-    ensures { λ _. ⌜ GivesForm (searchIndexed (old index)) (old space) h s (old tokens) (new space) ⌝ }
+    ensures { λ _. ⌜ GivesForm (searchIndexed (old index) stood) (old space) h s (old tokens) (new space) ⌝ }
 {
     let g = subgoal_in(space, h, s);
-    answer_at(space, h, s, g, tokens, index);
+    answer_at(space, h, s, g, tokens, index, stood);
 }
 
 // The same sources under another header.
@@ -42,7 +42,8 @@ fn under(x: Sides, h: Head) -> Sides
 // All forms given to subgoal s.
 pub fn enter(space: &mut [u32], x: Sides, s: usize, pairs: &[u32], copies: &[u32], index: &[u32])
     requires { ⌜ Enterable (now space) x s (now pairs) (now copies) ⌝ }
-    ensures { λ _. ⌜ Enters (searchIndexed (old index)) (old space) x s (old pairs) (old copies) (new space) ⌝ }
+    ensures { λ _.
+        ⌜ Enters (searchIndexed (old index) (x .h .nodes)) (old space) x s (old pairs) (old copies) (new space) ⌝ }
 {
     let mut hands = [0u32; HANDS];
     let mut form = [0u32; MOST_TOKENS];
@@ -53,7 +54,7 @@ pub fn enter(space: &mut [u32], x: Sides, s: usize, pairs: &[u32], copies: &[u32
         let Match::At(behind, n) = next else {
             return;
         };
-        give(space, y.h, s, &form[..n], index);
+        give(space, y.h, s, &form[..n], index, x.h.nodes);
         let header = read_header(space);
         let Header::Sound(h) = header else {
             return;

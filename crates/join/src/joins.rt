@@ -162,7 +162,9 @@ fn join_entered(
     index: &[u32],
 ) -> JoinAnswer
     requires { ⌜ Enterable (now space) x s (now pairs) (now copies) ⌝ }
-    ensures { λ r. ⌜ EntersAll (searchIndexed (old index)) (old space) x s (old pairs) (old copies) r (new space) ⌝ }
+    ensures { λ r.
+        ⌜ EntersAll (searchIndexed (old index) (x .h .nodes)) (old space) x s (old pairs) (old copies) r
+        (new space) ⌝ }
 {
     enter(space, x, s, pairs, copies, index);
     let header = read_header(space);
@@ -191,7 +193,8 @@ fn sums_fit(h: Head, y: Sums) -> bool
 fn full(space: &[u32], x: Sides, root: usize, pairs: &[u32], copies: &[u32], index: &[u32]) -> u32
     requires { ⌜ ReadyToCount (now space) x (now pairs) (now copies) ⌝ }
     requires { ⌜ root < x .h .nodes ⌝ }
-    ensures { λ r. ⌜ TellsRoom (searchIndexed (old index)) (old space) x root (old pairs) (old copies) r ⌝ }
+    ensures { λ r.
+        ⌜ TellsRoom (searchIndexed (old index) (x .h .nodes)) (old space) x root (old pairs) (old copies) r ⌝ }
 {
     let y = needs(space, x, root, pairs, copies, index);
     let nodes = (x.h.node_capacity - x.h.nodes) as u64;
@@ -215,8 +218,9 @@ fn join_new(
     copies: &[u32],
     index: &[u32],
 ) -> JoinAnswer
-    requires { ⌜ SomeNew (searchIndexed (now index)) (now space) h y (now pairs) (now copies) sums ⌝ }
-    ensures { λ r. ⌜ JoinsUnder (searchIndexed (old index)) (old space) h y (old pairs) (old copies) r (new space) ⌝ }
+    requires { ⌜ SomeNew (searchIndexed (now index) (h .nodes)) (now space) h y (now pairs) (now copies) sums ⌝ }
+    ensures { λ r.
+        ⌜ JoinsUnder (searchIndexed (old index) (h .nodes)) (old space) h y (old pairs) (old copies) r (new space) ⌝ }
 {
     if last_sound(space, h, y.target, y.t.last) {
         let x = sides_of(h, y);
@@ -242,7 +246,8 @@ fn join_ground(
     index: &[u32],
 ) -> JoinAnswer
     requires { ⌜ Grounded (now space) h y (now pairs) (now copies) ⌝ }
-    ensures { λ r. ⌜ JoinsUnder (searchIndexed (old index)) (old space) h y (old pairs) (old copies) r (new space) ⌝ }
+    ensures { λ r.
+        ⌜ JoinsUnder (searchIndexed (old index) (h .nodes)) (old space) h y (old pairs) (old copies) r (new space) ⌝ }
 {
     let counted = count(space, sides_of(h, y), y.t.root, pairs, copies, index);
     let Counted::Sums(sums) = counted else {
@@ -267,7 +272,8 @@ fn join_parties(
     index: &[u32],
 ) -> JoinAnswer
     requires { ⌜ PartiesIn (now space) h y ⌝ }
-    ensures { λ r. ⌜ JoinsUnder (searchIndexed (old index)) (old space) h y (old pairs) (old copies) r (new space) ⌝ }
+    ensures { λ r.
+        ⌜ JoinsUnder (searchIndexed (old index) (h .nodes)) (old space) h y (old pairs) (old copies) r (new space) ⌝ }
 {
     let f = judge(space, h, y.first, y.f);
     let g = judge(space, h, y.second, y.g);
@@ -289,7 +295,8 @@ fn join_known(
 ) -> JoinAnswer
     requires { ⌜ Numbered (now space) h a ⌝ }
     ensures { λ r.
-        ⌜ JoinsNumbered (searchIndexed (old index)) (old space) h a (old pairs) (old copies) r (new space) ⌝ }
+        ⌜ JoinsNumbered (searchIndexed (old index) (h .nodes)) (old space) h a (old pairs) (old copies) r
+        (new space) ⌝ }
 {
     let SubgoalRead::Sound(f) = read_subgoal(space, h, a.first) else {
         return JoinAnswer::Refused(RECORDS);
@@ -325,7 +332,8 @@ fn join_in(
 ) -> JoinAnswer
     requires { ⌜ header.Sound h ≡ spaceHeader (now space) ⌝ }
     ensures { λ r.
-        ⌜ JoinsNumbered (searchIndexed (old index)) (old space) h a (old pairs) (old copies) r (new space) ⌝ }
+        ⌜ JoinsNumbered (searchIndexed (old index) (h .nodes)) (old space) h a (old pairs) (old copies) r
+        (new space) ⌝ }
 {
     if is_number(h.subgoals, a.first) {
         if is_number(h.subgoals, a.second) {

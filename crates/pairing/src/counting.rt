@@ -75,7 +75,8 @@ pub fn count(
     index: &[u32],
 ) -> Counted
     requires { ⌜ JoinReady (now space) x (now pairs) (now copies) × (root < x .h .nodes) ⌝ }
-    ensures { λ r. ⌜ CountsForms (searchIndexed (old index)) (old space) x root (old pairs) (old copies) r ⌝ }
+    ensures { λ r.
+        ⌜ CountsForms (searchIndexed (old index) (x .h .nodes)) (old space) x root (old pairs) (old copies) r ⌝ }
 {
     let mut hands = [0u32; HANDS];
     let mut form = [0u32; MOST_TOKENS];
@@ -222,7 +223,8 @@ pub fn needs(
 ) -> Needs
     requires { ⌜ ReadyToCount (now space) x (now pairs) (now copies) ⌝ }
     requires { ⌜ root < x .h .nodes ⌝ }
-    ensures { λ r. ⌜ NeedsOf (searchIndexed (old index)) (old space) x root (old pairs) (old copies) r ⌝ }
+    ensures { λ r.
+        ⌜ NeedsOf (searchIndexed (old index) (x .h .nodes)) (old space) x root (old pairs) (old copies) r ⌝ }
 {
     let mut hands = [0u32; HANDS];
     let mut form = [0u32; MOST_TOKENS];

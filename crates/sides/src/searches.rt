@@ -29,12 +29,12 @@ fn whole_sound(space: &[u32], h: Head, n: usize, leaf: usize, a: usize) -> bool
     y.leaf == leaf
 }
 
-// The search from an answer root on.
+// The search from an answer root on, in a space as it was when the call began.
 pub fn search(space: &[u32], h: Head, root: usize, tokens: &[u32], index: &[u32]) -> Met
     requires { ⌜ RootIn (now space) h root ⌝ }
-    ensures { λ r. ⌜ Searched (searchIndexed (old index)) (old space) h root (old tokens) r ⌝ }
+    ensures { λ r. ⌜ Searched (searchIndexed (old index) (h .nodes)) (old space) h root (old tokens) r ⌝ }
 {
-    let walked = walk_tokens(space, h.nodes, h.answers, root, tokens, index);
+    let walked = walk_tokens(space, h.nodes, h.answers, root, tokens, index, h.nodes);
     match walked {
         Walked::Whole(leaf) => {
             let y = node_in(space, h.nodes, leaf);

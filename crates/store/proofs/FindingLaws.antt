@@ -20,12 +20,11 @@ use Rattle.space.specs.declared.Header.{Header}
 use Rattle.space.specs.declared.Header.the-variants as header
 use Rattle.trie.specs.Siblings.{Trie}
 use Rattle.trie.specs.Walks.{Walk, Finding, walk, walkBy}
-use Rattle.trie.specs.Index.{searchIndexed}
 use Rattle.trie.proofs.IndexLaws.{walk-none}
 use Rattle.store.specs.Views.{View, subgoalTrie, answerTrie, viewOf}
 use Rattle.store.specs.Decisions.{Decision, says, gives, entersSubgoal, entersAnswer, entersEmpty, finishes, entersAnswers, known, sound, stateOf, soundSubgoal, soundTarget, chainOf, sideIn, Chain, broken, unbroken, onChains, calledAt, answeredAt, called, calledBy, answered, answeredBy, walkTo, walkToBy, allSound, allSoundBy, nodesNeeded, nodesNeededBy, answersNeeded, answersNeededBy, joining, joiningBy, reasoned, reasonedBy, reasonedAt, decide, decideBy}
 use Rattle.store.specs.Changes.{answerGiven, formGiven, formGivenBy, formsGiven, formsGivenBy, change, changeBy}
-use Rattle.store.specs.Calls.{underBy, underAny, underAnyBy, spaceStep, spaceStepBy, indexedStep, Answers, AnswersIndexed}
+use Rattle.store.specs.Calls.{underBy, underAny, underAnyBy, spaceStep, spaceStepBy, usedNodes, indexedWay, indexedStep, Answers, AnswersIndexed}
 
 -- ---- the decision
 
@@ -133,7 +132,7 @@ module _ (find : Finding) (same : (t : Trie) (root : ℕ) (w : Word) → walkBy 
 
 pub unindexed : (cs : List ℕ) (q : Request) → indexedStep [] cs q ≡ spaceStep cs q
 unfolding spaceStepBy
-unindexed cs q = step-same (searchIndexed []) walk-none cs q (spaceHeader cs)
+unindexed cs q = step-same (indexedWay [] cs) (walk-none (usedNodes cs)) cs q (spaceHeader cs)
 
 pub unindexed-answers : (cs : List ℕ) (q : Request) (r : Reply) (out cs′ : List ℕ) → AnswersIndexed [] cs q r out cs′ → Answers cs q r out cs′
 unindexed-answers cs q r out cs′ k =

@@ -25,6 +25,10 @@ use Rattle.store.specs.Changes.{changeBy}
 abbrev pub usedAnswers : List ℕ → ℕ
 usedAnswers cs = getD cs answersCell 0
 
+-- the nodes used
+abbrev pub usedNodes : List ℕ → ℕ
+usedNodes cs = getD cs nodesCell 0
+
 -- what the call answers, out being so long and so many answers being used afterwards; cells that do not fit are 12 with
 -- the need
 unfoldable pub reply : View → Decision → ℕ → ℕ → Reply
@@ -63,9 +67,14 @@ underAnyBy find cs q (header.Refused r) = record { reply = refused r; out = lent
 unfoldable pub spaceStepBy : Finding → List ℕ → Request → Result (List ℕ)
 spaceStepBy find cs q = underAnyBy find cs q (spaceHeader cs)
 
+-- how a call on these cells finds a child with an index: the nodes that stand when it begins are those used now, to
+-- the call's end
+abbrev pub indexedWay : List ℕ → List ℕ → Finding
+indexedWay index cs = searchIndexed index (usedNodes cs)
+
 -- with an index of these cells; one of no cells is none
 abbrev pub indexedStep : List ℕ → List ℕ → Request → Result (List ℕ)
-indexedStep index = spaceStepBy (searchIndexed index)
+indexedStep index cs = spaceStepBy (indexedWay index cs) cs
 
 -- ---- by the sibling chains
 
@@ -96,12 +105,12 @@ Answers = AnswersBy searchChildren
 
 -- with one
 abbrev pub AnswersIndexed : List ℕ → List ℕ → Request → Reply → List ℕ → List ℕ → Type 0
-AnswersIndexed index = AnswersBy (searchIndexed index)
+AnswersIndexed index before = AnswersBy (indexedWay index before) before
 
 -- the counts as they stand in the header
 abbrev pub countedCells : List ℕ → Counts
 countedCells cs =
-    record { nodes = getD cs nodesCell 0; subgoals = getD cs subgoalsCell 0; answers = usedAnswers cs }
+    record { nodes = usedNodes cs; subgoals = getD cs subgoalsCell 0; answers = usedAnswers cs }
 
 -- what is seen of a list of calls
 abbrev pub cellTrace : Sizes → Coding → List ℕ → List Request → List Seen

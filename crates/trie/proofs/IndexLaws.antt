@@ -12,7 +12,7 @@ use Rattle.basis.proofs.Cases.{by-cases}
 use Rattle.space.specs.declared.Node.{Node}
 use Rattle.trie.specs.Siblings.{Trie, sound, atSibling, searchSiblings, searchChildren}
 use Rattle.trie.specs.Walks.{onward, rootSound, walkFrom, walk, Finding, walkFromBy, walkBy}
-use Rattle.trie.specs.Index.{powerBelow, powerOfTwo, slotOf, slotAfter, confirmed, probe, searchInTurn, searchIndexed}
+use Rattle.trie.specs.Index.{powerBelow, powerOfTwo, slotOf, slotAfter, confirmed, probe, entryBeside, searchInTurn, searchIndexed}
 use Rattle.trie.specs.Ledger.{isLast, lastBelow, Grown}
 use Rattle.trie.specs.declared.Search.{Search}
 use Rattle.trie.specs.declared.Search.the-variants.{Found, Last, Damaged}
@@ -69,22 +69,22 @@ sibling-step t parent token n rest =
     (λ p. rw (s, p) hurt))
     (λ s. rw s hurt)
 
-module _ (t : Trie) (index : List ℕ) (parent token : ℕ) where
+module _ (t : Trie) (index : List ℕ) (stood parent token : ℕ) where
   turn : (steps slot n : ℕ)
-      → Turn steps t parent token n (getD index slot 0) (searchInTurn steps t index parent token (slotAfter (length index) slot) (t .at n .sibling))
-      (searchInTurn (suc steps) t index parent token slot n)
+      → Turn steps t parent token n (entryBeside index stood slot n) (searchInTurn steps t index stood parent token (slotAfter (length index) slot) (t .at n .sibling))
+      (searchInTurn (suc steps) t index stood parent token slot n)
   unfolding searchInTurn
-  turn steps slot n = by-cases (eqb (getD index slot 0) 0)
+  turn steps slot n = by-cases (eqb (entryBeside index stood slot n) 0)
       (λ e. rw e (alone (eqb-true _ _ e)))
-      (λ e. by-cases (confirmed t parent token (getD index slot 0))
-      (λ k. by-cases (sound t (getD index slot 0))
+      (λ e. by-cases (confirmed t parent token (entryBeside index stood slot n))
+      (λ k. by-cases (sound t (entryBeside index stood slot n))
       (λ s. rw (e, k, s) (met (confirmed-is t parent token _ k) s))
       (λ s. rw (e, k, s) (bad (confirmed-is t parent token _ k) s)))
       (λ k. rw (e, k) (passed (eqb-false _ _ e) k (sibling-step t parent token n _))))
 
   -- ---- the laws of the walk hold with any index, on any cells
 
-  turn-found : (steps slot n c : ℕ) → n < t .nodes → searchInTurn steps t index parent token slot n ≡ Found c → Child t parent token c
+  turn-found : (steps slot n c : ℕ) → n < t .nodes → searchInTurn steps t index stood parent token slot n ≡ Found c → Child t parent token c
   unfolding searchInTurn
   turn-found zero slot n c h e = let z : _≡_ {A = ℕ} 0 1 = cc in absurd (omega arith)
   turn-found (suc steps) slot n c h e = go (turn steps slot n) e (λ i f. turn-found steps (slotAfter (length index) slot) (t .at n .sibling) c i f)
@@ -97,7 +97,7 @@ module _ (t : Trie) (index : List ℕ) (parent token : ℕ) where
       go (bad k s) f again = let z : _≡_ {A = ℕ} 0 1 = cc in absurd (omega arith)
       go (passed _ _ w) f again = step-found w h f again
 
-  turn-ended : (steps slot n l : ℕ) → n < t .nodes → searchInTurn steps t index parent token slot n ≡ Last l → LastChild t n l
+  turn-ended : (steps slot n l : ℕ) → n < t .nodes → searchInTurn steps t index stood parent token slot n ≡ Last l → LastChild t n l
   unfolding searchInTurn
   turn-ended zero slot n l h e = let z : _≡_ {A = ℕ} 0 1 = cc in absurd (omega arith)
   turn-ended (suc steps) slot n l h e = go (turn steps slot n) e (λ i f. turn-ended steps (slotAfter (length index) slot) (t .at n .sibling) l i f)
@@ -109,7 +109,7 @@ module _ (t : Trie) (index : List ℕ) (parent token : ℕ) where
       go (passed _ _ w) f again = step-ended w h f again
 
   module _ (h : parent < t .nodes) (s : sound t parent ≡ true) where
-    found-indexed : (c : ℕ) → searchIndexed index t parent token ≡ Found c → Child t parent token c
+    found-indexed : (c : ℕ) → searchIndexed index stood t parent token ≡ Found c → Child t parent token c
     unfolding searchIndexed
     found-indexed c e = by-cases (eqb (t .at parent .child) 0)
         (λ z. let f : Last 0 ≡ Found c = rw z at e in let x : _≡_ {A = ℕ} 0 1 = cc in absurd (omega arith))
@@ -117,7 +117,7 @@ module _ (t : Trie) (index : List ℕ) (parent token : ℕ) where
         (λ p. turn-found (t .nodes) (slotOf (length index) parent token) (t .at parent .child) c (first-within t parent h s) (rw (z, p) at e))
         (λ p. children-found t parent token c h s (rw (z, p) at e)))
 
-    ended-indexed : (last : ℕ) → searchIndexed index t parent token ≡ Last last → Ends t parent last
+    ended-indexed : (last : ℕ) → searchIndexed index stood t parent token ≡ Last last → Ends t parent last
     unfolding searchIndexed
     ended-indexed last e = by-cases (eqb (t .at parent .child) 0)
         (λ z. let f : Last 0 ≡ Last last = rw z at e in
@@ -129,10 +129,10 @@ module _ (t : Trie) (index : List ℕ) (parent token : ℕ) where
         record { parent-within = h; last-within = f .within; no-child = λ l. absurd (let r = f .reached in omega arith); no-sibling = λ _. f .no-sibling })
         (λ p. children-ended t parent token last h s (rw (z, p) at e)))
 
-pub indexes-find : (index : List ℕ) → Finds (searchIndexed index)
-indexes-find index = record {
-  found = λ t parent token c h s e. found-indexed t index parent token h s c e;
-  ended = λ t parent token last h s e. ended-indexed t index parent token h s last e;
+pub indexes-find : (index : List ℕ) (stood : ℕ) → Finds (searchIndexed index stood)
+indexes-find index stood = record {
+  found = λ t parent token c h s e. found-indexed t index stood parent token h s c e;
+  ended = λ t parent token last h s e. ended-indexed t index stood parent token h s last e;
 }
 
 -- ---- as by the chains
@@ -185,7 +185,7 @@ at-alike t parent token n rest rest′ f =
     (λ p. rw (s, p)))
     (λ s. rw s)
 
-module _ (t : Trie) (index : List ℕ) (parent token : ℕ) where
+module _ (t : Trie) (index : List ℕ) (stood parent token : ℕ) where
   -- from sibling n on
   abbrev ChainedFrom : ℕ → ℕ → Type 0
   ChainedFrom steps n = (x : ℕ) → Confirmed t parent token x → (sound t x ≡ true) × (searchSiblings steps t parent token n ≡ Found x)
@@ -195,43 +195,23 @@ module _ (t : Trie) (index : List ℕ) (parent token : ℕ) where
       → ChainedFrom steps (t .at n .sibling)
   chained-on steps n f s p q r x k = let g = f x k in (g .0, sym (search-next steps t parent token n s p q r) ∙ g .1)
 
-  turn-same : (steps slot n : ℕ) → ChainedFrom steps n → searchInTurn steps t index parent token slot n ≡ searchSiblings steps t parent token n
+  turn-same : (steps slot n : ℕ) → ChainedFrom steps n → searchInTurn steps t index stood parent token slot n ≡ searchSiblings steps t parent token n
   unfolding searchInTurn searchSiblings
   turn-same zero slot n f = refl
-  turn-same (suc steps) slot n f = by-cases (eqb (getD index slot 0) 0)
+  turn-same (suc steps) slot n f = by-cases (eqb (entryBeside index stood slot n) 0)
       (λ e. rw e)
-      (λ e. by-cases (confirmed t parent token (getD index slot 0))
-      (λ k. let g = f (getD index slot 0) (confirmed-is t parent token _ k) in rw (e, k, g .0) (sym (g .1)))
+      (λ e. by-cases (confirmed t parent token (entryBeside index stood slot n))
+      (λ k. let g = f (entryBeside index stood slot n) (confirmed-is t parent token _ k) in rw (e, k, g .0) (sym (g .1)))
       (λ k. rw (e, k) (at-alike t parent token n _ _ (λ s p q r. turn-same steps (slotAfter (length index) slot) (t .at n .sibling) (chained-on steps n f s p q r)))))
 
-pub indexes-as-chains : (index : List ℕ) (at : ℕ → Node) (nodes : ℕ) → AsChains at nodes (searchIndexed index)
+pub indexes-as-chains : (index : List ℕ) (stood : ℕ) (at : ℕ → Node) (nodes : ℕ) → AsChains at nodes (searchIndexed index stood)
 unfolding searchIndexed
-indexes-as-chains index at nodes t parent token grown h f = by-cases (eqb (t .at parent .child) 0)
+indexes-as-chains index stood at nodes t parent token grown h f = by-cases (eqb (t .at parent .child) 0)
     (λ z. rw z (children-none t parent token (t .at parent) refl (eqb-true _ _ z)))
     (λ z. by-cases (powerOfTwo (length index))
     (λ p. let all = children-some t parent token (t .at parent) refl (eqb-false _ _ z) in
-    rw (z, p) (turn-same t index parent token (t .nodes) (slotOf (length index) parent token) (t .at parent .child) (λ x k. (f .met x k .0, all ∙ f .met x k .1)) ∙ all))
+    rw (z, p) (turn-same t index stood parent token (t .nodes) (slotOf (length index) parent token) (t .at parent .child) (λ x k. (f .met x k .0, all ∙ f .met x k .1)) ∙ all))
     (λ p. rw (z, p)))
-
--- where the chain ends with the child that the lookup gives, the search takes no more turns than the lookup takes slots
-module _ (t : Trie) (index : List ℕ) (parent token x : ℕ) (some : x ≡ 0 → ⊥) (s : sound t x ≡ true) where
-  pub turns-few : (k m slot n : ℕ) → probe k t index parent token slot ≡ x → searchSiblings m t parent token n ≡ Found x → searchInTurn k t index parent token slot n ≡ Found x
-  unfolding probe searchInTurn searchSiblings
-  turns-few zero m slot n e f = absurd (some (sym e))
-  turns-few (suc k) zero slot n e f = let z : _≡_ {A = ℕ} 0 1 = cc in absurd (omega arith)
-  turns-few (suc k) (suc m) slot n e f = by-cases (eqb (getD index slot 0) 0)
-      (λ a. absurd (some (sym (rw a at e))))
-      (λ a. by-cases (confirmed t parent token (getD index slot 0))
-      (λ b. let y : getD index slot 0 ≡ x = rw (a, b) at e in rw (a, b, y, s))
-      (λ b. rw (a, b) (by-cases (sound t n) (λ j.
-      by-cases (eqb (t .at n .parent) parent) (λ p.
-      by-cases (eqb (t .at n .token) token)
-      (λ q. rw (j, p, q) (rw (j, p, q) at f))
-      (λ q. by-cases (eqb (t .at n .sibling) 0)
-      (λ r. let g : Last n ≡ Found x = rw (j, p, q, r) at f in let z : _≡_ {A = ℕ} 0 1 = cc in absurd (omega arith))
-      (λ r. rw (j, p, q, r) (turns-few k m (slotAfter (length index) slot) (t .at n .sibling) (rw (a, b) at e) (rw (j, p, q, r) at f)))))
-      (λ p. let g : Damaged ≡ Found x = rw (j, p) at f in let z : _≡_ {A = ℕ} 0 1 = cc in absurd (omega arith)))
-      (λ j. let g : Damaged ≡ Found x = rw j at f in let z : _≡_ {A = ℕ} 0 1 = cc in absurd (omega arith)))))
 
 -- ---- a walk by another way of finding a child
 
@@ -255,19 +235,19 @@ module _ (find : Finding) (t : Trie) (Met : ℕ → Type 0)
   walk-alike root xs m = by-cases (rootSound t root) (λ e. rw e (from-alike root xs m)) (λ e. rw e)
 
 -- without slots that can be looked in, the chains alone are gone along
-pub unpowered : (index : List ℕ) (t : Trie) (parent token : ℕ) → powerOfTwo (length index) ≡ false → searchIndexed index t parent token ≡ searchChildren t parent token
+pub unpowered : (index : List ℕ) (stood : ℕ) (t : Trie) (parent token : ℕ) → powerOfTwo (length index) ≡ false → searchIndexed index stood t parent token ≡ searchChildren t parent token
 unfolding searchIndexed searchChildren
-unpowered index t parent token e = by-cases (eqb (t .at parent .child) 0) (λ z. rw z) (λ z. rw (z, e))
+unpowered index stood t parent token e = by-cases (eqb (t .at parent .child) 0) (λ z. rw z) (λ z. rw (z, e))
 
 -- so all such indexes are alike
-pub walk-unpowered : (index other : List ℕ) (t : Trie) (n : ℕ) (xs : List ℕ) → powerOfTwo (length index) ≡ false → powerOfTwo (length other) ≡ false
-    → walkFromBy (searchIndexed index) t n xs ≡ walkFromBy (searchIndexed other) t n xs
-walk-unpowered index other t n xs e f = chained index e ∙ sym (chained other f)
+pub walk-unpowered : (index other : List ℕ) (stood : ℕ) (t : Trie) (n : ℕ) (xs : List ℕ) → powerOfTwo (length index) ≡ false → powerOfTwo (length other) ≡ false
+    → walkFromBy (searchIndexed index stood) t n xs ≡ walkFromBy (searchIndexed other stood) t n xs
+walk-unpowered index other stood t n xs e f = chained index e ∙ sym (chained other f)
   where
-    chained : (i : List ℕ) → powerOfTwo (length i) ≡ false → walkFromBy (searchIndexed i) t n xs ≡ walkFrom t n xs
-    chained i g = from-alike (searchIndexed i) t (λ p. Unit) (λ p x m. unpowered i t p x g) (λ p x c m z. tt) n xs tt
+    chained : (i : List ℕ) → powerOfTwo (length i) ≡ false → walkFromBy (searchIndexed i stood) t n xs ≡ walkFrom t n xs
+    chained i g = from-alike (searchIndexed i stood) t (λ p. Unit) (λ p x m. unpowered i stood t p x g) (λ p x c m z. tt) n xs tt
 
 -- an index of no cells is none
-pub walk-none : (t : Trie) (root : ℕ) (xs : List ℕ) → walkBy (searchIndexed []) t root xs ≡ walk t root xs
+pub walk-none : (stood : ℕ) (t : Trie) (root : ℕ) (xs : List ℕ) → walkBy (searchIndexed [] stood) t root xs ≡ walk t root xs
 unfolding powerBelow
-walk-none t root xs = walk-alike (searchIndexed []) t (λ p. Unit) (λ p x m. unpowered [] t p x refl) (λ p x c m e. tt) root xs tt
+walk-none stood t root xs = walk-alike (searchIndexed [] stood) t (λ p. Unit) (λ p x m. unpowered [] stood t p x refl) (λ p x c m e. tt) root xs tt

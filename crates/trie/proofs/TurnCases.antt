@@ -18,11 +18,11 @@ use Rattle.space.specs.declared.NodeRead.the-variants as node
 use Rattle.space.proofs.JudgingLaws.{read-node-sound, read-node-damaged}
 use Rattle.trie.specs.Siblings.{Trie, trieIn, sound, searchSiblings, searchChildren}
 use Rattle.trie.specs.Walks.{walkFromBy}
-use Rattle.trie.specs.Index.{powerOfTwo, powerBelow, slotOf, slotAfter, usedSlots, confirmed, confirmedIn, judgedIn, turnedIn, searchInTurn, searchIndexed, Slotted}
+use Rattle.trie.specs.Index.{powerOfTwo, powerBelow, slotOf, slotAfter, usedSlots, confirmed, confirmedIn, judgedIn, entryBeside, searchInTurn, searchIndexed, Slotted}
 use Rattle.trie.specs.declared.Search.{Search}
 use Rattle.trie.specs.declared.Search.the-variants.{Found, Last, Damaged}
 use Rattle.trie.proofs.SearchCases.{Here, at-next}
-use Rattle.trie.proofs.SearchLaws.{sibling-within, sibling-rises}
+use Rattle.trie.proofs.SearchLaws.{sibling-within, sibling-rises, first-within}
 use Rattle.trie.proofs.IndexLaws.{at-alike, unpowered, walk-unpowered, confirmed-is}
 
 -- ---- an entry
@@ -50,6 +50,16 @@ module _ (cs : List ℕ) (nodes parent token x : ℕ) where
           let s = ap (λ (n : Node). eqb (n .token) token) e in
           s ∙ simp (lt-ltb parent x h, lt-ltb x nodes k, q)
 
+-- what stands in the slot beside sibling n
+module _ (index : List ℕ) (stood slot n : ℕ) where
+  pub beside-old : n < stood → getD index slot 0 ≡ entryBeside index stood slot n
+  unfolding entryBeside
+  beside-old h = simp (lt-ltb n stood h)
+
+  pub beside-new : stood ≤ n → 0 ≡ entryBeside index stood slot n
+  unfolding entryBeside
+  beside-new h = simp (le-ltb n stood h)
+
 module _ (cs : List ℕ) (nodes links x : ℕ) where
   pub judge-damaged : node.Damaged ≡ readNode nodes links (nodeIn sizes cs) x → Damaged ≡ judgedIn cs nodes links x
   unfolding judgedIn
@@ -73,52 +83,52 @@ module _ (t : Trie) (parent token : ℕ) where
 -- ---- the turns
 
 -- the search has come to sibling n and this slot; `steps` are left, enough for every node from n on, and give w
-pub record Turns (t : Trie) (index : List ℕ) (parent token n slot : ℕ) (w : Search) : Type 0 where
+pub record Turns (t : Trie) (index : List ℕ) (stood parent token n slot : ℕ) (w : Search) : Type 0 where
   pub steps : ℕ
   pub within : n < t .nodes
   pub slot-within : slot < length index
   pub enough : t .nodes ≤ steps + n
-  pub same : w ≡ searchInTurn steps t index parent token slot n
+  pub same : w ≡ searchInTurn steps t index stood parent token slot n
 
-pub turns-begin : (t : Trie) (index : List ℕ) (parent token n slot : ℕ) → n < t .nodes → slot < length index → Turns t index parent token n slot (searchInTurn (t .nodes) t index parent token slot n)
-turns-begin t index parent token n slot h k = record { steps = t .nodes; within = h; slot-within = k; enough = omega arith; same = refl }
+pub turns-begin : (t : Trie) (index : List ℕ) (stood parent token n slot : ℕ) → n < t .nodes → slot < length index → Turns t index stood parent token n slot (searchInTurn (t .nodes) t index stood parent token slot n)
+turns-begin t index stood parent token n slot h k = record { steps = t .nodes; within = h; slot-within = k; enough = omega arith; same = refl }
 
 -- with one step taken off
-pub record Turned (t : Trie) (index : List ℕ) (parent token n slot : ℕ) (w : Search) : Type 0 where
+pub record Turned (t : Trie) (index : List ℕ) (stood parent token n slot : ℕ) (w : Search) : Type 0 where
   pub steps : ℕ
   pub enough : t .nodes ≤ steps + n + 1
-  pub same : w ≡ searchInTurn (suc steps) t index parent token slot n
+  pub same : w ≡ searchInTurn (suc steps) t index stood parent token slot n
 
-turned : (k : ℕ) (t : Trie) (index : List ℕ) (parent token n slot : ℕ) (w : Search) → n < t .nodes → t .nodes ≤ k + n → w ≡ searchInTurn k t index parent token slot n → Turned t index parent token n slot w
-turned zero t index parent token n slot w l e q = absurd (omega arith)
-turned (suc k) t index parent token n slot w l e q = record { steps = k; enough = omega arith; same = q }
+turned : (k : ℕ) (t : Trie) (index : List ℕ) (stood parent token n slot : ℕ) (w : Search) → n < t .nodes → t .nodes ≤ k + n → w ≡ searchInTurn k t index stood parent token slot n → Turned t index stood parent token n slot w
+turned zero t index stood parent token n slot w l e q = absurd (omega arith)
+turned (suc k) t index stood parent token n slot w l e q = record { steps = k; enough = omega arith; same = q }
 
-module _ {t : Trie} {index : List ℕ} {parent token n slot : ℕ} {w : Search} (a : Turns t index parent token n slot w) where
-  pub first-turn : Turned t index parent token n slot w
-  first-turn = turned (a .steps) t index parent token n slot w (a .within) (a .enough) (a .same)
+module _ {t : Trie} {index : List ℕ} {stood parent token n slot : ℕ} {w : Search} (a : Turns t index stood parent token n slot w) where
+  pub first-turn : Turned t index stood parent token n slot w
+  first-turn = turned (a .steps) t index stood parent token n slot w (a .within) (a .enough) (a .same)
 
   abbrev Rest : Search
-  Rest = searchInTurn (first-turn .steps) t index parent token (slotAfter (length index) slot) (t .at n .sibling)
+  Rest = searchInTurn (first-turn .steps) t index stood parent token (slotAfter (length index) slot) (t .at n .sibling)
 
-  pub turns-alone : getD index slot 0 ≡ 0 → searchSiblings (t .nodes) t parent token n ≡ w
+  pub turns-alone : entryBeside index stood slot n ≡ 0 → searchSiblings (t .nodes) t parent token n ≡ w
   unfolding searchInTurn
   turns-alone e =
       let more = first-turn .enough in
       siblings-enough t parent token (t .nodes) (suc (first-turn .steps)) n (a .within) (omega arith) (omega arith)
       ∙ sym (first-turn .same ∙ simp (eq-eqb _ _ e))
 
-  module _ (e : getD index slot 0 ≡ 0 → ⊥) where
-    pub turns-confirmed : confirmed t parent token (getD index slot 0) ≡ true → pick (sound t (getD index slot 0)) (Found (getD index slot 0)) Damaged ≡ w
+  module _ (e : entryBeside index stood slot n ≡ 0 → ⊥) where
+    pub turns-confirmed : confirmed t parent token (entryBeside index stood slot n) ≡ true → pick (sound t (entryBeside index stood slot n)) (Found (entryBeside index stood slot n)) Damaged ≡ w
     unfolding searchInTurn
     turns-confirmed k = sym (first-turn .same ∙ simp (ne-eqb _ _ e, k))
 
-    pub turns-passed : confirmed t parent token (getD index slot 0) ≡ false → Here t parent token n Rest w
+    pub turns-passed : confirmed t parent token (entryBeside index stood slot n) ≡ false → Here t parent token n Rest w
     unfolding searchInTurn
     turns-passed k = record { gives = first-turn .same ∙ simp (ne-eqb _ _ e, k) }
 
-    module _ (k : confirmed t parent token (getD index slot 0) ≡ false) (y : Node) (i : node.Sound y ≡ readNode (t .nodes) (t .links) (t .at) n)
+    module _ (k : confirmed t parent token (entryBeside index stood slot n) ≡ false) (y : Node) (i : node.Sound y ≡ readNode (t .nodes) (t .links) (t .at) n)
         (p : y .parent ≡ parent) (q : y .token ≡ token → ⊥) (r : y .sibling ≡ 0 → ⊥) where
-      pub turns-next : (slot′ : ℕ) → slot′ ≡ slotAfter (length index) slot → slot′ < length index → (n < y .sibling) × Turns t index parent token (y .sibling) slot′ w
+      pub turns-next : (slot′ : ℕ) → slot′ ≡ slotAfter (length index) slot → slot′ < length index → (n < y .sibling) × Turns t index stood parent token (y .sibling) slot′ w
       turns-next slot′ f l =
           let x = at-next (turns-passed k) y i p q r (a .within) in
           let up : n < y .sibling = x .0 in
@@ -133,31 +143,61 @@ module _ {t : Trie} {index : List ℕ} {parent token n slot : ℕ} {w : Search} 
             },
           )
 
--- the same in the cells of a space
-pub record InTurn (cs : List ℕ) (nodes links : ℕ) (index : List ℕ) (parent token n slot : ℕ) (w : Search) : Type 0 where
-  pub turns : Turns (trieIn sizes cs nodes links) index parent token n slot w
+-- ---- all children
 
-pub in-turn : (cs : List ℕ) (nodes links parent first token : ℕ) (index : List ℕ) (slot : ℕ) → first < nodes → (slot ≡ slotOf (length index) parent token) × (slot < length index)
-    → InTurn cs nodes links index parent token first slot (turnedIn cs nodes links parent first token index)
-unfolding turnedIn
-in-turn cs nodes links parent first token index slot h k = rw (← k .0) (record { turns = turns-begin (trieIn sizes cs nodes links) index parent token first slot h (k .1) })
+-- slots that are none at all are no power of two
+pub none-powered : (index : List ℕ) → length index ≡ 0 → powerOfTwo (length index) ≡ false
+unfolding powerBelow
+none-powered index e = rw e
+
+module _ (t : Trie) (index : List ℕ) (stood parent token : ℕ) where
+  pub no-slots : length index ≡ 0 → searchIndexed index stood t parent token ≡ searchChildren t parent token
+  no-slots e = unpowered index stood t parent token (none-powered index e)
+
+  module _ (y : Node) (e : y ≡ t .at parent) where
+    pub indexed-none : y .child ≡ 0 → Last 0 ≡ searchIndexed index stood t parent token
+    unfolding searchIndexed
+    indexed-none z = simp (eq-eqb _ _ (sym (ap (λ (x : Node). x .child) e) ∙ z))
+
+    indexed-some : (y .child ≡ 0 → ⊥) → powerOfTwo (length index) ≡ true
+        → searchInTurn (t .nodes) t index stood parent token (slotOf (length index) parent token) (y .child) ≡ searchIndexed index stood t parent token
+    unfolding searchIndexed
+    indexed-some z p = let c : y .child ≡ t .at parent .child = ap (λ (x : Node). x .child) e in
+        simp (ne-eqb _ _ (λ (x : t .at parent .child ≡ 0). z (c ∙ x)), p, c)
+
+-- ---- in the cells of a space
+
+-- the turns
+pub record InTurn (cs : List ℕ) (nodes links : ℕ) (index : List ℕ) (stood parent token n slot : ℕ) (w : Search) : Type 0 where
+  pub turns : Turns (trieIn sizes cs nodes links) index stood parent token n slot w
+
+-- from the first child of `parent` on, whose record is y
+pub in-turn : (cs : List ℕ) (nodes links parent token : ℕ) (index : List ℕ) (stood slot : ℕ) (y : Node) → y ≡ nodeIn sizes cs parent → (y .child ≡ 0 → ⊥) → powerOfTwo (length index) ≡ true
+    → parent < nodes → sound (trieIn sizes cs nodes links) parent ≡ true → (slot ≡ slotOf (length index) parent token) × (slot < length index)
+    → InTurn cs nodes links index stood parent token (y .child) slot (searchIndexed index stood (trieIn sizes cs nodes links) parent token)
+in-turn cs nodes links parent token index stood slot y e z p h s k =
+    let t : Trie = trieIn sizes cs nodes links in
+    let f = first-within t parent h s in
+    let c : y .child ≡ t .at parent .child = ap (λ (x : Node). x .child) e in
+    let i : searchIndexed index stood t parent token ≡ searchInTurn nodes t index stood parent token slot (y .child) = sym (indexed-some t index stood parent token y e z p) ∙ rw (k .0) in
+    rw i (record { turns = turns-begin t index stood parent token (y .child) slot (omega arith) (k .1) })
 
 -- with the entry x in the slot and what its record was found to be
-module _ {cs : List ℕ} {nodes links : ℕ} {index : List ℕ} {parent token n slot : ℕ} {w : Search} (a : InTurn cs nodes links index parent token n slot w)
-    (x : ℕ) (is : x ≡ getD index slot 0) where
+module _ {cs : List ℕ} {nodes links : ℕ} {index : List ℕ} {stood parent token n slot : ℕ} {w : Search} (a : InTurn cs nodes links index stood parent token n slot w)
+    (x : ℕ) (is : x ≡ entryBeside index stood slot n) where
   pub met-free : x ≡ 0 → searchSiblings nodes (trieIn sizes cs nodes links) parent token n ≡ w
   met-free e = turns-alone (a .turns) (sym is ∙ e)
 
   module _ (some : x ≡ 0 → ⊥) (b : Bool) (told : b ≡ confirmedIn cs nodes parent token x) where
-    taken : getD index slot 0 ≡ 0 → ⊥
+    taken : entryBeside index stood slot n ≡ 0 → ⊥
     taken e = some (is ∙ e)
 
-    told-at : confirmed (trieIn sizes cs nodes links) parent token (getD index slot 0) ≡ b
+    told-at : confirmed (trieIn sizes cs nodes links) parent token (entryBeside index stood slot n) ≡ b
     unfolding confirmedIn confirmed
     told-at = ap (λ (i : ℕ). confirmed (trieIn sizes cs nodes links) parent token i) (sym is) ∙ sym told
 
     pub met-within : b ≡ true → x < nodes
-    met-within e = rw is (confirmed-is (trieIn sizes cs nodes links) parent token (getD index slot 0) (told-at ∙ e) .below)
+    met-within e = rw is (confirmed-is (trieIn sizes cs nodes links) parent token (entryBeside index stood slot n) (told-at ∙ e) .below)
 
     pub met-confirmed : b ≡ true → judgedIn cs nodes links x ≡ w
     unfolding judgedIn
@@ -168,36 +208,8 @@ module _ {cs : List ℕ} {nodes links : ℕ} {index : List ℕ} {parent token n 
       met-other = turns-passed (a .turns) taken (told-at ∙ e)
 
       module _ (y : Node) (i : node.Sound y ≡ readNode nodes links (nodeIn sizes cs) n) (p : y .parent ≡ parent) (q : y .token ≡ token → ⊥) (r : y .sibling ≡ 0 → ⊥) where
-        pub met-next : (slot′ : ℕ) → (slot′ ≡ slotAfter (length index) slot) × (slot′ < length index) → (n < y .sibling) × InTurn cs nodes links index parent token (y .sibling) slot′ w
+        pub met-next : (slot′ : ℕ) → (slot′ ≡ slotAfter (length index) slot) × (slot′ < length index) → (n < y .sibling) × InTurn cs nodes links index stood parent token (y .sibling) slot′ w
         met-next slot′ f = let k = turns-next (a .turns) taken (told-at ∙ e) y i p q r slot′ (f .0) (f .1) in (k .0, record { turns = k .1 })
-
--- ---- all children
-
--- slots that are none at all are no power of two
-pub none-powered : (index : List ℕ) → length index ≡ 0 → powerOfTwo (length index) ≡ false
-unfolding powerBelow
-none-powered index e = rw e
-
-module _ (t : Trie) (index : List ℕ) (parent token : ℕ) where
-  pub no-slots : length index ≡ 0 → searchIndexed index t parent token ≡ searchChildren t parent token
-  no-slots e = unpowered index t parent token (none-powered index e)
-
-  module _ (y : Node) (e : y ≡ t .at parent) where
-    pub indexed-none : y .child ≡ 0 → Last 0 ≡ searchIndexed index t parent token
-    unfolding searchIndexed
-    indexed-none z = simp (eq-eqb _ _ (sym (ap (λ (x : Node). x .child) e) ∙ z))
-
-    pub indexed-some : (y .child ≡ 0 → ⊥) → powerOfTwo (length index) ≡ true
-        → searchInTurn (t .nodes) t index parent token (slotOf (length index) parent token) (y .child) ≡ searchIndexed index t parent token
-    unfolding searchIndexed
-    indexed-some z p = let c : y .child ≡ t .at parent .child = ap (λ (x : Node). x .child) e in
-        simp (ne-eqb _ _ (λ (x : t .at parent .child ≡ 0). z (c ∙ x)), p, c)
-
--- in the cells of a space
-pub turned-some : (cs : List ℕ) (nodes links parent token : ℕ) (index : List ℕ) (y : Node) → y ≡ nodeIn sizes cs parent → (y .child ≡ 0 → ⊥) → powerOfTwo (length index) ≡ true
-    → turnedIn cs nodes links parent (y .child) token index ≡ searchIndexed index (trieIn sizes cs nodes links) parent token
-unfolding turnedIn
-turned-some cs nodes links parent token index y e z p = indexed-some (trieIn sizes cs nodes links) index parent token y e z p
 
 -- ---- the slots that are looked in
 
@@ -215,13 +227,13 @@ module _ (index : List ℕ) (k : ℕ) (used : k ≡ usedSlots (length index)) wh
       go (inl a) z = rw (a .1) (a .0)
       go (inr a) z = absurd (z (ap length (a .1)))
 
-  pub used-walks : (t : Trie) (n : ℕ) (xs : List ℕ) → walkFromBy (searchIndexed (take k index)) t n xs ≡ walkFromBy (searchIndexed index) t n xs
-  used-walks t n xs = go used-either
+  pub used-walks : (stood : ℕ) (t : Trie) (n : ℕ) (xs : List ℕ) → walkFromBy (searchIndexed (take k index) stood) t n xs ≡ walkFromBy (searchIndexed index stood) t n xs
+  used-walks stood t n xs = go used-either
     where
       go : ((powerOfTwo (length index) ≡ true) × (take k index ≡ index)) ⊎ ((powerOfTwo (length index) ≡ false) × (take k index ≡ []))
-          → walkFromBy (searchIndexed (take k index)) t n xs ≡ walkFromBy (searchIndexed index) t n xs
-      go (inl a) = ap (λ (i : List ℕ). walkFromBy (searchIndexed i) t n xs) (a .1)
-      go (inr a) = ap (λ (i : List ℕ). walkFromBy (searchIndexed i) t n xs) (a .1) ∙ walk-unpowered [] index t n xs (none-powered [] refl) (a .0)
+          → walkFromBy (searchIndexed (take k index) stood) t n xs ≡ walkFromBy (searchIndexed index stood) t n xs
+      go (inl a) = ap (λ (i : List ℕ). walkFromBy (searchIndexed i stood) t n xs) (a .1)
+      go (inr a) = ap (λ (i : List ℕ). walkFromBy (searchIndexed i stood) t n xs) (a .1) ∙ walk-unpowered [] index stood t n xs (none-powered [] refl) (a .0)
 
   pub used-length : k ≤ length index → k ≡ length (take k index)
   used-length h = let l = length-take k index in omega arith

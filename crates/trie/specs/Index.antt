@@ -63,25 +63,31 @@ lookup t index parent token =
 
 -- ---- search
 
+-- `stood` is the number of nodes that were there when a call began; they are numbered below it. A slot is looked in
+-- only beside a sibling that stood then: beside a later one the slot counts as free. So while a join enters its forms
+-- the siblings that it enters lead to no slot that was not looked in when the join was decided: what was found stays
+-- found, and what was missed stays missed until it is entered (Entered.antt).
+unfoldable pub entryBeside : List ℕ → (stood slot n : ℕ) → ℕ
+entryBeside index stood slot n = pick (ltb n stood) (getD index slot 0) 0
+
 -- a slot and a sibling in turn, from these on, and whichever finds the child first: entries of near parents with
--- small tokens lie close together, and a lookup alone may have to pass more of them than there are siblings. So a
--- search takes at most as many turns as the lookup takes slots, and at most as many as the chain has siblings. An
--- entry that is confirmed is judged as a sibling compared is. A free slot says nothing of the children, and the chain
--- goes on alone.
-unfoldable pub searchInTurn : ℕ → Trie → List ℕ → ℕ → ℕ → ℕ → ℕ → Search
-searchInTurn zero t index parent token slot n = Damaged
-searchInTurn (suc steps) t index parent token slot n =
-    let x = getD index slot 0 in
-    let rest = searchInTurn steps t index parent token (slotAfter (length index) slot) (t .at n .sibling) in
+-- small tokens lie close together, and a lookup alone may have to pass more of them than there are siblings. An entry
+-- that is confirmed is judged as a sibling compared is. A free slot says nothing of the children, and the chain goes on
+-- alone.
+unfoldable pub searchInTurn : ℕ → Trie → List ℕ → (stood parent token slot n : ℕ) → Search
+searchInTurn zero t index stood parent token slot n = Damaged
+searchInTurn (suc steps) t index stood parent token slot n =
+    let x = entryBeside index stood slot n in
+    let rest = searchInTurn steps t index stood parent token (slotAfter (length index) slot) (t .at n .sibling) in
     pick (eqb x 0) (searchSiblings (suc steps) t parent token n)
     (pick (confirmed t parent token x) (pick (sound t x) (Found x) Damaged) (atSibling t parent token n rest))
 
 -- among all children; by the chain alone where the number of slots is no power of two
-unfoldable pub searchIndexed : List ℕ → Finding
-searchIndexed index t parent token =
+unfoldable pub searchIndexed : List ℕ → ℕ → Finding
+searchIndexed index stood t parent token =
     pick (eqb (t .at parent .child) 0) (Last 0)
     (pick (powerOfTwo (length index))
-    (searchInTurn (t .nodes) t index parent token (slotOf (length index) parent token) (t .at parent .child))
+    (searchInTurn (t .nodes) t index stood parent token (slotOf (length index) parent token) (t .at parent .child))
     (searchChildren t parent token))
 
 -- ---- in the cells of a space, as the functions that search say it
@@ -102,18 +108,14 @@ confirmedIn cs nodes parent token x = confirmed (trieIn sizes cs nodes 0) parent
 unfoldable pub judgedIn : List ℕ → (nodes links x : ℕ) → Search
 judgedIn cs nodes links x = pick (sound (trieIn sizes cs nodes links) x) (Found x) Damaged
 
-unfoldable pub turnedIn : List ℕ → (nodes links parent first token : ℕ) → List ℕ → Search
-turnedIn cs nodes links parent first token index =
-    searchInTurn nodes (trieIn sizes cs nodes links) index parent token (slotOf (length index) parent token) first
-
 -- the walk, as the code answers
-abbrev pub walkedIn : List ℕ → (nodes links root : ℕ) → (tokens index : List ℕ) → Walked
-walkedIn cs nodes links root tokens index =
-    shown (walkBy (searchIndexed index) (trieIn sizes cs nodes links) root tokens)
+abbrev pub walkedIn : List ℕ → (nodes links root : ℕ) → (tokens index : List ℕ) → ℕ → Walked
+walkedIn cs nodes links root tokens index stood =
+    shown (walkBy (searchIndexed index stood) (trieIn sizes cs nodes links) root tokens)
 
-abbrev pub walkedBelow : List ℕ → (nodes links start : ℕ) → (tokens index : List ℕ) → Walked
-walkedBelow cs nodes links start tokens index =
-    shown (walkFromBy (searchIndexed index) (trieIn sizes cs nodes links) start tokens)
+abbrev pub walkedBelow : List ℕ → (nodes links start : ℕ) → (tokens index : List ℕ) → ℕ → Walked
+walkedBelow cs nodes links start tokens index stood =
+    shown (walkFromBy (searchIndexed index stood) (trieIn sizes cs nodes links) start tokens)
 
 -- ---- build
 

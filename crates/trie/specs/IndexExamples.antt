@@ -8,7 +8,8 @@ use lib.ListN.{set}
 use Rattle.space.specs.Layout.{sizes}
 use Rattle.space.specs.Judging.{follows, nodeSound}
 use Rattle.trie.specs.Siblings.{Trie, trieIn, searchSiblings, searchChildren}
-use Rattle.trie.specs.Index.{powerBelow, slotOf, slotAfter, confirmed, probe, lookup, searchInTurn, searchIndexed}
+use Rattle.trie.specs.Index.{powerBelow, slotOf, slotAfter, confirmed, probe, lookup, entryBeside}
+use Rattle.trie.specs.Index.{searchInTurn, searchIndexed}
 use Rattle.trie.specs.Index.{members, enters, entering, insertFrom, insertAll, emptyIndex, builtIndex, roomy}
 use Rattle.trie.specs.Examples.{cells, small}
 use Rattle.trie.specs.declared.Search.the-variants.{Found, Last, Damaged}
@@ -29,18 +30,18 @@ unfolding lookup probe confirmed slotAfter slotOf powerBelow
 looked-up = (refl, refl, refl, refl, refl, refl, refl)
 
 -- whatever the cells, the search ends as by the chain
-searched : (searchIndexed (77 ∷ 4 ∷ []) small 1 72 ≡ Found 4) × (searchIndexed (4 ∷ 0 ∷ []) small 1 72 ≡ Found 4)
-    × (searchIndexed [] small 1 72 ≡ Found 4) × (searchIndexed (9 ∷ 3 ∷ []) small 1 73 ≡ Last 4)
-unfolding searchIndexed searchInTurn confirmed slotAfter slotOf powerBelow searchChildren searchSiblings nodeSound
-    follows
+searched : (searchIndexed (77 ∷ 4 ∷ []) 5 small 1 72 ≡ Found 4) × (searchIndexed (4 ∷ 0 ∷ []) 5 small 1 72 ≡ Found 4)
+    × (searchIndexed [] 5 small 1 72 ≡ Found 4) × (searchIndexed (9 ∷ 3 ∷ []) 5 small 1 73 ≡ Last 4)
+unfolding searchIndexed searchInTurn entryBeside confirmed slotAfter slotOf powerBelow searchChildren searchSiblings
+    nodeSound follows
 searched = (refl, refl, refl, refl)
 
 -- in damaged spaces it need not: node 4 is damaged, and judged once it is confirmed; node 2 is damaged, and passed by
-searched-damaged : (searchIndexed (77 ∷ 4 ∷ []) (trieIn sizes cells 5 1) 1 72 ≡ Damaged)
-    × (searchIndexed (77 ∷ 4 ∷ []) (trieIn sizes (set cells 22 3) 5 2) 1 72 ≡ Found 4)
+searched-damaged : (searchIndexed (77 ∷ 4 ∷ []) 5 (trieIn sizes cells 5 1) 1 72 ≡ Damaged)
+    × (searchIndexed (77 ∷ 4 ∷ []) 5 (trieIn sizes (set cells 22 3) 5 2) 1 72 ≡ Found 4)
     × (searchChildren (trieIn sizes (set cells 22 3) 5 2) 1 72 ≡ Damaged)
-unfolding searchIndexed searchInTurn confirmed slotAfter slotOf powerBelow searchChildren searchSiblings nodeSound
-    follows
+unfolding searchIndexed searchInTurn entryBeside confirmed slotAfter slotOf powerBelow searchChildren searchSiblings
+    nodeSound follows
 searched-damaged = (refl, refl, refl)
 
 -- children 1 to 9 of the root, if the eighth is followed by 9

@@ -11,11 +11,12 @@ use space::records::read_node;
 ghost use mathlib.Core.Path.{_≡_};
 ghost use mathlib.Core.Bool.{true};
 ghost use Prim.Native.Nat.{_<_};
+ghost use lib.ListN.{length};
 ghost use Rattle.basis.specs.Moments.{old};
 ghost use Rattle.space.specs.Layout.{sizes};
 ghost use Rattle.space.specs.Sound.{NodesIn};
 ghost use Rattle.trie.specs.Siblings.{trieIn, sound};
-ghost use Rattle.trie.specs.Index.{powered, confirmedIn, judgedIn, turnedIn, searchIndexed, Slotted};
+ghost use Rattle.trie.specs.Index.{powered, confirmedIn, judgedIn, entryBeside, searchIndexed, Slotted};
 
 // Is node x a child of `parent` with the token, by its own record?
 pub fn confirms(space: &[u32], nodes: usize, parent: usize, token: u32, x: usize) -> bool
@@ -46,23 +47,39 @@ pub fn judge(space: &[u32], nodes: usize, links: usize, x: usize) -> Search
     Search::Found(x)
 }
 
-// From the slot of this parent and token, and from sibling `first`, on.
+// What stands in the slot, beside sibling n: nothing where n did not stand when the call began.
+pub fn entry_beside(index: &[u32], stood: usize, slot: usize, n: usize) -> usize
+    requires { ⌜ slot < length (now index) ⌝ }
+    ensures { λ r. ⌜ r ≡ entryBeside (old index) stood slot n ⌝ }
+{
+    if n < stood {
+        return wide(index[slot]);
+    }
+    0
+}
+
+// All children of a node that was read and found sound, from the slot of this parent and token on.
 fn search_in_turn(
     space: &[u32],
     nodes: usize,
     links: usize,
     parent: usize,
-    first: usize,
     token: u32,
     index: &[u32],
+    stood: usize,
 ) -> Search
-    requires { ⌜ NodesIn (now space) nodes × (parent < nodes) × (first < nodes) × powered (now index) ⌝ }
-    ensures { λ r. ⌜ r ≡ turnedIn (old space) nodes links parent first token (old index) ⌝ }
+    requires { ⌜ NodesIn (now space) nodes × (parent < nodes) × powered (now index) ⌝ }
+    requires { ⌜ sound (trieIn sizes (now space) nodes links) parent ≡ true ⌝ }
+    ensures { λ r. ⌜ r ≡ searchIndexed (old index) stood (trieIn sizes (old space) nodes links) parent token ⌝ }
 {
-    let mut n = first;
+    let p = node_in(space, nodes, parent);
+    if p.child == 0 {
+        return Search::Last(0);
+    }
+    let mut n = p.child;
     let mut slot = slot_of(index.len(), parent, token);
     let found = loop {
-        let x = wide(index[slot]);
+        let x = entry_beside(index, stood, slot, n);
         if x == 0 {
             break search_siblings(space, nodes, links, parent, n, token);
         }
@@ -87,7 +104,7 @@ fn search_in_turn(
     found
 }
 
-// All children of a node that was read and found sound; along the siblings alone where there is no slot.
+// The same; along the siblings alone where there is no slot.
 pub fn search_indexed(
     space: &[u32],
     nodes: usize,
@@ -95,17 +112,14 @@ pub fn search_indexed(
     parent: usize,
     token: u32,
     index: &[u32],
+    stood: usize,
 ) -> Search
     requires { ⌜ NodesIn (now space) nodes × (parent < nodes) × Slotted (now index) ⌝ }
     requires { ⌜ sound (trieIn sizes (now space) nodes links) parent ≡ true ⌝ }
-    ensures { λ r. ⌜ r ≡ searchIndexed (old index) (trieIn sizes (old space) nodes links) parent token ⌝ }
+    ensures { λ r. ⌜ r ≡ searchIndexed (old index) stood (trieIn sizes (old space) nodes links) parent token ⌝ }
 {
     if index.len() == 0 {
         return search_children(space, nodes, links, parent, token);
     }
-    let y = node_in(space, nodes, parent);
-    if y.child == 0 {
-        return Search::Last(0);
-    }
-    search_in_turn(space, nodes, links, parent, y.child, token, index)
+    search_in_turn(space, nodes, links, parent, token, index, stood)
 }

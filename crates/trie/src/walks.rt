@@ -1,4 +1,5 @@
-// The walk of a list of tokens from a root, with an index; one of no cells is none.
+// The walk of a list of tokens from a root, with an index; one of no cells is none. `stood` is the number of nodes that
+// were there when the call began.
 use super::Search;
 use super::Walked;
 use super::lookups::search_indexed;
@@ -22,15 +23,16 @@ fn walk_from(
     start: usize,
     tokens: &[u32],
     index: &[u32],
+    stood: usize,
 ) -> Walked
     requires { ⌜ NodesIn (now space) nodes × (start < nodes) × Slotted (now index) ⌝ }
     requires { ⌜ sound (trieIn sizes (now space) nodes links) start ≡ true ⌝ }
-    ensures { λ r. ⌜ r ≡ walkedBelow (old space) nodes links start (old tokens) (old index) ⌝ }
+    ensures { λ r. ⌜ r ≡ walkedBelow (old space) nodes links start (old tokens) (old index) stood ⌝ }
 {
     let mut n = start;
     let mut i = 0;
     while i < tokens.len() {
-        let found = search_indexed(space, nodes, links, n, tokens[i], index);
+        let found = search_indexed(space, nodes, links, n, tokens[i], index, stood);
         match found {
             Search::Found(child) => {
                 n = child;
@@ -51,9 +53,10 @@ pub fn walk_tokens(
     root: usize,
     tokens: &[u32],
     index: &[u32],
+    stood: usize,
 ) -> Walked
     requires { ⌜ NodesIn (now space) nodes × (root < nodes) ⌝ }
-    ensures { λ r. ⌜ r ≡ walkedIn (old space) nodes links root (old tokens) (old index) ⌝ }
+    ensures { λ r. ⌜ r ≡ walkedIn (old space) nodes links root (old tokens) (old index) stood ⌝ }
 {
     let NodeRead::Sound(y) = read_node(space, nodes, links, root) else {
         return Walked::Damaged;
@@ -62,5 +65,5 @@ pub fn walk_tokens(
         return Walked::Damaged;
     }
     let used = used_slots(index.len());
-    walk_from(space, nodes, links, root, tokens, &index[..used])
+    walk_from(space, nodes, links, root, tokens, &index[..used], stood)
 }

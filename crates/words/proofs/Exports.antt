@@ -122,7 +122,7 @@ counts-kept cs = counts-under cs (spaceHeader cs)
 
 export-lived : (before : List ℕ) (x : Export) → (w : ℕ) × (out : List ℕ) × (after : List ℕ) × MeetsExport before x w out after
 export-lived before (callOf q b) =
-    let r = spaceStepBy (wayOf b) before q in
+    let r = spaceStepBy (wayOf before b) before q in
     (word (r .reply), r .out, r .state, (r .reply, (refl, refl, refl), refl))
 export-lived before (countsInto room) =
     let r = spaceStep before counts .reply in

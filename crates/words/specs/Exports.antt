@@ -35,7 +35,7 @@ pub record ExportMade : Type 0 where
 
 -- it meets its contract on the cells `before`; `tables_counts` only reads them
 abbrev pub MeetsExport : List ℕ → Export → ℕ → List ℕ → List ℕ → Type 0
-MeetsExport before (callOf q b) w out after = ReturnsBy (wayOf b) before q w out after
+MeetsExport before (callOf q b) w out after = ReturnsBy (wayOf before b) before q w out after
 MeetsExport before (countsInto room) w out after = ReturnsCounts before w room out × (after ≡ before)
 
 -- each does, on the cells that the one before it left

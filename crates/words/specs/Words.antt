@@ -13,8 +13,7 @@ use Rattle.space.specs.declared.FreshAnswer.the-variants as fresh
 use Rattle.space.specs.Fresh.{freshAnswerIn, freshSpaceIn}
 use Rattle.trie.specs.Siblings.{searchChildren}
 use Rattle.trie.specs.Walks.{Finding}
-use Rattle.trie.specs.Index.{searchIndexed}
-use Rattle.store.specs.Calls.{spaceStep, AnswersBy, Answers}
+use Rattle.store.specs.Calls.{spaceStep, AnswersBy, Answers, indexedWay}
 use Rattle.store.specs.Building.{BuildReply, buildIndex}
 use Rattle.store.specs.Building as build
 use Rattle.agreement.specs.Faults.{Fault, nothing, heading, node, subgoal, answer, faultOf}
@@ -64,7 +63,7 @@ Returns = ReturnsBy searchChildren
 
 -- with one
 abbrev pub ReturnsIndexed : List ℕ → List ℕ → Request → ℕ → List ℕ → List ℕ → Type 0
-ReturnsIndexed index = ReturnsBy (searchIndexed index)
+ReturnsIndexed index before = ReturnsBy (indexedWay index before) before
 
 -- ---- `tables_counts`
 

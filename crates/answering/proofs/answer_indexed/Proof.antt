@@ -3,7 +3,7 @@ use Prim.Native.Nat.{ℕ}
 use Rattle.plain.specs.Requests as request
 use Rattle.basis.proofs.Tests.{told}
 use Rattle.space.proofs.HeaderLaws.{header-bounds}
-use Rattle.store.proofs.CallsCases.{steps-refused, steps-sound-at}
+use Rattle.store.proofs.CallsCases.{steps-refused, steps-indexed-at}
 use Rattle.store.proofs.AnswersLaws.{answer-answers}
 use borrow.Author.Needs.{needs}
 use Rattle.answering.proofs.answer_indexed.Statement.{statement}
@@ -34,7 +34,7 @@ same-length-2 : tie.Need-same-length-2
 same-length-2 c = search needs
 
 returns-2 : tie.Need-returns-2
-returns-2 c = answer-answers _ _ _ _ _ _ (steps-sound-at _ _ _ (λ (s : ℕ). request.answer s (c .before .before .before .before .before .before .before .before .before .before .before .before .before .args .terms .now)) _ _ _ _ (c .before .before .before .wide .ensures .0) (told (c .before .before .before .before .before .before .read2 .given .1) (c .before .before .before .before .before .before .before .before .read-header .ensures)) (c .before .before .answer-in .ensures))
+returns-2 c = answer-answers _ _ _ _ _ _ (steps-indexed-at _ _ _ (told (c .before .before .before .before .before .before .read2 .given .1) (c .before .before .before .before .before .before .before .before .read-header .ensures)) (λ (s : ℕ). request.answer s (c .before .before .before .before .before .before .before .before .before .before .before .before .before .args .terms .now)) _ _ _ _ (c .before .before .before .wide .ensures .0) (c .before .before .answer-in .ensures))
 
 pub answer-indexed-spec : {M : Type 1} → statement M
 answer-indexed-spec =

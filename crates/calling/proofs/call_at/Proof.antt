@@ -14,11 +14,11 @@ use Rattle.calling.proofs.call_at.Statement.{statement}
 use Rattle.calling.proofs.call_at.Tie as tie
 
 -- where the walk ended
-ends : (x : tie.After-walked) → walked.Whole (x .walked .given .0 .0) ≡ shown (walkBy (searchIndexed (x .before .before .before .before .before .before .before .args .index .now)) (trieIn sizes (x .before .before .before .before .before .before .before .args .space .now) (x .before .before .before .before .before .before .before .args .h .nodes) (x .before .before .before .before .before .before .before .args .h .subgoals)) 0 (x .before .before .before .before .before .before .before .args .tokens .now))
+ends : (x : tie.After-walked) → walked.Whole (x .walked .given .0 .0) ≡ shown (walkBy (searchIndexed (x .before .before .before .before .before .before .before .args .index .now) (x .before .before .before .before .before .before .before .args .h .nodes)) (trieIn sizes (x .before .before .before .before .before .before .before .args .space .now) (x .before .before .before .before .before .before .before .args .h .nodes) (x .before .before .before .before .before .before .before .args .h .subgoals)) 0 (x .before .before .before .before .before .before .before .args .tokens .now))
 ends x = sym (x .walked .given .1) ∙ x .before .before .walk-tokens .ensures
 
-stops : (x : tie.After-walked2) → Stops (searchIndexed (x .before .before .before .before .before .before .before .args .index .now)) (x .before .before .before .before .before .before .before .args .space .now) (x .before .before .before .before .before .before .before .args .h .nodes) (x .before .before .before .before .before .before .before .args .h .subgoals) 0 (x .before .before .before .before .before .before .before .args .tokens .now) (x .walked2 .given .0 .0) (x .walked2 .given .0 .1 .0) (x .walked2 .given .0 .1 .1 .0)
-stops x = stops-at (indexes-find _) (x .before .before .before .before .before .before .before .args .space .now) (x .before .before .before .before .before .before .before .args .h .nodes) (x .before .before .before .before .before .before .before .args .h .subgoals) 0 (x .before .before .before .before .before .before .before .args .tokens .now) (search needs) _ _ _ (sym (x .walked2 .given .1) ∙ x .before .before .walk-tokens .ensures)
+stops : (x : tie.After-walked2) → Stops (searchIndexed (x .before .before .before .before .before .before .before .args .index .now) (x .before .before .before .before .before .before .before .args .h .nodes)) (x .before .before .before .before .before .before .before .args .space .now) (x .before .before .before .before .before .before .before .args .h .nodes) (x .before .before .before .before .before .before .before .args .h .subgoals) 0 (x .before .before .before .before .before .before .before .args .tokens .now) (x .walked2 .given .0 .0) (x .walked2 .given .0 .1 .0) (x .walked2 .given .0 .1 .1 .0)
+stops x = stops-at (indexes-find _ _) (x .before .before .before .before .before .before .before .args .space .now) (x .before .before .before .before .before .before .before .args .h .nodes) (x .before .before .before .before .before .before .before .args .h .subgoals) 0 (x .before .before .before .before .before .before .before .args .tokens .now) (search needs) _ _ _ (sym (x .walked2 .given .1) ∙ x .before .before .walk-tokens .ensures)
 
 walk-tokens-requires : tie.Need-walk-tokens-requires
 walk-tokens-requires c κs = search needs
@@ -27,10 +27,10 @@ enum-known-walked : tie.Need-enum-known-walked
 enum-known-walked c = search needs
 
 node-in-requires : tie.Need-node-in-requires
-node-in-requires c κs = (bounds-nodes _ _ (c .before .before .before .before .before .before .before .before .before .pre .0), leaf-within (indexes-find _) (c .before .before .before .before .before .before .before .before .before .args .space .now) (c .before .before .before .before .before .before .before .before .before .args .h .nodes) (c .before .before .before .before .before .before .before .before .before .args .h .subgoals) 0 (c .before .before .before .before .before .before .before .before .before .args .tokens .now) (search needs) _ (ends (c .before .before)))
+node-in-requires c κs = (bounds-nodes _ _ (c .before .before .before .before .before .before .before .before .before .pre .0), leaf-within (indexes-find _ _) (c .before .before .before .before .before .before .before .before .before .args .space .now) (c .before .before .before .before .before .before .before .before .before .args .h .nodes) (c .before .before .before .before .before .before .before .before .before .args .h .subgoals) 0 (c .before .before .before .before .before .before .before .before .before .args .tokens .now) (search needs) _ (ends (c .before .before)))
 
 call-old-requires : tie.Need-call-old-requires
-call-old-requires c κs = (search needs, omega (arith, link-within (indexes-find _) (c .before .before .before .before .before .before .before .before .before .before .before .args .space .now) (c .before .before .before .before .before .before .before .before .before .before .before .args .h .nodes) (c .before .before .before .before .before .before .before .before .before .before .before .args .h .subgoals) 0 (c .before .before .before .before .before .before .before .before .before .before .before .args .tokens .now) (search needs) _ _ (ends (c .before .before .before .before)) (c .before .node-in .ensures)))
+call-old-requires c κs = (search needs, omega (arith, link-within (indexes-find _ _) (c .before .before .before .before .before .before .before .before .before .before .before .args .space .now) (c .before .before .before .before .before .before .before .before .before .before .before .args .h .nodes) (c .before .before .before .before .before .before .before .before .before .before .before .args .h .subgoals) 0 (c .before .before .before .before .before .before .before .before .before .before .before .args .tokens .now) (search needs) _ _ (ends (c .before .before .before .before)) (c .before .node-in .ensures)))
 
 same-length : tie.Need-same-length
 same-length c = search needs

@@ -1,7 +1,7 @@
 -- `calling::call_indexed` meets its contract.
 use Rattle.basis.proofs.Tests.{told}
 use Rattle.space.proofs.HeaderLaws.{header-bounds}
-use Rattle.store.proofs.CallsCases.{steps-refused, steps-sound}
+use Rattle.store.proofs.CallsCases.{steps-refused, steps-indexed}
 use Rattle.store.proofs.AnswersLaws.{call-answers}
 use borrow.Author.Needs.{needs}
 use Rattle.calling.proofs.call_indexed.Statement.{statement}
@@ -38,7 +38,7 @@ same-length-2 : tie.Need-same-length-2
 same-length-2 c = search needs
 
 returns-2 : tie.Need-returns-2
-returns-2 c = call-answers _ _ _ _ _ (steps-sound _ _ _ _ _ _ (told (c .before .before .before .before .before .before .before .before .before .before .before .read2 .given .1) (c .before .before .before .before .before .before .before .before .before .before .before .before .before .read-header .ensures)) (c .before .before .before .before .call-with .ensures))
+returns-2 c = call-answers _ _ _ _ _ (steps-indexed _ _ _ (told (c .before .before .before .before .before .before .before .before .before .before .before .read2 .given .1) (c .before .before .before .before .before .before .before .before .before .before .before .before .before .read-header .ensures)) _ _ _ (c .before .before .before .before .call-with .ensures))
 
 slice-aggregate-call-with-3 : tie.Need-slice-aggregate-call-with-3
 slice-aggregate-call-with-3 c = search needs
@@ -53,7 +53,7 @@ same-length-3 : tie.Need-same-length-3
 same-length-3 c = search needs
 
 returns-3 : tie.Need-returns-3
-returns-3 c = call-answers _ _ _ _ _ (steps-sound _ _ _ _ _ _ (told (c .before .before .before .before .before .before .before .before .before .before .before .read2 .given .1) (c .before .before .before .before .before .before .before .before .before .before .before .before .before .read-header .ensures)) (c .before .before .before .before .call-with2 .ensures))
+returns-3 c = call-answers _ _ _ _ _ (steps-indexed _ _ _ (told (c .before .before .before .before .before .before .before .before .before .before .before .read2 .given .1) (c .before .before .before .before .before .before .before .before .before .before .before .before .before .read-header .ensures)) _ _ _ (c .before .before .before .before .call-with2 .ensures))
 
 pub call-indexed-spec : {M : Type 1} → statement M
 call-indexed-spec =

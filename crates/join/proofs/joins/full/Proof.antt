@@ -15,13 +15,13 @@ sub-answers : tie.Need-sub-answers
 sub-answers c = (c .before .before .before .before .before .before .before .pre .0 .0 .known .bounds .answers-within)
 
 returns : tie.Need-returns
-returns c = fills-nodes (searchIndexed (c .before .before .before .before .before .before .before .before .before .args .index .now)) (c .before .before .before .before .before .before .before .before .before .args .space .now) (c .before .before .before .before .before .before .before .before .before .args .x) (c .before .before .before .before .before .before .before .before .before .args .root) (c .before .before .before .before .before .before .before .before .before .args .pairs .now) (c .before .before .before .before .before .before .before .before .before .args .copies .now) _ (c .before .before .before .before .needs .ensures) (search needs)
+returns c = fills-nodes (searchIndexed (c .before .before .before .before .before .before .before .before .before .args .index .now) (c .before .before .before .before .before .before .before .before .before .args .x .h .nodes)) (c .before .before .before .before .before .before .before .before .before .args .space .now) (c .before .before .before .before .before .before .before .before .before .args .x) (c .before .before .before .before .before .before .before .before .before .args .root) (c .before .before .before .before .before .before .before .before .before .args .pairs .now) (c .before .before .before .before .before .before .before .before .before .args .copies .now) _ (c .before .before .before .before .needs .ensures) (search needs)
 
 returns-2 : tie.Need-returns-2
-returns-2 c = fills-answers (searchIndexed (c .before .before .before .before .before .before .before .before .before .before .before .args .index .now)) (c .before .before .before .before .before .before .before .before .before .before .before .args .space .now) (c .before .before .before .before .before .before .before .before .before .before .before .args .x) (c .before .before .before .before .before .before .before .before .before .before .before .args .root) (c .before .before .before .before .before .before .before .before .before .before .before .args .pairs .now) (c .before .before .before .before .before .before .before .before .before .before .before .args .copies .now) _ (c .before .before .before .before .before .before .needs .ensures) (search needs) (search needs)
+returns-2 c = fills-answers (searchIndexed (c .before .before .before .before .before .before .before .before .before .before .before .args .index .now) (c .before .before .before .before .before .before .before .before .before .before .before .args .x .h .nodes)) (c .before .before .before .before .before .before .before .before .before .before .before .args .space .now) (c .before .before .before .before .before .before .before .before .before .before .before .args .x) (c .before .before .before .before .before .before .before .before .before .before .before .args .root) (c .before .before .before .before .before .before .before .before .before .before .before .args .pairs .now) (c .before .before .before .before .before .before .before .before .before .before .before .args .copies .now) _ (c .before .before .before .before .before .before .needs .ensures) (search needs) (search needs)
 
 returns-3 : tie.Need-returns-3
-returns-3 c = fills-none (searchIndexed (c .before .before .before .before .before .before .before .before .before .before .before .args .index .now)) (c .before .before .before .before .before .before .before .before .before .before .before .args .space .now) (c .before .before .before .before .before .before .before .before .before .before .before .args .x) (c .before .before .before .before .before .before .before .before .before .before .before .args .root) (c .before .before .before .before .before .before .before .before .before .before .before .args .pairs .now) (c .before .before .before .before .before .before .before .before .before .before .before .args .copies .now) _ (c .before .before .before .before .before .before .needs .ensures) (search needs) (search needs)
+returns-3 c = fills-none (searchIndexed (c .before .before .before .before .before .before .before .before .before .before .before .args .index .now) (c .before .before .before .before .before .before .before .before .before .before .before .args .x .h .nodes)) (c .before .before .before .before .before .before .before .before .before .before .before .args .space .now) (c .before .before .before .before .before .before .before .before .before .before .before .args .x) (c .before .before .before .before .before .before .before .before .before .before .before .args .root) (c .before .before .before .before .before .before .before .before .before .before .before .args .pairs .now) (c .before .before .before .before .before .before .before .before .before .before .before .args .copies .now) _ (c .before .before .before .before .before .before .needs .ensures) (search needs) (search needs)
 
 pub full-spec : {M : Type 1} → statement M
 full-spec =

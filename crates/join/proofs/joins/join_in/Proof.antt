@@ -25,13 +25,13 @@ returns : tie.Need-returns
 returns c = (c .before .before .join-known .ensures)
 
 returns-2 : tie.Need-returns-2
-returns-2 c = target-none (searchIndexed (c .before .before .before .before .before .before .before .before .before .before .args .index .now)) (c .before .before .before .before .before .before .before .before .before .before .args .space .now) (c .before .before .before .before .before .before .before .before .before .before .args .h) (c .before .before .before .before .before .before .before .before .before .before .args .a .first) (c .before .before .before .before .before .before .before .before .before .before .args .a .second) (c .before .before .before .before .before .before .before .before .before .before .args .pairs .now) (c .before .before .before .before .before .before .before .before .before .before .args .a .target) (c .before .before .before .before .before .before .before .before .before .before .args .copies .now) (told (c .before .before .before .before .before .is-number .ensures) (c .before .before .before .before .if1 .taken)) (told (c .before .before .before .is-number2 .ensures) (c .before .before .if2 .taken)) (told (c .before .is-number3 .ensures) (c .if3 .left))
+returns-2 c = target-none (searchIndexed (c .before .before .before .before .before .before .before .before .before .before .args .index .now) (c .before .before .before .before .before .before .before .before .before .before .args .h .nodes)) (c .before .before .before .before .before .before .before .before .before .before .args .space .now) (c .before .before .before .before .before .before .before .before .before .before .args .h) (c .before .before .before .before .before .before .before .before .before .before .args .a .first) (c .before .before .before .before .before .before .before .before .before .before .args .a .second) (c .before .before .before .before .before .before .before .before .before .before .args .pairs .now) (c .before .before .before .before .before .before .before .before .before .before .args .a .target) (c .before .before .before .before .before .before .before .before .before .before .args .copies .now) (told (c .before .before .before .before .before .is-number .ensures) (c .before .before .before .before .if1 .taken)) (told (c .before .before .before .is-number2 .ensures) (c .before .before .if2 .taken)) (told (c .before .is-number3 .ensures) (c .if3 .left))
 
 returns-3 : tie.Need-returns-3
-returns-3 c = second-none (searchIndexed (c .before .before .before .before .before .before .before .before .args .index .now)) (c .before .before .before .before .before .before .before .before .args .space .now) (c .before .before .before .before .before .before .before .before .args .h) (c .before .before .before .before .before .before .before .before .args .a .first) (c .before .before .before .before .before .before .before .before .args .a .second) (c .before .before .before .before .before .before .before .before .args .pairs .now) (c .before .before .before .before .before .before .before .before .args .a .target) (c .before .before .before .before .before .before .before .before .args .copies .now) (told (c .before .before .before .is-number .ensures) (c .before .before .if1 .taken)) (told (c .before .is-number2 .ensures) (c .if2 .left))
+returns-3 c = second-none (searchIndexed (c .before .before .before .before .before .before .before .before .args .index .now) (c .before .before .before .before .before .before .before .before .args .h .nodes)) (c .before .before .before .before .before .before .before .before .args .space .now) (c .before .before .before .before .before .before .before .before .args .h) (c .before .before .before .before .before .before .before .before .args .a .first) (c .before .before .before .before .before .before .before .before .args .a .second) (c .before .before .before .before .before .before .before .before .args .pairs .now) (c .before .before .before .before .before .before .before .before .args .a .target) (c .before .before .before .before .before .before .before .before .args .copies .now) (told (c .before .before .before .is-number .ensures) (c .before .before .if1 .taken)) (told (c .before .is-number2 .ensures) (c .if2 .left))
 
 returns-4 : tie.Need-returns-4
-returns-4 c = first-none (searchIndexed (c .before .before .before .before .before .before .args .index .now)) (c .before .before .before .before .before .before .args .space .now) (c .before .before .before .before .before .before .args .h) (c .before .before .before .before .before .before .args .a .first) (c .before .before .before .before .before .before .args .a .second) (c .before .before .before .before .before .before .args .pairs .now) (c .before .before .before .before .before .before .args .a .target) (c .before .before .before .before .before .before .args .copies .now) (told (c .before .is-number .ensures) (c .if1 .left))
+returns-4 c = first-none (searchIndexed (c .before .before .before .before .before .before .args .index .now) (c .before .before .before .before .before .before .args .h .nodes)) (c .before .before .before .before .before .before .args .space .now) (c .before .before .before .before .before .before .args .h) (c .before .before .before .before .before .before .args .a .first) (c .before .before .before .before .before .before .args .a .second) (c .before .before .before .before .before .before .args .pairs .now) (c .before .before .before .before .before .before .args .a .target) (c .before .before .before .before .before .before .args .copies .now) (told (c .before .is-number .ensures) (c .if1 .left))
 
 pub join-in-spec : {M : Type 1} → statement M
 join-in-spec =

@@ -27,7 +27,7 @@ same-length-2 : tie.Need-same-length-2
 same-length-2 c = search needs
 
 returns-2 : tie.Need-returns-2
-returns-2 c = (c .before .rule .ensures) (c .before .before .before .before .before .before .before .before .before .before .args .space .now) (c .before .before .before .before .before .before .before .before .before .before .args .h) (c .before .before .before .before .before .before .before .before .before .before .pre) (c .before .before .before .before .judge .ensures) (c .before .before .judge2 .ensures) .1 (search needs) (searchIndexed (c .before .before .before .before .before .before .before .before .before .before .args .index .now))
+returns-2 c = (c .before .rule .ensures) (c .before .before .before .before .before .before .before .before .before .before .args .space .now) (c .before .before .before .before .before .before .before .before .before .before .args .h) (c .before .before .before .before .before .before .before .before .before .before .pre) (c .before .before .before .before .judge .ensures) (c .before .before .judge2 .ensures) .1 (search needs) (searchIndexed (c .before .before .before .before .before .before .before .before .before .before .args .index .now) (c .before .before .before .before .before .before .before .before .before .before .args .h .nodes))
 
 pub join-parties-spec : {M : Type 1} → statement M
 join-parties-spec =

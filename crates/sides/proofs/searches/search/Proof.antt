@@ -15,10 +15,10 @@ enum-known-walked : tie.Need-enum-known-walked
 enum-known-walked c = search needs
 
 node-in-requires : tie.Need-node-in-requires
-node-in-requires c κs = (bounds-nodes _ _ (c .before .before .before .before .before .before .before .pre .0), leaf-within (indexes-find _) (c .before .before .before .before .before .before .before .args .space .now) (c .before .before .before .before .before .before .before .args .h .nodes) (c .before .before .before .before .before .before .before .args .h .answers) (c .before .before .before .before .before .before .before .args .root) (c .before .before .before .before .before .before .before .args .tokens .now) (c .before .before .before .before .before .before .before .pre .1) _ (told (c .before .walked .given .1) (c .before .before .before .walk-tokens .ensures)))
+node-in-requires c κs = (bounds-nodes _ _ (c .before .before .before .before .before .before .before .pre .0), leaf-within (indexes-find _ _) (c .before .before .before .before .before .before .before .args .space .now) (c .before .before .before .before .before .before .before .args .h .nodes) (c .before .before .before .before .before .before .before .args .h .answers) (c .before .before .before .before .before .before .before .args .root) (c .before .before .before .before .before .before .before .args .tokens .now) (c .before .before .before .before .before .before .before .pre .1) _ (told (c .before .walked .given .1) (c .before .before .before .walk-tokens .ensures)))
 
 whole-sound-requires : tie.Need-whole-sound-requires
-whole-sound-requires c κs = (c .before .before .before .before .before .before .before .before .pre .0, link-within (indexes-find _) (c .before .before .before .before .before .before .before .before .args .space .now) (c .before .before .before .before .before .before .before .before .args .h .nodes) (c .before .before .before .before .before .before .before .before .args .h .answers) (c .before .before .before .before .before .before .before .before .args .root) (c .before .before .before .before .before .before .before .before .args .tokens .now) (c .before .before .before .before .before .before .before .before .pre .1) _ _ (told (c .before .before .walked .given .1) (c .before .before .before .before .walk-tokens .ensures)) (c .node-in .ensures))
+whole-sound-requires c κs = (c .before .before .before .before .before .before .before .before .pre .0, link-within (indexes-find _ _) (c .before .before .before .before .before .before .before .before .args .space .now) (c .before .before .before .before .before .before .before .before .args .h .nodes) (c .before .before .before .before .before .before .before .before .args .h .answers) (c .before .before .before .before .before .before .before .before .args .root) (c .before .before .before .before .before .before .before .before .args .tokens .now) (c .before .before .before .before .before .before .before .before .pre .1) _ _ (told (c .before .before .walked .given .1) (c .before .before .before .before .walk-tokens .ensures)) (c .node-in .ensures))
 
 returns : tie.Need-returns
 returns c = searched-whole _ (c .before .before .before .before .before .before .before .before .before .before .args .space .now) (c .before .before .before .before .before .before .before .before .before .before .args .h) (c .before .before .before .before .before .before .before .before .before .before .args .root) (c .before .before .before .before .before .before .before .before .before .before .args .tokens .now) _ (c .before .before .node-in .result) _ (told (c .before .before .before .before .walked .given .1) (c .before .before .before .before .before .before .walk-tokens .ensures)) (c .before .before .node-in .ensures) (c .before .whole-sound .ensures)

@@ -14,10 +14,10 @@ use Rattle.trie.proofs.walks.walk_from.Statement.{statement}
 use Rattle.trie.proofs.walks.walk_from.Tie as tie
 
 abbrev Inv-loop : tie.InvT-loop
-Inv-loop space nodes links start tokens index n₀ i₀ n i = Descent (searchIndexed index) (trieIn sizes space nodes links) tokens n i (walkFromBy (searchIndexed index) (trieIn sizes space nodes links) start tokens)
+Inv-loop space nodes links start tokens index stood n₀ i₀ n i = Descent (searchIndexed index stood) (trieIn sizes space nodes links) tokens n i (walkFromBy (searchIndexed index stood) (trieIn sizes space nodes links) start tokens)
 
 abbrev μ-loop : tie.MeasureT-loop
-μ-loop space nodes links start tokens index n₀ i₀ n i = length tokens - i
+μ-loop space nodes links start tokens index stood n₀ i₀ n i = length tokens - i
 
 loop-holds : tie.Need-loop-holds Inv-loop μ-loop
 loop-holds c = descent-begin _ _ _ _ (search needs) (search needs)
@@ -41,13 +41,13 @@ loop-less : tie.Need-loop-less Inv-loop μ-loop
 loop-less c = omega arith
 
 loop-again : tie.Need-loop-again Inv-loop μ-loop
-loop-again c = descent-found (c .before .before .before .before .before .before .loop .inv) (search needs) (indexes-find _) (c .before .found .given .0 .0) (told (c .before .found .given .1) (c .before .before .before .search-indexed .ensures))
+loop-again c = descent-found (c .before .before .before .before .before .before .loop .inv) (search needs) (indexes-find _ _) (c .before .found .given .0 .0) (told (c .before .found .given .1) (c .before .before .before .search-indexed .ensures))
 
 enum-known-found-2 : tie.Need-enum-known-found-2 Inv-loop μ-loop
 enum-known-found-2 c = search needs
 
-sub-t17 : tie.Need-sub-t17 Inv-loop μ-loop
-sub-t17 c = omega arith
+sub-t18 : tie.Need-sub-t18 Inv-loop μ-loop
+sub-t18 c = omega arith
 
 returns : tie.Need-returns Inv-loop μ-loop
 returns c = descent-last (c .before .before .before .before .before .before .loop .inv) (search needs) (c .before .found2 .given .0 .0) (told (c .before .found2 .given .1) (c .before .before .before .search-indexed .ensures))
@@ -76,7 +76,7 @@ walk-from-spec =
     loop-less
     loop-again
     enum-known-found-2
-    sub-t17
+    sub-t18
     returns
     enum-told
     returns-2

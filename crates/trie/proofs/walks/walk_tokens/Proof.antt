@@ -22,10 +22,10 @@ enum-told : tie.Need-enum-told
 enum-told c = search needs
 
 returns : tie.Need-returns
-returns c = root-damaged (searchIndexed (c .before .before .before .before .before .before .args .index .now)) (trieIn sizes (c .before .before .before .before .before .before .args .space .now) (c .before .before .before .before .before .before .args .nodes) (c .before .before .before .before .before .before .args .links)) _ _ (told (c .enum-told .given .1) (c .before .before .read-node .ensures))
+returns c = root-damaged (searchIndexed (c .before .before .before .before .before .before .args .index .now) (c .before .before .before .before .before .before .args .stood)) (trieIn sizes (c .before .before .before .before .before .before .args .space .now) (c .before .before .before .before .before .before .args .nodes) (c .before .before .before .before .before .before .args .links)) _ _ (told (c .enum-told .given .1) (c .before .before .read-node .ensures))
 
 returns-2 : tie.Need-returns-2
-returns-2 c = root-other (searchIndexed (c .before .before .before .before .before .before .before .before .before .args .index .now)) (trieIn sizes (c .before .before .before .before .before .before .before .before .before .args .space .now) (c .before .before .before .before .before .before .before .before .before .args .nodes) (c .before .before .before .before .before .before .before .before .before .args .links)) _ _ (c .before .before .before .y .given .0 .0) (told (c .before .before .before .y .given .1) (c .before .before .before .before .before .read-node .ensures)) (search needs)
+returns-2 c = root-other (searchIndexed (c .before .before .before .before .before .before .before .before .before .args .index .now) (c .before .before .before .before .before .before .before .before .before .args .stood)) (trieIn sizes (c .before .before .before .before .before .before .before .before .before .args .space .now) (c .before .before .before .before .before .before .before .before .before .args .nodes) (c .before .before .before .before .before .before .before .before .before .args .links)) _ _ (c .before .before .before .y .given .0 .0) (told (c .before .before .before .y .given .1) (c .before .before .before .before .before .read-node .ensures)) (search needs)
 
 used-slots-requires : tie.Need-used-slots-requires
 used-slots-requires c κs = search needs
@@ -34,13 +34,13 @@ slice-aggregate-walk-from : tie.Need-slice-aggregate-walk-from
 slice-aggregate-walk-from c = used-length (c .before .before .before .before .before .before .before .before .before .before .before .args .index .now) _ (c .before .used-slots .ensures .0) (c .before .used-slots .ensures .1)
 
 walk-from-requires : tie.Need-walk-from-requires
-walk-from-requires c κs = ((search needs, search needs, used-slotted (c .before .before .before .before .before .before .before .before .before .before .before .args .index .now) _ (c .before .used-slots .ensures .0)), root-judged (searchIndexed (c .before .before .before .before .before .before .before .before .before .before .before .args .index .now)) (trieIn sizes (c .before .before .before .before .before .before .before .before .before .before .before .args .space .now) (c .before .before .before .before .before .before .before .before .before .before .before .args .nodes) (c .before .before .before .before .before .before .before .before .before .before .before .args .links)) (c .before .before .before .before .before .before .before .before .before .before .before .args .root) [] (c .before .before .before .before .before .y .given .0 .0) (told (c .before .before .before .before .before .y .given .1) (c .before .before .before .before .before .before .before .read-node .ensures)))
+walk-from-requires c κs = ((search needs, search needs, used-slotted (c .before .before .before .before .before .before .before .before .before .before .before .args .index .now) _ (c .before .used-slots .ensures .0)), root-judged (searchIndexed (c .before .before .before .before .before .before .before .before .before .before .before .args .index .now) (c .before .before .before .before .before .before .before .before .before .before .before .args .stood)) (trieIn sizes (c .before .before .before .before .before .before .before .before .before .before .before .args .space .now) (c .before .before .before .before .before .before .before .before .before .before .before .args .nodes) (c .before .before .before .before .before .before .before .before .before .before .before .args .links)) (c .before .before .before .before .before .before .before .before .before .before .before .args .root) [] (c .before .before .before .before .before .y .given .0 .0) (told (c .before .before .before .before .before .y .given .1) (c .before .before .before .before .before .before .before .read-node .ensures)))
 
 returns-3 : tie.Need-returns-3
 returns-3 c =
     c .walk-from .ensures
-    ∙ ap shown (used-walks (c .before .before .before .before .before .before .before .before .before .before .before .before .args .index .now) _ (c .before .before .used-slots .ensures .0) (trieIn sizes (c .before .before .before .before .before .before .before .before .before .before .before .before .args .space .now) (c .before .before .before .before .before .before .before .before .before .before .before .before .args .nodes) (c .before .before .before .before .before .before .before .before .before .before .before .before .args .links)) _ _)
-    ∙ root-walked (searchIndexed (c .before .before .before .before .before .before .before .before .before .before .before .before .args .index .now)) (trieIn sizes (c .before .before .before .before .before .before .before .before .before .before .before .before .args .space .now) (c .before .before .before .before .before .before .before .before .before .before .before .before .args .nodes) (c .before .before .before .before .before .before .before .before .before .before .before .before .args .links)) _ _ (c .before .before .before .before .before .before .y .given .0 .0) (told (c .before .before .before .before .before .before .y .given .1) (c .before .before .before .before .before .before .before .before .read-node .ensures)) (search needs)
+    ∙ ap shown (used-walks (c .before .before .before .before .before .before .before .before .before .before .before .before .args .index .now) _ (c .before .before .used-slots .ensures .0) (c .before .before .before .before .before .before .before .before .before .before .before .before .args .stood) (trieIn sizes (c .before .before .before .before .before .before .before .before .before .before .before .before .args .space .now) (c .before .before .before .before .before .before .before .before .before .before .before .before .args .nodes) (c .before .before .before .before .before .before .before .before .before .before .before .before .args .links)) _ _)
+    ∙ root-walked (searchIndexed (c .before .before .before .before .before .before .before .before .before .before .before .before .args .index .now) (c .before .before .before .before .before .before .before .before .before .before .before .before .args .stood)) (trieIn sizes (c .before .before .before .before .before .before .before .before .before .before .before .before .args .space .now) (c .before .before .before .before .before .before .before .before .before .before .before .before .args .nodes) (c .before .before .before .before .before .before .before .before .before .before .before .before .args .links)) _ _ (c .before .before .before .before .before .before .y .given .0 .0) (told (c .before .before .before .before .before .before .y .given .1) (c .before .before .before .before .before .before .before .before .read-node .ensures)) (search needs)
 
 pub walk-tokens-spec : {M : Type 1} → statement M
 walk-tokens-spec =
