@@ -18,14 +18,10 @@ use Rattle.basis.proofs.Cases.{by-cases}
 use Rattle.trie.specs.Siblings.{Trie}
 use Rattle.trie.specs.Index.{powerOfTwo, slotOf, slotAfter, confirmed, probe, lookup, enters, entering, insertFrom, insert, insertAll, emptyIndex, builtIndex, roomy}
 use Rattle.trie.specs.Ledger.{Reach, here, on, zeros}
-use Rattle.trie.proofs.IndexLaws.{Confirmed, confirmed-is}
+use Rattle.trie.proofs.IndexLaws.{Confirmed, confirmed-true, confirmed-is}
 use Rattle.trie.proofs.WalkLaws.{both-true}
 
 -- ---- reaching an entry
-
-confirmed-true : (t : Trie) (p y x : ℕ) → Confirmed t p y x → confirmed t p y x ≡ true
-unfolding confirmed
-confirmed-true t p y x k = rw (lt-ltb _ _ (k .above), lt-ltb _ _ (k .below), eq-eqb _ _ (k .parent-is), eq-eqb _ _ (k .token-is))
 
 module _ (t : Trie) (index : List ℕ) (p y x : ℕ) (is : Confirmed t p y x) (one : (a : ℕ) → Confirmed t p y a → a ≡ x) where
   pub reach-probe : {k slot : ℕ} → Reach index x k slot → probe k t index p y slot ≡ x

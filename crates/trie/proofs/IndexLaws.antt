@@ -7,7 +7,7 @@ use Prim.Native.Nat.{ℕ, suc, zero, _<_}
 use native.Mathlib.Omega.{arith}
 use lib.Dec.{eqb}
 use lib.ListN.{length, getD}
-use borrow.Author.Tests.{eqb-true, eqb-false, ltb-true}
+use borrow.Author.Tests.{eqb-true, eqb-false, eq-eqb, ltb-true, lt-ltb}
 use Rattle.basis.proofs.Cases.{by-cases}
 use Rattle.space.specs.declared.Node.{Node}
 use Rattle.trie.specs.Siblings.{Trie, sound, atSibling, searchSiblings, searchChildren}
@@ -36,6 +36,10 @@ confirmed-is t parent token x e =
     let b = both-true _ _ (a .0) in
     let c = both-true _ _ (b .0) in
     record { above = ltb-true _ _ (c .0); below = ltb-true _ _ (c .1); parent-is = eqb-true _ _ (b .1); token-is = eqb-true _ _ (a .1) }
+
+pub confirmed-true : (t : Trie) (p y x : ℕ) → Confirmed t p y x → confirmed t p y x ≡ true
+unfolding confirmed
+confirmed-true t p y x k = rw (lt-ltb _ _ (k .above), lt-ltb _ _ (k .below), eq-eqb _ _ (k .parent-is), eq-eqb _ _ (k .token-is))
 
 module _ (t : Trie) (index : List ℕ) (parent token : ℕ) where
   pub probe-found : (steps slot : ℕ) → (probe steps t index parent token slot ≡ 0 → ⊥) → confirmed t parent token (probe steps t index parent token slot) ≡ true

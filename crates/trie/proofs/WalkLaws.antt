@@ -31,12 +31,12 @@ pub record Grown (t t′ : Trie) (parent last token : ℕ) : Type 0 where
   pub records : (m : ℕ) → t′ .at m ≡ withNode (t .at) (t .nodes) parent last token m
 
 -- what a search sees of node m is as it was
-record Kept (t t′ : Trie) (m : ℕ) : Type 0 where
-  token-same : t′ .at m .token ≡ t .at m .token
-  parent-same : t′ .at m .parent ≡ t .at m .parent
-  child-same : (t .at m .child ≡ 0 → ⊥) → t′ .at m .child ≡ t .at m .child
-  sibling-same : (t .at m .sibling ≡ 0 → ⊥) → t′ .at m .sibling ≡ t .at m .sibling
-  sound-same : sound t m ≡ true → sound t′ m ≡ true
+pub record Kept (t t′ : Trie) (m : ℕ) : Type 0 where
+  pub token-same : t′ .at m .token ≡ t .at m .token
+  pub parent-same : t′ .at m .parent ≡ t .at m .parent
+  pub child-same : (t .at m .child ≡ 0 → ⊥) → t′ .at m .child ≡ t .at m .child
+  pub sibling-same : (t .at m .sibling ≡ 0 → ⊥) → t′ .at m .sibling ≡ t .at m .sibling
+  pub sound-same : sound t m ≡ true → sound t′ m ≡ true
 
 module _ {t t′ : Trie} {parent last token : ℕ} (g : Grown t t′ parent last token) (e : Ends t parent last) where
   grown-sound : (m : ℕ) (y : Node) → t′ .at m ≡ y → NodeBounds (t .nodes + 1) (t .links) m y → sound t′ m ≡ true
@@ -90,7 +90,7 @@ module _ {t t′ : Trie} {parent last token : ℕ} (g : Grown t t′ parent last
         });
   }
 
-  kept : (m : ℕ) → m < t .nodes → Kept t t′ m
+  pub kept : (m : ℕ) → m < t .nodes → Kept t t′ m
   kept m h =
       let n : m ≡ t .nodes → ⊥ = omega arith in
       by-cases (eqb last 0)
@@ -106,10 +106,10 @@ module _ {t t′ : Trie} {parent last token : ℕ} (g : Grown t t′ parent last
       (λ q. kept-whole m (g .records m ∙ with-no-sibling (t .at) (t .nodes) parent last token m n z′ (eqb-false _ _ q))))
 
   -- the new node
-  new-is : t′ .at (t .nodes) ≡ newNode token parent
+  pub new-is : t′ .at (t .nodes) ≡ newNode token parent
   new-is = g .records (t .nodes) ∙ with-new (t .at) (t .nodes) parent last token (t .nodes) refl
 
-  new-sound : sound t′ (t .nodes) ≡ true
+  pub new-sound : sound t′ (t .nodes) ≡ true
   new-sound = let p = e .parent-within in
       grown-sound (t .nodes) (newNode token parent) new-is (record {
         child-follows = follows-zero (t .nodes + 1) (t .nodes);
@@ -118,7 +118,7 @@ module _ {t t′ : Trie} {parent last token : ℕ} (g : Grown t t′ parent last
         link-most = omega arith;
       })
 
-  new-found : (k : ℕ) → searchSiblings (suc k) t′ parent token (t .nodes) ≡ Found (t .nodes)
+  pub new-found : (k : ℕ) → searchSiblings (suc k) t′ parent token (t .nodes) ≡ Found (t .nodes)
   new-found k = search-same k t′ parent token (t .nodes) new-sound (ap (λ (y : Node). y .parent) new-is) (ap (λ (y : Node). y .token) new-is)
 
   -- a child found is found again
@@ -136,7 +136,7 @@ module _ {t t′ : Trie} {parent last token : ℕ} (g : Grown t t′ parent last
       search-next k′ t′ p x n (a .sound-same s) (a .parent-same ∙ q) (λ y. w (sym (a .token-same) ∙ y)) (λ y. u (sym v ∙ y))
       ∙ ap (searchSiblings k′ t′ p x) v ∙ again (sibling-within t n h s) f
 
-  found-again : (k k′ p x n c : ℕ) → k ≤ k′ → n < t .nodes → searchSiblings k t p x n ≡ Found c → searchSiblings k′ t′ p x n ≡ Found c
+  pub found-again : (k k′ p x n c : ℕ) → k ≤ k′ → n < t .nodes → searchSiblings k t p x n ≡ Found c → searchSiblings k′ t′ p x n ≡ Found c
   unfolding searchSiblings
   found-again zero k′ p x n c l h f = let z : _≡_ {A = ℕ} 0 1 = cc in absurd (omega arith)
   found-again (suc k) zero p x n c l h f = absurd (omega arith)
@@ -161,7 +161,7 @@ module _ {t t′ : Trie} {parent last token : ℕ} (g : Grown t t′ parent last
       search-next (suc k′) t′ parent token n (a .sound-same s) (a .parent-same ∙ q) (λ y. w (sym (a .token-same) ∙ y)) (λ y. u (sym v ∙ y))
       ∙ ap (searchSiblings (suc k′) t′ parent token) v ∙ again (sibling-within t n h s) f
 
-  last-onward : (k k′ n : ℕ) → k < k′ → n < t .nodes → (last ≡ 0 → ⊥) → searchSiblings k t parent token n ≡ Last last → searchSiblings k′ t′ parent token n ≡ Found (t .nodes)
+  pub last-onward : (k k′ n : ℕ) → k < k′ → n < t .nodes → (last ≡ 0 → ⊥) → searchSiblings k t parent token n ≡ Last last → searchSiblings k′ t′ parent token n ≡ Found (t .nodes)
   unfolding searchSiblings
   last-onward zero k′ n l h z f = let y : _≡_ {A = ℕ} 0 1 = cc in absurd (omega arith)
   last-onward (suc k) zero n l h z f = absurd (omega arith)
@@ -169,7 +169,7 @@ module _ {t t′ : Trie} {parent last token : ℕ} (g : Grown t t′ parent last
   last-onward (suc k) (suc (suc k′)) n l h z f =
       onward-step k′ (search-step k t parent token n) h z f (λ i r. last-onward k (suc k′) (t .at n .sibling) (omega arith) i z r)
 
-  children-again : (n x c : ℕ) → n < t .nodes → sound t n ≡ true → searchChildren t n x ≡ Found c → searchChildren t′ n x ≡ Found c
+  pub children-again : (n x c : ℕ) → n < t .nodes → sound t n ≡ true → searchChildren t n x ≡ Found c → searchChildren t′ n x ≡ Found c
   children-again n x c h s f =
       by-cases (eqb (t .at n .child) 0)
       (λ z. let d = children-none t n x (t .at n) refl (eqb-true _ _ z) in let y : _≡_ {A = ℕ} 0 1 = cc in absurd (omega arith))
@@ -179,7 +179,7 @@ module _ {t t′ : Trie} {parent last token : ℕ} (g : Grown t t′ parent last
       ∙ found-again (t .nodes) (t′ .nodes) n x (t .at n .child) c (let m = g .nodes-more in omega arith) (first-within t n h s)
       (children-some t n x (t .at n) refl (eqb-false _ _ z) ∙ f))
 
-  children-onward : sound t parent ≡ true → searchChildren t parent token ≡ Last last → searchChildren t′ parent token ≡ Found (t .nodes)
+  pub children-onward : sound t parent ≡ true → searchChildren t parent token ≡ Last last → searchChildren t′ parent token ≡ Found (t .nodes)
   children-onward s f =
       let h : parent < t .nodes = e .parent-within in
       let m : t′ .nodes ≡ suc (t .nodes) = let x = g .nodes-more in omega arith in

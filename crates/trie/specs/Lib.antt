@@ -4,6 +4,7 @@ pub mod Paths
 pub mod Runs
 pub mod Append
 pub mod Index
+pub mod Entered
 pub mod Ledger
 pub mod Examples
 pub mod IndexExamples
