@@ -19,12 +19,14 @@ use Rattle.space.specs.declared.FreshAnswer.the-variants.{Done}
 use Rattle.space.specs.declared.Head.{Head}
 use Rattle.space.specs.declared.Header.the-variants as header
 use Rattle.trie.specs.Walks.{Finding}
+use Rattle.trie.specs.Turns.{lookupFirst}
 use Rattle.trie.proofs.IndexLaws.{AsChains, indexes-as-chains}
+use Rattle.trie.proofs.TurnsLaws.{lookups-as-chains}
 use Rattle.store.specs.Views.{View, viewOf}
 use Rattle.store.specs.Calls.{under, underBy, underAnyBy, spaceStep, spaceStepBy, usedNodes, indexedWay, indexedStep, countedCells}
 use Rattle.store.proofs.FindingLaws as finding
 use Rattle.store.proofs.FindingLaws.{decide-alike}
-use Rattle.agreement.specs.Indexed.{Indexed, requests, indexedTrace, IndexedPromise, IndexedSame, Unindexed}
+use Rattle.agreement.specs.Indexed.{Indexed, requests, indexedTrace, IndexedPromise, IndexedSame, LookupFirstSame, Unindexed}
 use Rattle.agreement.proofs.SameRecords.{Same, call-as-chains, answer-as-chains}
 use Rattle.agreement.proofs.CellChanges.{sizes-wide}
 use Rattle.agreement.proofs.Holding.{Cells, Holds}
@@ -59,6 +61,9 @@ module _ (e : ℕ) (known : knownEdition e ≡ true) where
   pub step-indexed : (t : Table) (cs : List ℕ) → Holds (sizesOf e) (codingOf e) t cs → (index : List ℕ) (q : Request) → indexedStep index cs q ≡ spaceStep cs q
   step-indexed t cs k index q = step-alike (indexedWay index cs) t cs k (indexes-as-chains index (usedNodes cs) (nodeIn (sizesOf e) cs) (k .head .nodes)) q
 
+  pub step-lookup : (t : Table) (cs : List ℕ) → Holds (sizesOf e) (codingOf e) t cs → (index : List ℕ) (q : Request) → indexedStep index cs q ≡ spaceStepBy (lookupFirst index) cs q
+  step-lookup t cs k index q = step-indexed t cs k index q ∙ sym (step-alike (lookupFirst index) t cs k (lookups-as-chains index (nodeIn (sizesOf e) cs) (k .head .nodes)) q)
+
   pub state-holds : (t : Table) (cs : List ℕ) (q : Request) → Holds (sizesOf e) (codingOf e) t cs → Holds (sizesOf e) (codingOf e) (step (codingOf e) t q .state) (spaceStep cs q .state)
   state-holds = step-state (sizesOf e) (codingOf e) cells-in (coding-laws e) spaceStep (deciding e known)
 
@@ -86,6 +91,11 @@ pub indexed-same : IndexedSame
 indexed-same e n f a s qs d index q =
     let k = fresh-in e n f a s d in
     rw (k .2) (step-indexed e (k .0) (left (step (codingOf e)) (fresh n f a) qs) (left spaceStep (freshSpace (sizesOf e) n f a s) qs) (calls-held e n f a s qs (k .0) (k .1)) index q)
+
+pub lookup-first-same : LookupFirstSame
+lookup-first-same e n f a s qs d index q =
+    let k = fresh-in e n f a s d in
+    rw (k .2) (step-lookup e (k .0) (left (step (codingOf e)) (fresh n f a) qs) (left spaceStep (freshSpace (sizesOf e) n f a s) qs) (calls-held e n f a s qs (k .0) (k .1)) index q)
 
 pub indexed-promise : IndexedPromise
 indexed-promise e n f a s qs d =

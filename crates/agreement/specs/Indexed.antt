@@ -10,7 +10,8 @@ use Rattle.plain.specs.Table.{editionTrace}
 use Rattle.space.specs.Fresh.{freshAnswerIn, freshSpaceIn}
 use Rattle.space.specs.declared.FreshAnswer.the-variants.{Done}
 use Rattle.trie.specs.Index.{lookup, enters}
-use Rattle.store.specs.Calls.{spaceStep, indexedStep, countedCells}
+use Rattle.trie.specs.Turns.{lookupFirst}
+use Rattle.store.specs.Calls.{spaceStep, spaceStepBy, indexedStep, countedCells}
 use Rattle.store.specs.Building.{built, refused, buildOn, buildIndex, nodesOf}
 use Rattle.agreement.specs.Whole.{wholeSpace}
 
@@ -53,6 +54,19 @@ abbrev pub IndexedWhole : Type 0
 IndexedWhole =
     (cs : List ℕ) (qs : List Indexed) → wholeSpace cs ≡ true
     → indexedTrace cs qs ≡ trace spaceStep countedCells cs (requests qs)
+
+-- a call that looks a child up first, to the lookup's end, and goes along the chain where that misses, answers the
+-- same: the order of the document
+abbrev pub LookupFirstSame : Type 0
+LookupFirstSame =
+    (e n f a : ℕ) (s : List ℕ) (qs : List Request) → freshAnswerIn e n f a s ≡ Done
+    → (index : List ℕ) (q : Request)
+    → indexedStep index (spaceAfter e n f a s qs) q ≡ spaceStepBy (lookupFirst index) (spaceAfter e n f a s qs) q
+
+abbrev pub LookupFirstWhole : Type 0
+LookupFirstWhole =
+    (cs index : List ℕ) (q : Request) → wholeSpace cs ≡ true
+    → indexedStep index cs q ≡ spaceStepBy (lookupFirst index) cs q
 
 -- an index of no cells is none, on any cells, sound or damaged
 abbrev pub Unindexed : Type 0

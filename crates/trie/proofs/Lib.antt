@@ -3,6 +3,7 @@ pub mod PathLaws
 pub mod AppendLaws
 pub mod WalkLaws
 pub mod IndexLaws
+pub mod TurnsLaws
 pub mod EnteredLaws
 pub mod BuildLaws
 pub mod LedgerLaws

@@ -4,8 +4,10 @@ pub mod Paths
 pub mod Runs
 pub mod Append
 pub mod Index
+pub mod Turns
 pub mod Entered
 pub mod Ledger
 pub mod Examples
 pub mod IndexExamples
+pub mod TurnsExamples
 pub mod LedgerExamples
