@@ -46,7 +46,7 @@ step-left find t n x p l xs left (Found c) e next = next c e
 step-left find t n x p l xs left (Last k) e next = let d : _≡_ {A = List ℕ} (x ∷ xs) left = cc in rw (← d) (omega arith)
 step-left find t n x p l xs left Damaged e next = let z : _≡_ {A = ℕ} 0 1 = cc in absurd (omega arith)
 
-from-left : (ys : List ℕ) (find : Finding) (t : Trie) (n p l : ℕ) (left : List ℕ) → walkFromBy find t n ys ≡ stopped p l left → 1 ≤ length left
+pub from-left : (ys : List ℕ) (find : Finding) (t : Trie) (n p l : ℕ) (left : List ℕ) → walkFromBy find t n ys ≡ stopped p l left → 1 ≤ length left
 unfolding walkFromBy
 from-left [] find t n p l left e = let z : _≡_ {A = ℕ} 0 1 = cc in absurd (omega arith)
 from-left (x ∷ xs) find t n p l left e = step-left find t n x p l xs left (find t n x) e (λ c f. from-left xs find t c p l left f)
@@ -102,7 +102,7 @@ module _ {find : Finding} (finds : Finds find) (v : View) (s : ℕ) (low : 1 ≤
             (λ n h. path-kept left (v .node) (v .nodes) parent child (v .answers) n h),
       )
 
-  decision-leaves : (w : Word) → Fits v (answeredAt v s w (walkToBy find v s w)) × SameBut s v (changedView v (answeredAt v s w (walkToBy find v s w)))
+  pub decision-leaves : (w : Word) → Fits v (answeredAt v s w (walkToBy find v s w)) × SameBut s v (changedView v (answeredAt v s w (walkToBy find v s w)))
   decision-leaves w = answered-comes v s Leaves
       (λ r. (says-fits r, unfold changedView in same-but-same s v root last))
       w (walkToBy find v s w)

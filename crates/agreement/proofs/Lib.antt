@@ -52,3 +52,5 @@ pub mod Histories
 pub mod Alike
 pub mod Bounds
 pub mod Keeping
+pub mod HeldForms
+pub mod JoinKept

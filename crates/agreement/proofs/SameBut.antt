@@ -264,7 +264,7 @@ finish-kept {s = s} S =
 
 -- ---- counts that grow
 
-follows-wider : (bound bound′ n x : ℕ) → 0 < bound → bound ≤ bound′ → follows bound n x ≡ true → follows bound′ n x ≡ true
+pub follows-wider : (bound bound′ n x : ℕ) → 0 < bound → bound ≤ bound′ → follows bound n x ≡ true → follows bound′ n x ≡ true
 unfolding follows
 follows-wider bound bound′ n x some w e = by-cases (eqb x 0)
     (λ t. simp t)

@@ -12,3 +12,4 @@ pub mod RuledOut
 pub mod History
 pub mod Alike
 pub mod Bounds
+pub mod JoinKept

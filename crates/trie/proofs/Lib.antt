@@ -5,6 +5,7 @@ pub mod WalkLaws
 pub mod IndexLaws
 pub mod TurnsLaws
 pub mod EnteredLaws
+pub mod StayLaws
 pub mod BuildLaws
 pub mod LedgerLaws
 pub mod SlotLaws
