@@ -1,6 +1,7 @@
 -- An index beside a space. Calls that are each lent an index of arbitrary cells do what they do without: on every
 -- space that calls leave of a fresh one, and on every space that passes the check, so they answer as the plain table
--- does. After a build there every child of a node that has more than 8 is found through the index alone.
+-- does. After a build there the lookup alone gives every child of a node that has more than 8, and the search of a call
+-- finds it in as many turns as the lookup takes slots (`TurnsAsSlots`, crates/trie/specs/Turns.antt).
 use Prim.Native.Nat.{ℕ, _<_}
 use mathlib.Core.Bool.{true}
 use mathlib.Core.List.{List, [], _∷_, map}
@@ -78,7 +79,7 @@ Unindexed = (cs : List ℕ) (q : Request) → indexedStep [] cs q ≡ spaceStep 
 abbrev pub Buildable : List ℕ → List ℕ → Type 0
 Buildable cs index = buildIndex cs index ≡ buildOn (nodesOf cs) index
 
--- unless it is refused, every child of a node that has more than 8 is found by the lookup alone
+-- unless it is refused, the lookup alone gives every child of a node that has more than 8
 abbrev pub FoundAgain : List ℕ → List ℕ → Type 0
 FoundAgain cs index =
     (k : ℕ) → buildIndex cs index .reply ≡ built k

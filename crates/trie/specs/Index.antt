@@ -1,8 +1,8 @@
 -- An index beside the nodes: cells, lent by the caller, that map a parent and a token to a child. It is a hash table
 -- with linear probing, one cell a slot: a slot holds a node's number, or 0 where it is free, since node 0 is nobody's
--- child. Nothing is known of the cells, so an entry counts only if its node confirms it, and a miss goes to the
--- sibling chain: whatever an index holds, it cannot change what is found in a space that calls made. Only a build
--- writes an index. It enters the children of nodes that have more than 8.
+-- child. Nothing is known of the cells, so an entry counts only if its node confirms it, and only the sibling chain
+-- says that there is no such child: whatever an index holds, it cannot change what is found in a space that calls made.
+-- Only a build writes an index. It enters the children of nodes that have more than 8.
 use Prim.Native.Nat.{ℕ, suc, zero, _+_, _*_, _%_, _^_}
 use mathlib.Core.Bool.{Bool, true, false, not, _&&_, _||_}
 use mathlib.Core.List.{List, [], _∷_, _++_}
