@@ -1,4 +1,4 @@
-/* The C interface of the table store: the calls on a space of cells, and two term converters. */
+/* The C interface of the table store: calls on a space of cells, lists of terms, two converters. */
 #ifndef TABLES_H
 #define TABLES_H
 
@@ -16,7 +16,7 @@ extern "C" {
  * 1.2.3.
  */
 #define TABLES_VERSION_MAJOR 4
-#define TABLES_VERSION_MINOR 0
+#define TABLES_VERSION_MINOR 1
 #define TABLES_VERSION_PATCH 0
 #define TABLES_VERSION \
     (TABLES_VERSION_MAJOR * 10000 + TABLES_VERSION_MINOR * 100 + TABLES_VERSION_PATCH)
@@ -152,7 +152,8 @@ static inline uint32_t tables_functor_cell(uint64_t edition, uint64_t name, uint
  * (7), the records that the number names (9), a join's target (8), its sources
  * (14, 15) and names (16), length (4), term (3), variables (5), predicate (6), the
  * other records (9), an answer that a finished subgoal lacks (8), nodes (10),
- * records left (11), slots (17), form (13), out (12).
+ * records left (11), slots (17), what a list is of (23), a term of it (24), form
+ * (13), out (12).
  */
 enum tables_refusal {
     TABLES_REFUSED_HEADER = 1,     /* the space has no sound header, or is cut short; from a
@@ -178,8 +179,10 @@ enum tables_refusal {
                                             range, its pairs are over 32, its copies are not
                                             one for each variable of the target, or the cells
                                             of either are odd in number */
-    TABLES_REFUSED_SLOTS = 17            /* an index is to be built whose cells are no power of
+    TABLES_REFUSED_SLOTS = 17,           /* an index is to be built whose cells are no power of
                                             two, or fewer than twice the children to enter */
+    TABLES_REFUSED_LISTING = 23, /* there is no list of this edition, size and symbols */
+    TABLES_REFUSED_LISTED = 24   /* the term given is not in the list */
 };
 
 /* A refusal's number in words, for people: a sentence, also for an unknown number. */
@@ -220,6 +223,10 @@ static inline const char *tables_refusal_text(uint32_t refusal)
         return "The pairs or copies of the join do not fit its subgoals.";
     case TABLES_REFUSED_SLOTS:
         return "The cells of the index are no power of two, or too few for the table.";
+    case TABLES_REFUSED_LISTING:
+        return "There is no list of terms for this edition, size and symbols.";
+    case TABLES_REFUSED_LISTED:
+        return "The term is not in the list.";
     default:
         return "There is no refusal of this number.";
     }
@@ -272,7 +279,8 @@ static inline uint32_t tables_edition(const uint32_t *space, size_t space_cells)
  * once on one space.
  * While a call that writes (tables_fresh, tables_call, tables_answer,
  * tables_finish, tables_join, and those with an index) runs, no other call on the
- * same space may run: the caller serialises them.
+ * same space may run: the caller serialises them. The lists and the converters
+ * have no space: any number of them may run at once, beside any other call.
  *
  * The use of the stack is bounded, whatever is lent: see below.
  */
@@ -307,6 +315,8 @@ enum tables_stack {
     TABLES_STACK_JOIN = 72704,     /* 57,632; so too */
     TABLES_STACK_BUILD = 4096,     /* 3,288 */
     TABLES_STACK_CHECK = 58368,    /* 46,960 */
+    TABLES_STACK_FIRST_TERM = 4096,
+    TABLES_STACK_TERM_AFTER = 4096,
     TABLES_STACK_COMPACT = 92160,  /* 69,544 */
     TABLES_STACK_EXPAND = 57344    /* 45,744 */
 };
@@ -318,8 +328,8 @@ enum tables_stack {
  * and not addresses. Whatever it holds when it comes back, every call returns,
  * and touches nothing beside the cells lent.
  *
- * Noticed: every call but tables_fresh judges the header (refusal 1), and each
- * record that it reads (9): whether the numbers in it lie within the counts and
+ * Noticed: every call on a space but tables_fresh judges the header (refusal 1), and
+ * each record that it reads (9): whether the numbers in it lie within the counts and
  * are above or below it as they must, whether it agrees with the record that led
  * to it, and whether a path that is loaded is the compact form of legal terms.
  *
@@ -371,6 +381,7 @@ enum tables_outcome {
     TABLES_NO_MORE = 9,       /* value 0; the subgoal is finished */
     TABLES_JOINED = 10,       /* how many answers are new */
     TABLES_BUILT = 11,        /* how many children were entered into the index */
+    TABLES_END = 16,          /* value 0; the list of terms ends here */
     TABLES_CALL_REFUSED = 256 /* plus the refusal's number; no value, but see tables_need
                                  and tables_broken_kind */
 };
@@ -390,7 +401,7 @@ static inline uint32_t tables_refused_by(uint64_t word)
  * The value of a call that was not refused; 0 for one that was, so that the need which
  * refusal 12 carries is not taken for a value.
  *
- * Beware: 0 is also the value of TABLES_NONE_YET and of TABLES_NO_MORE. A loop that asks
+ * Beware: 0 is also the value of TABLES_NONE_YET, TABLES_NO_MORE and TABLES_END. A loop that asks
  * tables_next until the value is 0 takes an open subgoal, a finished one and a refusal
  * for the same, and may lose answers. Ask tables_refused_by and tables_what first:
  *
@@ -647,6 +658,81 @@ uint64_t tables_join_indexed(uint32_t *space, size_t space_cells, const uint32_t
  */
 TABLES_MUST_CHECK
 uint64_t tables_check(const uint32_t *space, size_t space_cells);
+
+/*
+ * Lists of small terms
+ *
+ * To fill a table beforehand, two calls list every term of exactly `size` cells, 1 to
+ * 8, that may be called: those that begin with an atom or a functor, over the symbols
+ * given and over variables. One gives the first, the other the one after a given one.
+ * Nothing is kept between them, and neither has a space.
+ *
+ *     uint32_t term[2][TABLES_LISTED_CELLS];
+ *     uint64_t word = tables_first_term(symbols, count, size, term[0], size, edition);
+ *     for (int i = 0; tables_what(word) == TABLES_CELLS; i = !i) {
+ *         enter(term[i], size);
+ *         word = tables_term_after(symbols, count, size, term[i], size, term[!i], size, edition);
+ *     }
+ *     if (tables_what(word) != TABLES_END)
+ *         complain(tables_refusal_text(tables_refused_by(word)));
+ *
+ * Symbols are atoms, integers, functors and the pair, at most 16, none of them twice;
+ * [] is an atom. Each must be legal in the edition: a functor's arity is at least 1, the
+ * pair's payload is 0. Integers, the pair and variables may stand in any cell but the
+ * first. A functor with more arguments than the size leaves room for is legal, and
+ * stands in no term. Variables are always at hand and are not given: a variable among
+ * the symbols is refused.
+ *
+ * A size counts cells of pair form. The list of size 1 is of the atoms given. For calls
+ * of up to n cells, walk the sizes 1 to n one after another.
+ *
+ * Order: terms are compared by the first cell in which they differ; symbols come in the
+ * order in which they are given, then variables by number. With f/2 and a as symbols the
+ * list of size 3 is f(a, a), f(a, X), f(X, a), f(X, X), f(X, Y).
+ *
+ * No term is missed, each comes once, and no two differ in the names of their variables
+ * alone: a variable is either one that the term has already or the next, from 0. So each
+ * is a subgoal of its own. Entered by tables_call in a space of the same edition, none is
+ * refused by 3, 4, 5 or 6, and in a table that held none of them each is new. Lists grow
+ * fast: count a list by walking it before a space is made for it.
+ *
+ * A call takes a few hundred steps at most, however long the list and wherever in it the
+ * term stands; the symbols are judged anew each time. The term given may be any of the
+ * list, so that a walk can stop and go on later, or be shared out.
+ */
+#define TABLES_LISTED_CELLS 8    /* the most cells of a listed term */
+#define TABLES_LISTED_SYMBOLS 16 /* the most symbols of a list */
+
+/*
+ * Writes the first term of the list. TABLES_CELLS with the number of cells written,
+ * which is size; out beyond them stays. TABLES_END with the value 0 where the list is
+ * empty, as without symbols: no cell of out is written, and out may have none.
+ *
+ * Refused, the first that applies, with every cell of out as it was:
+ * TABLES_REFUSED_LISTING (23) if the edition is neither 1 nor 2, the size is not 1 to 8,
+ * symbols_cells is above 16, or a symbol is of another kind, illegal in the edition or
+ * there twice; TABLES_REFUSED_OUT (12) if there is a term and out has fewer cells than
+ * size, which is what tables_need then says.
+ */
+TABLES_MUST_CHECK
+uint64_t tables_first_term(const uint32_t *symbols, size_t symbols_cells, size_t size,
+                           uint32_t *out, size_t out_cells, uint32_t edition);
+
+/*
+ * Writes the term of the list that stands after the term given, which must be one of
+ * it. TABLES_CELLS, or TABLES_END after the last, as by tables_first_term.
+ *
+ * Refused, the first that applies, with every cell of out as it was:
+ * TABLES_REFUSED_LISTING (23) as by tables_first_term; TABLES_REFUSED_LISTED (24) if the
+ * term is not in the list: its cells are not `size` in number or not exactly one term,
+ * it begins with neither an atom nor a functor, its variables are not numbered by first
+ * meeting from 0, or it has a symbol that was not given; TABLES_REFUSED_OUT (12) as by
+ * tables_first_term, so not after the last. Symbols, term and out must not overlap.
+ */
+TABLES_MUST_CHECK
+uint64_t tables_term_after(const uint32_t *symbols, size_t symbols_cells, size_t size,
+                           const uint32_t *term, size_t term_cells, uint32_t *out,
+                           size_t out_cells, uint32_t edition);
 
 /*
  * The two converters

@@ -4,9 +4,11 @@
 #include <stdio.h>
 #include <string.h>
 
-#if TABLES_VERSION < 40000
-#error "the version is 4.0.0 or later"
+#if TABLES_VERSION < 40100
+#error "the version is 4.1.0 or later"
 #endif
+
+enum { MOST_REFUSAL = 24 };
 
 static int checks, failures;
 
@@ -26,9 +28,9 @@ static const uint32_t constant[] = {
 
 static void test_constants(void)
 {
-    check(TABLES_VERSION_MAJOR == 4 && TABLES_VERSION_MINOR == 0 && TABLES_VERSION_PATCH == 0 &&
-              TABLES_VERSION == 40000,
-          "the version is 4.0.0");
+    check(TABLES_VERSION_MAJOR == 4 && TABLES_VERSION_MINOR == 1 && TABLES_VERSION_PATCH == 0 &&
+              TABLES_VERSION == 40100,
+          "the version is 4.1.0");
     check(PAIR == 0x50000000, "a pair");
     check(constant[0] == 0x40000128 && constant[1] == 0x20000007, "constants in range");
     check(constant[2] == 0x20000000, "the empty list");
@@ -129,12 +131,23 @@ static void test_index_numbers(void)
     check(TABLES_STACK_BUILD > 0, "a bound for the build");
 }
 
+/* The lists brought a word, two refusals, two limits and two bounds. */
+static void test_list_numbers(void)
+{
+    check(TABLES_END == 16, "the number of the end");
+    check(tables_refused_by(word(TABLES_END, 0)) == 0, "the end is no refusal");
+    check(tables_value(word(TABLES_END, 0)) == 0, "the end has no value");
+    check(TABLES_REFUSED_LISTING == 23 && TABLES_REFUSED_LISTED == 24, "the numbers of the refusals");
+    check(TABLES_LISTED_CELLS == 8 && TABLES_LISTED_SYMBOLS == 16, "the limits");
+    check(TABLES_STACK_FIRST_TERM > 0 && TABLES_STACK_TERM_AFTER > 0, "bounds for the lists");
+}
+
 static void test_words(void)
 {
     check(tables_value(word(TABLES_CELLS, 5)) == 5, "a value");
     check(tables_refused_by(word(TABLES_CELLS, 5)) == 0, "not refused");
     check(tables_need(word(TABLES_CELLS, 12)) == 0, "no need of an accepted call");
-    for (uint32_t refusal = 1; refusal <= 17; refusal++) {
+    for (uint32_t refusal = 1; refusal <= MOST_REFUSAL; refusal++) {
         uint64_t refused = word(TABLES_CALL_REFUSED + refusal, 9);
         check(tables_refused_by(refused) == refusal, "refused by its number");
         check(tables_value(refused) == 0, "no value of a refused call");
@@ -152,20 +165,28 @@ static void test_words(void)
     check(tables_converter_cells(383) == 383, "a converter's cells");
 }
 
+/* Is there a refusal of this number? */
+static int is_refusal(uint32_t number)
+{
+    return (number >= 1 && number <= TABLES_REFUSED_SLOTS) ||
+           (number >= TABLES_REFUSED_LISTING && number <= TABLES_REFUSED_LISTED);
+}
+
 /* A sentence for each number, none twice, and one for all others. */
 static void test_texts(void)
 {
-    for (uint32_t i = 0; i <= 18; i++) {
+    const char *unknown = tables_refusal_text(UINT32_MAX);
+    for (uint32_t i = 0; i <= MOST_REFUSAL + 1; i++) {
         const char *text = tables_refusal_text(i);
         size_t length = strlen(text);
         check(length > 10 && text[length - 1] == '.', "a sentence");
-        for (uint32_t j = 1; j < i && i <= 17; j++)
+        check((strcmp(text, unknown) != 0) == is_refusal(i), "a number known or not");
+        for (uint32_t j = 1; j < i && is_refusal(i); j++)
             check(strcmp(text, tables_refusal_text(j)) != 0, "a sentence of its own");
     }
-    check(strcmp(tables_refusal_text(0), tables_refusal_text(18)) == 0, "no refusal");
-    check(strcmp(tables_refusal_text(18), tables_refusal_text(UINT32_MAX)) == 0, "unknown");
-    check(strcmp(tables_refusal_text(17), tables_refusal_text(18)) != 0, "17 is known");
     check(strstr(tables_refusal_text(TABLES_REFUSED_SLOTS), "index") != NULL, "17 tells of the index");
+    check(strstr(tables_refusal_text(TABLES_REFUSED_LISTING), "list") != NULL, "23 tells of the list");
+    check(strstr(tables_refusal_text(TABLES_REFUSED_LISTED), "list") != NULL, "24 tells of the list");
 }
 
 /* Cells out of range are refused by 3, the need is the need, and a space knows its edition. */
@@ -225,6 +246,31 @@ static void test_index(void)
           "a join with an index");
 }
 
+/* With f/2 and a as symbols: f(a, a), f(a, X), f(X, a), f(X, X), f(X, Y); before and after it bad input. */
+static void test_list(void)
+{
+    const uint32_t symbols[] = {tables_functor_cell(TABLES_EDITION_1, 1, 2), tables_cell(TABLES_ATOM, 7)};
+    const uint32_t x = tables_cell(TABLES_VARIABLE, 0), y = tables_cell(TABLES_VARIABLE, 1);
+    const uint32_t arguments[5][2] = {{symbols[1], symbols[1]}, {symbols[1], x}, {x, symbols[1]}, {x, x}, {x, y}};
+    uint32_t term[2][4] = {{9, 9, 9, 9}, {9, 9, 9, 9}};
+    check(tables_first_term(symbols, 2, 3, term[0], 2, TABLES_EDITION_1) ==
+                  word(TABLES_CALL_REFUSED + TABLES_REFUSED_OUT, 3) && term[0][0] == 9,
+          "too few cells for the first term");
+    check(tables_refused_by(tables_first_term(symbols, 2, 9, term[0], 4, TABLES_EDITION_1)) == TABLES_REFUSED_LISTING,
+          "no list of size 9");
+    uint64_t listed = tables_first_term(symbols, 2, 3, term[0], 4, TABLES_EDITION_1);
+    for (int i = 0; i < 5; i++) {
+        const uint32_t *got = term[i % 2];
+        check(listed == word(TABLES_CELLS, 3), "a term of the list");
+        check(got[0] == symbols[0] && got[1] == arguments[i][0] && got[2] == arguments[i][1] && got[3] == 9, "its cells");
+        listed = tables_term_after(symbols, 2, 3, got, 3, term[(i + 1) % 2], 4, TABLES_EDITION_1);
+    }
+    check(listed == word(TABLES_END, 0), "the end of the list");
+    check(tables_first_term(NULL, 0, 1, NULL, 0, TABLES_EDITION_2) == word(TABLES_END, 0), "an empty list");
+    check(tables_refused_by(tables_term_after(symbols, 2, 3, &x, 1, term[0], 4, TABLES_EDITION_1)) == TABLES_REFUSED_LISTED,
+          "a term not in the list");
+}
+
 int main(void)
 {
     test_constants();
@@ -233,10 +279,12 @@ int main(void)
     test_functors();
     test_ends();
     test_index_numbers();
+    test_list_numbers();
     test_words();
     test_texts();
     test_space();
     test_index();
+    test_list();
     printf("header_test: %d checks, %d failed\n", checks, failures);
     return failures != 0;
 }
