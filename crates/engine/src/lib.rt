@@ -1,5 +1,7 @@
-// The C interface: the two converters over little-endian bytes here, the calls over cells in a module.
+// The C interface: the two converters over little-endian bytes here, the calls over cells and the lists of terms in
+// modules.
 pub mod calls;
+pub mod listings;
 
 ghost use Rattle.basis.specs.Moments.{old, new};
 ghost use Rattle.marshalling.specs.Export.{CompactsBytesIn, ExpandsBytesIn};

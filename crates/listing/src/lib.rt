@@ -89,7 +89,7 @@ fn are_symbols(symbols: &[u32], edition: u32) -> bool
 }
 
 // Whether there is a list for what is given.
-fn is_listable(edition: u32, s: usize, symbols: &[u32]) -> bool
+fn is_listable(symbols: &[u32], s: usize, edition: u32) -> bool
     ensures { λ r. ⌜ r ≡ listable edition s (old symbols) ⌝ }
 {
     if !forms::is_converter_edition(edition) {
@@ -209,7 +209,7 @@ fn is_letter(symbols: &[u32], s: usize, c: u32) -> bool
 }
 
 // Whether a term stands in the list.
-fn is_listed(edition: u32, s: usize, symbols: &[u32], term: &[u32]) -> bool
+fn is_listed(symbols: &[u32], s: usize, term: &[u32], edition: u32) -> bool
     requires { ⌜ listable edition s (now symbols) ≡ true ⌝ }
     ensures { λ r. ⌜ r ≡ isListed edition s (old symbols) (old term) ⌝ }
 {
@@ -410,10 +410,10 @@ fn offer(found: bool, term: &[u32; MOST_LISTED], s: usize, out: &mut [u32]) -> L
 }
 
 // The first call of s cells over the symbols, in an edition.
-pub fn first_term(edition: u32, s: usize, symbols: &[u32], out: &mut [u32]) -> Listing
+pub fn first_term(symbols: &[u32], s: usize, out: &mut [u32], edition: u32) -> Listing
     ensures { λ r. ⌜ GivesFirst edition s (old symbols) (old out) r (new out) ⌝ }
 {
-    if !is_listable(edition, s, symbols) {
+    if !is_listable(symbols, s, edition) {
         return Listing::Refused(LISTING);
     }
     let sums = sums_of(symbols, edition);
@@ -424,18 +424,18 @@ pub fn first_term(edition: u32, s: usize, symbols: &[u32], out: &mut [u32]) -> L
 
 // The call after a given one in the list of those of s cells over the symbols, in an edition.
 pub fn term_after(
-    edition: u32,
-    s: usize,
     symbols: &[u32],
+    s: usize,
     given: &[u32],
     out: &mut [u32],
+    edition: u32,
 ) -> Listing
     ensures { λ r. ⌜ GivesAfter edition s (old symbols) (old given) (old out) r (new out) ⌝ }
 {
-    if !is_listable(edition, s, symbols) {
+    if !is_listable(symbols, s, edition) {
         return Listing::Refused(LISTING);
     }
-    if !is_listed(edition, s, symbols, given) {
+    if !is_listed(symbols, s, given, edition) {
         return Listing::Refused(LISTED);
     }
     let sums = sums_of(symbols, edition);

@@ -3,3 +3,4 @@ pub mod WordLaws
 pub mod FaultBounds
 pub mod BuildBounds
 pub mod Exports
+pub mod ListingBounds

@@ -1,5 +1,7 @@
 pub mod Words
 pub mod Bounded
 pub mod Exports
+pub mod Listings
+pub mod ListingExamples
 pub mod Examples
 pub mod ExportExamples

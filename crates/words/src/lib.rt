@@ -1,4 +1,6 @@
 // The result word of each answer: what was answered in its upper half, the value in its lower.
+pub mod listings;
+
 use basis::refusals::HEADER;
 use basis::refusals::OUT;
 use basis::refusals::RECORDS;
@@ -74,7 +76,7 @@ pub fn result_word(what: u32, value: u32) -> u64
 
 // The word of a refusal without a value: of every one but 12. A bound keeps the sum within a cell.
 pub fn refusal_word(r: u32) -> u64
-    requires { ⌜ r ≤ 22 ⌝ }
+    requires { ⌜ r ≤ 24 ⌝ }
     ensures { λ w. ⌜ w ≡ word (request.refused r) ⌝ }
 {
     result_word(REFUSED + r, 0)

@@ -14,10 +14,10 @@ use Rattle.listing.proofs.is_listed.Statement.{statement}
 use Rattle.listing.proofs.is_listed.Tie as tie
 
 abbrev Inv-loop : tie.InvT-loop
-Inv-loop edition s symbols term place₀ place = (place .at ≤ s) × (length term ≡ s) × (place .due ≤ 1 + 254 * place .at) × (isListed edition s symbols term ≡ Left edition s symbols term place)
+Inv-loop symbols s term edition place₀ place = (place .at ≤ s) × (length term ≡ s) × (place .due ≤ 1 + 254 * place .at) × (isListed edition s symbols term ≡ Left edition s symbols term place)
 
 abbrev μ-loop : tie.MeasureT-loop
-μ-loop edition s symbols term place₀ place = s - place .at
+μ-loop symbols s term edition place₀ place = s - place .at
 
 returns : tie.Need-returns Inv-loop μ-loop
 returns c = listed-length _ _ _ _ (c .if1 .taken)
