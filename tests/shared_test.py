@@ -3,6 +3,7 @@ import ctypes
 import sys
 
 NEW, OLD, OLD_OPEN, OLD_FINISHED, AT, NONE_YET, CELLS, COUNTS, NO_MORE, JOINED, BUILT, REFUSED = *range(1, 12), 256
+END = 16
 EDITION_2 = 2
 F2, G2, X, Y, A, B = 0x40000102, 0x40000202, 0x10000007, 0x10000009, 0x20000001, 0x20000002
 PAIR, EMPTY = 0x50000000, 0x20000000
@@ -26,13 +27,15 @@ ARGUMENTS = {
     "answer_indexed": SPACE + SPACE + [CELL] + SPACE,
     "join_indexed": SPACE + SPACE + [CELL, CELL] + SPACE + [CELL] + SPACE,
     "check": SPACE,
+    "first_term": SPACE + [SIZE] + SPACE + [CELL],
+    "term_after": SPACE + [SIZE] + SPACE + SPACE + [CELL],
     "compact": BYTES + BYTES + [CELL],
     "expand": BYTES + BYTES + [CELL],
 }
 
 
 def exports(path):
-    """The sixteen exports by their names."""
+    """The eighteen exports by their names."""
     library = ctypes.CDLL(path)
     found = {}
     for name, arguments in ARGUMENTS.items():
@@ -146,6 +149,22 @@ def try_index(call):
     said(0, "check", 0)
 
 
+def try_list(call):
+    """f(a, a), f(a, X), f(X, a), f(X, X), f(X, Y): every call of three cells over f/2 and a."""
+    symbols, x, y = cells([F2, A]), 0x10000000, 0x10000001
+    got, out = [], cells([0] * 3)
+    word = call["first_term"](*symbols, 3, *out, EDITION_2)
+    while divmod(word, 2**32) == (CELLS, 3):
+        got.append(list(out[0]))
+        out = cells([0] * 3)
+        word = call["term_after"](*symbols, 3, *cells(got[-1]), *out, EDITION_2)
+    expect("the end", divmod(word, 2**32), (END, 0))
+    expect("listed", got, [[F2, A, A], [F2, A, x], [F2, x, A], [F2, x, x], [F2, x, y]])
+    expect("23", divmod(call["first_term"](*symbols, 3, *out, 3), 2**32), (REFUSED + 23, 0))
+    expect("24", divmod(call["term_after"](*symbols, 3, *cells([A]), *out, EDITION_2), 2**32), (REFUSED + 24, 0))
+    expect("12", divmod(call["first_term"](*symbols, 3, *cells([]), EDITION_2), 2**32), (REFUSED + 12, 3))
+
+
 def try_converters(call):
     """[A, B] to its compact form and back."""
     term, form, out = [PAIR, A, PAIR, B, EMPTY], [BLIST, A, ELIST, B], data([0] * 8)
@@ -162,6 +181,7 @@ def main():
     try_table(call)
     try_join(call)
     try_index(call)
+    try_list(call)
     try_converters(call)
     print("shared_test: as expected")
 

@@ -52,6 +52,8 @@ enum export {
     ANSWER_INDEXED,
     JOIN_INDEXED,
     CHECK,
+    FIRST_TERM,
+    TERM_AFTER,
     COMPACT,
     EXPAND,
     EXPORTS
@@ -68,6 +70,7 @@ static const struct {
     {"tables_join", TABLES_STACK_JOIN},         {"tables_build", TABLES_STACK_BUILD},
     {"tables_call_indexed", TABLES_STACK_CALL}, {"tables_answer_indexed", TABLES_STACK_ANSWER},
     {"tables_join_indexed", TABLES_STACK_JOIN}, {"tables_check", TABLES_STACK_CHECK},
+    {"tables_first_term", TABLES_STACK_FIRST_TERM}, {"tables_term_after", TABLES_STACK_TERM_AFTER},
     {"tables_compact", TABLES_STACK_COMPACT},   {"tables_expand", TABLES_STACK_EXPAND},
 };
 
@@ -81,8 +84,19 @@ static const uint32_t pairs[2] = {0, 0}, copies[2] = {0, 0};
 static size_t pair_cells;
 static uint32_t slots[4096];
 static size_t slot_count = 64;
+static const uint32_t symbols[] = {F1, TABLES_FUNCTOR_CELL(TABLES_EDITION_1, 2, 7), A};
+static size_t symbol_count, size;
 static uint32_t out[TABLES_INSTANCE_CELLS];
 static uint64_t word;
+
+/* The lists of small terms. */
+static void make_listed(enum export export)
+{
+    size_t room = TABLES_LISTED_CELLS;
+    word = export == FIRST_TERM
+               ? tables_first_term(symbols, symbol_count, size, out, room, TABLES_EDITION_1)
+               : tables_term_after(symbols, symbol_count, size, cells, cell_count, out, room, TABLES_EDITION_1);
+}
 
 /* The calls that take an index, and the build of one. */
 static void make_indexed(enum export export)
@@ -137,6 +151,10 @@ static void make(enum export export)
         break;
     case CHECK:
         word = tables_check(space, space_cells);
+        break;
+    case FIRST_TERM:
+    case TERM_AFTER:
+        make_listed(export);
         break;
     case COMPACT:
         word = tables_compact(in, 4 * cell_count, out_bytes, sizeof out, TABLES_EDITION_1);
@@ -640,9 +658,26 @@ static void measure_builds(void)
     slot_count = 64;
 }
 
+/* Whole lists over up to three symbols: after the last term the search goes all the way back. */
+static void measure_lists(void)
+{
+    for (symbol_count = 0; symbol_count <= 3; symbol_count++)
+        for (size = 0; size <= TABLES_LISTED_CELLS + 1; size++) {
+            snprintf(input_name, sizeof input_name, "the list of %zu cells over %zu symbols", size, symbol_count);
+            measure(FIRST_TERM, input_name);
+            cell_count = size;
+            while (tables_what(word) == TABLES_CELLS) {
+                memcpy(cells, out, cell_count * sizeof *cells);
+                measure(TERM_AFTER, input_name);
+            }
+            measure(TERM_AFTER, input_name); /* the last once more, or what is refused */
+        }
+}
+
 static void measure_all(void)
 {
     measure_builds();
+    measure_lists();
     for (unsigned unit = 0; repeat_unit(unit, 1, false); unit++)
         for (size_t i = 0; i < TERM_LENGTHS; i++) {
             repeat_unit(unit, term_lengths[i], false);
