@@ -291,15 +291,16 @@ static inline uint32_t tables_edition(const uint32_t *space, size_t space_cells)
  * No call uses more bytes of the stack than this, whatever it is lent. Beside each
  * bound stands the most that was measured with the archive's code on x86-64, by
  * tests/stack_test.c, which searches for the worst input and fails above the bound;
- * the bounds leave about a quarter to spare, or more. The worst inputs are lists that
+ * the bounds leave about a fifth to spare, or more. The worst inputs are lists that
  * begin in lists and do not end: 256 pairs for what reads terms, and marks BLIST for
  * what reads forms and paths.
  *
  * What is measured is all that lies below the caller's frame, in a program that is
  * linked to a shared C library and has called nothing of it before. There tables_fresh
- * and tables_build call memset for the first time: the dynamic linker looks it up (lazy
- * binding) and keeps the vector registers on the same stack, which takes some 3,100
- * bytes with glibc 2.36 on a processor with AVX-512. Once it has been called, or where
+ * and tables_build call memset for the first time, and the two calls that list terms
+ * memcpy: the dynamic linker looks it up (lazy binding) and keeps the vector registers
+ * on the same stack, which takes some 3,100 bytes with glibc 2.36 on a processor with
+ * AVX-512. Once it has been called, or where
  * all is bound at the start, they use 56 and 104 bytes. Where the exports stand in a
  * shared object, the first call of each is looked up so too, which takes as much.
  */
@@ -315,8 +316,8 @@ enum tables_stack {
     TABLES_STACK_JOIN = 72704,     /* 57,632; so too */
     TABLES_STACK_BUILD = 4096,     /* 3,288 */
     TABLES_STACK_CHECK = 58368,    /* 46,960 */
-    TABLES_STACK_FIRST_TERM = 4096,
-    TABLES_STACK_TERM_AFTER = 4096,
+    TABLES_STACK_FIRST_TERM = 4096, /* 3,400 */
+    TABLES_STACK_TERM_AFTER = 4096, /* 3,368 */
     TABLES_STACK_COMPACT = 92160,  /* 69,544 */
     TABLES_STACK_EXPAND = 57344    /* 45,744 */
 };

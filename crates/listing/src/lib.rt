@@ -380,7 +380,13 @@ fn advance(
         return true;
     }
     let later = place_of(symbols, c) + 1;
-    let Choice::Cell(d) = choose(symbols, later, place, s, sums, edition) else {
+    // The place is written anew, so that its own copy is never lent and stays in registers.
+    let here = Spot {
+        at: at,
+        known: place.known,
+        due: place.due,
+    };
+    let Choice::Cell(d) = choose(symbols, later, here, s, sums, edition) else {
         return false;
     };
     term[at] = d;
