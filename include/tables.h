@@ -300,9 +300,9 @@ static inline uint32_t tables_edition(const uint32_t *space, size_t space_cells)
  * and tables_build call memset for the first time, and the two calls that list terms
  * memcpy: the dynamic linker looks it up (lazy binding) and keeps the vector registers
  * on the same stack, which takes some 3,100 bytes with glibc 2.36 on a processor with
- * AVX-512. Once it has been called, or where
- * all is bound at the start, they use 56 and 104 bytes. Where the exports stand in a
- * shared object, the first call of each is looked up so too, which takes as much.
+ * AVX-512. Once it has been called, or where all is bound at the start, these four use
+ * 56, 104, 264 and 2,128 bytes. Where the exports stand in a shared object, the first
+ * call of each is looked up so too, which takes as much.
  */
 enum tables_stack {
     TABLES_STACK_FRESH = 4096,     /* 3,240 */

@@ -1,4 +1,4 @@
--- The proof of the cycle of calls {advance}: what is found place-after the place is taken, and else the next cell is put there. The measure is
+-- The proof of the cycle of calls {advance}: what is found after the place is taken, and else the next cell is put there. The measure is
 -- the cells left.
 use Prim.Native.Nat.{ℕ, _-_, _<_}
 use mathlib.Core.Path.{refl, sym, _∙_}
