@@ -1,1439 +1,1535 @@
 /*
- * The calls on the cells of a space, sound or damaged: the tests' second opinion.
+ * The calls on arbitrary cells, written from the request and its readings alone.
  *
- * Written from the request alone and for reading beside it. "01" is the request, "Q-7" the later
- * one on editions, "Q-2" that on joins, "Q-1" that on the end of next, "Q-4" that on finished
- * subgoals and "Q-5" that on the index, "OP 9" the ninth open point in 01 and "OP2 9" in the later
- * ones; words in quotation marks are theirs. Only the result words (TABLES_...) come from tables.h.
+ * Each call is done here as documents 01 and 02 and the readings say it, on whatever cells a space, an index and the arguments
+ * hold: the word that it returns and every cell that it leaves. It is plain and slow. Of document 02 it has Q-1 to Q-5 and Q-7.
  *
- * Every call reads and judges first, in the order of 01's table of refusals as the later requests
- * change it, and writes only when nothing is left to refuse: so "a refusal changes nothing". The parts, from top to bottom: the
- * numbers of the request; pair form to compact form; compact form to pair form; the header and the
- * records; judging a record; the index; the walk down a trie and the path up; writing; the calls;
- * the join, which alone takes memory of its own for what it has read; the build of an index.
- *
- * Call, answer and join are written once, with an index: those without one are lent an index of no
- * cells (OP2 32).
+ * In the comments '01' and '02' are the two documents and 'readings' is the page of readings, with a section's or a paragraph's
+ * first words and the number in that section. Numbers alone above a call are its refusals, in the order of their checks.
  */
 #include "cells_model.h"
 
+#include <stdbool.h>
+
 #include "../include/tables.h"
 
-#include <stdbool.h>
-#include <stdio.h>
-#include <stdlib.h>
-#include <string.h>
-
-/* ---- The numbers of the request ------------------------------------------------------------- */
-
-/* 01, "Cells and terms", and the limits of "The space". */
-enum kind { VARIABLE = 1, ATOM, INTEGER, FUNCTOR, PAIR, BLIST, ELIST, EPAIR };
-enum { PAYLOAD_BITS = 28, ARITIES_1 = 16, ARITIES_2 = 256 };
-enum { MOST_TERM_CELLS = 256, MOST_VARIABLES = 32, MOST_COMPACT_CELLS = 383 };
-enum { LEAST_NODES = 1, MOST_RECORDS = 1048576 };
-enum { MOST_PAIRS = 32 };    /* Q-2 */
-enum { MOST_UNINDEXED = 8 }; /* Q-5: "for each node of more than 8 children" */
-
-/* 01, "Where each refusal is checked". 13 is the converters' alone: when loaded it is 9 (OP 21). */
-enum refusal {
-    ACCEPTED = 0, BAD_HEADER = 1, BAD_FRESH = 2, BAD_TERM = 3, TOO_LONG = 4,
-    TOO_MANY_VARIABLES = 5, BAD_PREDICATE = 6, BAD_NUMBER = 7, FINISHED_ALREADY = 8,
-    DAMAGED = 9, NO_NODES_LEFT = 10, NO_RECORD_LEFT = 11, OUT_TOO_SHORT = 12,
-    SOURCE_OPEN = 14, SOURCE_VARIABLE = 15, BAD_NAMES = 16, BAD_SLOTS = 17
+enum {
+    HEADER_CELLS = 8,
+    NODE_CELLS = 5,
+    SUBGOAL_CELLS = 6,
+    ANSWER_CELLS = 3,
+    MOST_RECORDS = 1048576, /* of each sort (01, The space) */
+    MOST_CELLS = 256,       /* of a term, or of an answer's terms together */
+    MOST_VARIABLES = 32,
+    MOST_TOKENS = 383, /* of a stored form */
+    MOST_PAIRS = 32,   /* of a join (02, Q-2) */
+    CROWDED = 8,       /* a node of more children than this has them in an index (02, Q-5) */
+    KEPT = 2048        /* the answers of a join's second source that are kept as loaded; others are loaded again */
 };
 
-/* 01, "The space": the fields of the header and of each record, in order, and their number. */
-enum header_field {
-    EDITION, NODES_USED, SUBGOALS_USED, ANSWERS_USED,
-    NODE_OFFSET, SUBGOAL_OFFSET, ANSWER_OFFSET, END, HEADER_CELLS
+#define EMPTY_LIST UINT32_C(0x20000000)
+#define PAIR_CELL UINT32_C(0x50000000)
+#define BLIST_CELL UINT32_C(0x60000000)
+#define ELIST_CELL UINT32_C(0x70000000)
+#define EPAIR_CELL UINT32_C(0x80000000)
+
+struct cells_model_met cells_model_met;
+
+/* Words (the interface: what came of a call above, its value below). */
+
+static uint64_t word_of(uint32_t what, uint32_t value)
+{
+    return (uint64_t)what << 32 | value;
+}
+
+static uint64_t refused(uint32_t number)
+{
+    return word_of(TABLES_CALL_REFUSED + number, 0);
+}
+
+/* 12 alone carries a value: the cells needed. */
+static uint64_t refused_out(uint32_t need)
+{
+    return word_of(TABLES_CALL_REFUSED + TABLES_REFUSED_OUT, need);
+}
+
+/* The header (01, The space; refusal 1). */
+
+struct table {
+    const uint32_t *cells;
+    uint32_t edition;
+    uint32_t most_nodes;
+    uint32_t most_subgoals;
+    uint32_t most_answers;
+    uint32_t subgoals_at;
+    uint32_t answers_at;
 };
-enum node_field { TOKEN, FIRST_CHILD, NEXT_SIBLING, PARENT, LINK, NODE_CELLS };
-enum subgoal_field { GOAL_LEAF, ANSWER_ROOT, M, STATE, FIRST_ANSWER, LAST_ANSWER, SUBGOAL_CELLS };
-enum answer_field { ANSWER_LEAF, ANSWER_SUBGOAL, NEXT_ANSWER, ANSWER_CELLS };
 
-enum { NONE = 0, SUBGOAL_ROOT = 0, ROOT_TOKEN = 0, FREE_SLOT = 0 };
-enum state { OPEN = 0, FINISHED = 1 };
-
-#define CELL(kind, payload) ((uint32_t)(kind) << PAYLOAD_BITS | (uint32_t)(payload))
-#define EMPTY_LIST CELL(ATOM, 0)
-
-static uint32_t kind_of(uint32_t cell)
+/* The three counts are read in the header each time, since a join raises them while it writes. */
+static uint32_t nodes_used(const struct table *table)
 {
-    return cell >> PAYLOAD_BITS;
+    return table->cells[1];
 }
 
-static uint32_t payload_of(uint32_t cell)
+static uint32_t subgoals_used(const struct table *table)
 {
-    return cell & ((UINT32_C(1) << PAYLOAD_BITS) - 1);
+    return table->cells[2];
 }
 
-static bool is_edition(uint32_t edition)
+static uint32_t answers_used(const struct table *table)
+{
+    return table->cells[3];
+}
+
+/* Q-7: editions 1 and 2. Those of Q-9 and Q-13 have not landed. */
+static bool known_edition(uint32_t edition)
 {
     return edition == 1 || edition == 2;
 }
 
-/* 01: "name x 16 + arity"; Q-7: "Edition 2 spaces read a functor payload as name x 256 + arity". */
-static uint32_t arity_of(uint32_t edition, uint32_t functor)
+/* A capacity by two offsets: whole, and in range. Offsets that fall are out of range (readings, Damaged spaces 16). */
+static bool read_capacity(uint32_t from, uint32_t to, uint32_t width, uint32_t least, uint32_t *records)
 {
-    return payload_of(functor) % (edition == 1 ? ARITIES_1 : ARITIES_2);
+    if (to < from || (to - from) % width != 0)
+        return false;
+    *records = (to - from) / width;
+    return *records >= least && *records <= MOST_RECORDS;
 }
 
-/* ---- Pair form to compact form -------------------------------------------------------------- */
+static bool read_header(struct table *table, const uint32_t *space, size_t length)
+{
+    if (length < HEADER_CELLS)
+        return false;
+    table->cells = space;
+    table->edition = space[0];
+    table->subgoals_at = space[5];
+    table->answers_at = space[6];
+    if (!known_edition(space[0]) || space[4] != HEADER_CELLS)
+        return false;
+    if (!read_capacity(space[4], space[5], NODE_CELLS, 1, &table->most_nodes) ||
+        !read_capacity(space[5], space[6], SUBGOAL_CELLS, 0, &table->most_subgoals) ||
+        !read_capacity(space[6], space[7], ANSWER_CELLS, 0, &table->most_answers))
+        return false;
+    return space[7] <= length && space[1] != 0 && space[1] <= table->most_nodes && space[2] <= table->most_subgoals &&
+           space[3] <= table->most_answers;
+}
 
-/* Terms in pair form, with the number of their distinct variables. */
-struct terms {
-    uint32_t cells[MOST_TERM_CELLS];
-    size_t count;
-    uint32_t variables;
+/* The records (01, The space). */
+
+struct node {
+    uint32_t token;
+    uint32_t child;
+    uint32_t sibling;
+    uint32_t parent;
+    uint32_t link;
 };
 
-/* The same in compact form. */
-struct form {
-    uint32_t cells[MOST_COMPACT_CELLS];
-    size_t count;
-    uint32_t variables;
+struct subgoal {
+    uint32_t leaf;
+    uint32_t root;
+    uint32_t variables; /* m */
+    uint32_t state;
+    uint32_t first;
+    uint32_t last;
 };
+
+struct answer {
+    uint32_t leaf;
+    uint32_t subgoal;
+    uint32_t next;
+};
+
+static size_t node_place(uint32_t node)
+{
+    return HEADER_CELLS + (size_t)NODE_CELLS * node;
+}
+
+static size_t subgoal_place(const struct table *table, uint32_t subgoal)
+{
+    return table->subgoals_at + (size_t)SUBGOAL_CELLS * (subgoal - 1);
+}
+
+static size_t answer_place(const struct table *table, uint32_t answer)
+{
+    return table->answers_at + (size_t)ANSWER_CELLS * (answer - 1);
+}
+
+/* Each of the three is asked only for a number that lies within the counts. */
+static struct node node_of(const struct table *table, uint32_t number)
+{
+    const uint32_t *at = table->cells + node_place(number);
+    return (struct node){at[0], at[1], at[2], at[3], at[4]};
+}
+
+static struct subgoal subgoal_of(const struct table *table, uint32_t number)
+{
+    const uint32_t *at = table->cells + subgoal_place(table, number);
+    return (struct subgoal){at[0], at[1], at[2], at[3], at[4], at[5]};
+}
+
+static struct answer answer_of(const struct table *table, uint32_t number)
+{
+    const uint32_t *at = table->cells + answer_place(table, number);
+    return (struct answer){at[0], at[1], at[2]};
+}
+
+/* Refusal 7: 0, or above its count. */
+static bool is_subgoal(const struct table *table, uint32_t number)
+{
+    return number != 0 && number <= subgoals_used(table);
+}
+
+static bool is_answer(const struct table *table, uint32_t number)
+{
+    return number != 0 && number <= answers_used(table);
+}
+
+/* Judging a record that is read (01, A damaged record is never followed). */
+
+/* Which count a link is held to is told by the root that a walk starts from or ends at (readings, Damaged spaces 11). */
+enum trie { SUBGOAL_TRIE, ANSWER_TRIE };
+
+static uint32_t most_link(const struct table *table, enum trie trie)
+{
+    return trie == SUBGOAL_TRIE ? subgoals_used(table) : answers_used(table);
+}
+
+/* A child or a sibling: none, or above the node that it comes from and below the nodes used. */
+static bool later_node(const struct table *table, uint32_t from, uint32_t to)
+{
+    return to == 0 || (to > from && to < nodes_used(table));
+}
 
 /*
- * How many terms follow a cell: "a functor followed by its arguments, a pair by head and tail".
- * NOT_LEGAL by refusal 3: "a kind other than 1 to 5, arity 0, a pair payload not 0".
+ * A node's own numbers, the link apart. A parent above the node is damage by itself; whether it is the expected one is judged
+ * where the node is met (readings, Damaged spaces 18). Tokens are not judged here: a token names no record.
  */
-enum { NOT_LEGAL = -1 };
-
-static int terms_after(uint32_t edition, uint32_t cell)
+static bool places_sound(const struct table *table, uint32_t number, const struct node *node)
 {
-    switch (kind_of(cell)) {
-    case VARIABLE:
-    case ATOM:
-    case INTEGER:
-        return 0;
-    case FUNCTOR:
-        return arity_of(edition, cell) != 0 ? (int)arity_of(edition, cell) : NOT_LEGAL;
-    case PAIR:
-        return payload_of(cell) == 0 ? 2 : NOT_LEGAL;
-    default:
-        return NOT_LEGAL;
-    }
+    return later_node(table, number, node->child) && later_node(table, number, node->sibling) && node->parent <= number;
 }
 
-/* The cells that so many terms take at the start of the cells; false: a bad cell, or too few. */
-static bool measure(uint32_t edition, uint32_t terms, const uint32_t *cells, size_t count,
-                    size_t *taken)
+static bool node_sound(const struct table *table, enum trie trie, uint32_t number, const struct node *node)
 {
-    uint32_t due = terms;
-    size_t at = 0;
-    for (; due != 0; at++) {
-        if (at == count || terms_after(edition, cells[at]) == NOT_LEGAL)
-            return false;
-        due = due - 1 + (uint32_t)terms_after(edition, cells[at]);
-    }
-    *taken = at;
-    return true;
+    return places_sound(table, number, node) && node->link <= most_link(table, trie);
 }
 
-/* "Each variable's payload is its rank, from 0, by first meeting". False: over 32 distinct. */
-static bool number_variables(const uint32_t *cells, size_t count, struct terms *numbered)
+/* A node read as a root is its own parent (readings, Damaged spaces 2). */
+static bool root_sound(const struct table *table, enum trie trie, uint32_t number)
 {
-    uint32_t met[MOST_VARIABLES];
-    uint32_t variables = 0;
-    for (size_t i = 0; i < count; i++) {
-        numbered->cells[i] = cells[i];
-        if (kind_of(cells[i]) != VARIABLE)
-            continue;
-        uint32_t rank = 0;
-        while (rank < variables && met[rank] != cells[i])
-            rank++;
-        if (rank == MOST_VARIABLES)
-            return false;
-        if (rank == variables)
-            met[variables++] = cells[i];
-        numbered->cells[i] = CELL(VARIABLE, rank);
-    }
-    numbered->count = count;
-    numbered->variables = variables;
-    return true;
+    struct node node = node_of(table, number);
+    return node.parent == number && node_sound(table, trie, number, &node);
 }
 
-/* Numbered terms, read from `at` on, and the form that is written behind its count. */
-struct compacting {
-    uint32_t edition;
-    const struct terms *from;
-    size_t at;
-    struct form *to;
+/* Leaf and answer root may be 0, which is in range (readings, Damaged spaces 4). */
+static bool subgoal_sound(const struct table *table, const struct subgoal *subgoal)
+{
+    return subgoal->leaf < nodes_used(table) && subgoal->root < nodes_used(table) && subgoal->variables <= MOST_VARIABLES &&
+           subgoal->state <= 1 && subgoal->first <= answers_used(table) && subgoal->last <= answers_used(table) &&
+           (subgoal->first == 0) == (subgoal->last == 0);
+}
+
+/* A next answer is above its predecessor; the subgoal may not be 0, which means none only where 01 says so. */
+static bool answer_sound(const struct table *table, uint32_t number, const struct answer *answer)
+{
+    return answer->leaf < nodes_used(table) && is_subgoal(table, answer->subgoal) &&
+           (answer->next == 0 || (answer->next > number && answer->next <= answers_used(table)));
+}
+
+/* Terms in pair form, read (01, Cells and terms; 02, Q-3 and Q-7). */
+
+struct form {
+    size_t count;
+    uint32_t tokens[MOST_TOKENS];
 };
 
-static void put_token(struct compacting *c, uint32_t token)
+static uint32_t functor_arity(uint32_t edition, uint32_t cell)
 {
-    c->to->cells[c->to->count++] = token;
+    return cell & (edition == 1 ? 15 : 255);
+}
+
+/* The arity of a legal cell of pair form: a pair has 2, a constant or variable 0. */
+static uint32_t cell_arity(uint32_t edition, uint32_t cell)
+{
+    switch (TABLES_KIND(cell)) {
+    case TABLES_FUNCTOR:
+        return functor_arity(edition, cell);
+    case TABLES_PAIR:
+        return 2;
+    default:
+        return 0;
+    }
+}
+
+static bool legal_cell(uint32_t edition, uint32_t cell)
+{
+    switch (TABLES_KIND(cell)) {
+    case TABLES_VARIABLE:
+    case TABLES_ATOM:
+    case TABLES_INTEGER:
+        return true;
+    case TABLES_FUNCTOR:
+        return functor_arity(edition, cell) != 0;
+    case TABLES_PAIR:
+        return cell == PAIR_CELL;
+    default:
+        return false;
+    }
+}
+
+/* Whether the cells are exactly so many terms: the sum of Q-3 is 0 after the last cell and never before one. */
+static bool exactly_terms(uint32_t edition, const uint32_t *cells, size_t count, uint32_t terms)
+{
+    uint32_t due = terms;
+
+    for (size_t i = 0; i < count; i++) {
+        if (due == 0 || !legal_cell(edition, cells[i]))
+            return false;
+        due = due + cell_arity(edition, cells[i]) - 1;
+    }
+    return due == 0;
+}
+
+/* The distinct variables in order of first meeting. */
+struct names {
+    uint32_t count;
+    uint32_t cells[MOST_VARIABLES];
+};
+
+static uint32_t rank_of(const struct names *names, uint32_t cell)
+{
+    uint32_t rank = 0;
+
+    while (rank < names->count && names->cells[rank] != cell)
+        rank++;
+    return rank;
+}
+
+/* False where they are over 32 (refusal 5). */
+static bool meet_variables(struct names *names, const uint32_t *cells, size_t count)
+{
+    names->count = 0;
+    for (size_t i = 0; i < count; i++) {
+        if (TABLES_KIND(cells[i]) != TABLES_VARIABLE || rank_of(names, cells[i]) < names->count)
+            continue;
+        if (names->count == MOST_VARIABLES)
+            return false;
+        names->cells[names->count++] = cells[i];
+    }
+    return true;
+}
+
+/* Writing the compact form of legal terms. Of at most 256 cells it is at most 383 tokens, so that a form has room. */
+struct compacting {
+    uint32_t edition;
+    const uint32_t *cells;
+    size_t at;
+    const struct names *names;
+    struct form *form;
+};
+
+static void put_token(struct compacting *to, uint32_t token)
+{
+    to->form->tokens[to->form->count++] = token;
+}
+
+static size_t term_end(const struct compacting *from, size_t at)
+{
+    uint32_t due = 1;
+
+    while (due != 0)
+        due = due + cell_arity(from->edition, from->cells[at++]) - 1;
+    return at;
 }
 
 static void compact_list(struct compacting *c);
 
 static void compact_term(struct compacting *c)
 {
-    uint32_t cell = c->from->cells[c->at];
-    if (kind_of(cell) == PAIR) {
+    uint32_t cell = c->cells[c->at];
+    uint32_t arity = cell_arity(c->edition, cell);
+
+    if (cell == PAIR_CELL) {
         compact_list(c);
         return;
     }
     c->at++;
-    put_token(c, cell);
-    for (int due = terms_after(c->edition, cell); due > 0; due--)
+    put_token(c, TABLES_KIND(cell) == TABLES_VARIABLE ? (uint32_t)TABLES_VARIABLE << 28 | rank_of(c->names, cell) : cell);
+    for (uint32_t i = 0; i < arity; i++)
         compact_term(c);
 }
 
-/* The first cell of the tail of the pair that stands next. */
-static uint32_t tail_of_pair(const struct compacting *c)
-{
-    size_t head = c->at + 1;
-    size_t head_cells = 0;
-    (void)measure(c->edition, 1, c->from->cells + head, c->from->count - head, &head_cells);
-    return c->from->cells[head + head_cells];
-}
-
-/*
- * "Elements e1 to en ending in []: BLIST, e1 to e(n-1), ELIST, en. Elements e1 to en ending in t,
- * which is neither [] nor a pair: BLIST, e1 to en, EPAIR, t." A pair stands next.
- */
+/* BLIST e1 .. ELIST en, where the list ends in []; BLIST e1 .. en EPAIR t, where it ends in t. */
 static void compact_list(struct compacting *c)
 {
-    uint32_t tail;
-    put_token(c, CELL(BLIST, 0));
-    do {
-        tail = tail_of_pair(c);
+    put_token(c, BLIST_CELL);
+    for (;;) {
+        size_t tail = term_end(c, c->at + 1);
+
         c->at++;
-        if (tail == EMPTY_LIST)
-            put_token(c, CELL(ELIST, 0));
+        if (c->cells[tail] == EMPTY_LIST) {
+            put_token(c, ELIST_CELL);
+            compact_term(c);
+            c->at = tail + 1;
+            return;
+        }
         compact_term(c);
-    } while (kind_of(tail) == PAIR);
-    if (tail == EMPTY_LIST) {
-        c->at++;
-    } else {
-        put_token(c, CELL(EPAIR, 0));
-        compact_term(c);
+        if (c->cells[tail] != PAIR_CELL) {
+            put_token(c, EPAIR_CELL);
+            compact_term(c);
+            return;
+        }
     }
 }
 
-/* The compact form of exactly so many terms. "4 looks at the whole argument first" (OP 18). */
-static enum refusal compact(uint32_t edition, uint32_t terms, const uint32_t *cells, size_t count,
-                            struct form *form)
+/*
+ * Reads the cells of an argument as so many terms: 4 over the whole argument, then 3 over all cells, then 5 (readings, Terms 1).
+ * The refusal's number, or 0 with the form of the terms and their distinct variables.
+ */
+static uint32_t read_terms(uint32_t edition, const uint32_t *cells, size_t count, uint32_t terms, struct form *form,
+                           struct names *names)
 {
-    struct terms numbered;
-    size_t taken;
-    if (count > MOST_TERM_CELLS)
-        return TOO_LONG;
-    if (!measure(edition, terms, cells, count, &taken) || taken != count)
-        return BAD_TERM;
-    if (!number_variables(cells, count, &numbered))
-        return TOO_MANY_VARIABLES;
-    struct compacting c = {edition, &numbered, 0, form};
+    struct compacting c = {edition, cells, 0, names, form};
+
+    if (count > MOST_CELLS)
+        return TABLES_REFUSED_LENGTH;
+    if (!exactly_terms(edition, cells, count, terms))
+        return TABLES_REFUSED_TERM;
+    if (!meet_variables(names, cells, count))
+        return TABLES_REFUSED_VARIABLES;
     form->count = 0;
-    form->variables = numbered.variables;
     for (uint32_t i = 0; i < terms; i++)
         compact_term(&c);
-    return ACCEPTED;
+    return 0;
 }
 
-/* ---- Compact form to pair form -------------------------------------------------------------- */
+/* Stored forms, loaded (01, Cells and terms: exactly the compact forms of legal terms; readings, Terms 3 and 4). */
 
-/* A form, read from `at` on, and the terms that are written behind their count. */
-struct expanding {
-    uint32_t edition;
-    const uint32_t *tokens;
-    size_t count;
-    size_t at;
-    struct terms *to;
+struct terms {
+    uint32_t count;
+    uint32_t variables;
+    uint32_t starts[MOST_VARIABLES + 1]; /* where each term begins, and behind the last its end */
+    uint32_t cells[MOST_CELLS];
 };
 
-/* False: the terms would have more than 256 cells. */
+struct expanding {
+    uint32_t edition;
+    const struct form *form;
+    size_t at;
+    struct terms *terms;
+};
+
 static bool put_cell(struct expanding *e, uint32_t cell)
 {
-    if (e->to->count == MOST_TERM_CELLS)
+    if (e->terms->count == MOST_CELLS)
         return false;
-    e->to->cells[e->to->count++] = cell;
+    e->terms->cells[e->terms->count++] = cell;
     return true;
 }
 
-/* False: over 32 variables, or not numbered by first meeting. */
+/* A variable is one met before, or the next rank. */
 static bool expand_variable(struct expanding *e, uint32_t token)
 {
-    uint32_t rank = payload_of(token);
-    if (rank > e->to->variables || rank >= MOST_VARIABLES)
+    uint32_t rank = TABLES_PAYLOAD(token);
+
+    if (rank > e->terms->variables || rank >= MOST_VARIABLES)
         return false;
-    if (rank == e->to->variables)
-        e->to->variables++;
+    if (rank == e->terms->variables)
+        e->terms->variables++;
     return put_cell(e, token);
 }
 
 static bool expand_list(struct expanding *e);
 
-/* One term; false wherever the tokens are no legal compact form (here and in the two below). */
 static bool expand_term(struct expanding *e)
 {
-    if (e->at == e->count)
+    uint32_t token;
+
+    if (e->at == e->form->count)
         return false;
-    uint32_t token = e->tokens[e->at++];
-    switch (kind_of(token)) {
-    case VARIABLE:
+    token = e->form->tokens[e->at++];
+    switch (TABLES_KIND(token)) {
+    case TABLES_VARIABLE:
         return expand_variable(e, token);
-    case ATOM:
-    case INTEGER:
+    case TABLES_ATOM:
+    case TABLES_INTEGER:
         return put_cell(e, token);
-    case FUNCTOR:
-        if (arity_of(e->edition, token) == 0 || !put_cell(e, token))
+    case TABLES_FUNCTOR:
+        if (functor_arity(e->edition, token) == 0 || !put_cell(e, token))
             return false;
-        for (uint32_t due = arity_of(e->edition, token); due != 0; due--)
+        for (uint32_t i = 0; i < functor_arity(e->edition, token); i++) {
             if (!expand_term(e))
                 return false;
+        }
         return true;
-    case BLIST:
-        return payload_of(token) == 0 && expand_list(e);
+    case TABLES_BLIST:
+        return token == BLIST_CELL && expand_list(e);
     default:
         return false;
     }
 }
 
-/* Behind EPAIR: a term "which is neither [] nor a pair", so in compact form no list. */
-static bool expand_tail(struct expanding *e)
-{
-    if (e->at == e->count)
-        return false;
-    uint32_t token = e->tokens[e->at];
-    return token != EMPTY_LIST && kind_of(token) != BLIST && expand_term(e);
-}
-
-/* Behind BLIST. A mark with a payload is no mark (OP 20): expand_term turns it down. */
+/* Behind a BLIST. EPAIR stands behind at least one element (M7), and before neither [] (M8) nor a list. */
 static bool expand_list(struct expanding *e)
 {
-    for (size_t elements = 0; e->at != e->count; elements++) {
-        uint32_t token = e->tokens[e->at];
-        if (token == CELL(EPAIR, 0)) {
-            e->at++;
-            return elements != 0 && expand_tail(e);
-        }
-        if (!put_cell(e, CELL(PAIR, 0)))
+    for (bool element = false;; element = true) {
+        if (e->at == e->form->count)
             return false;
-        if (token == CELL(ELIST, 0)) {
+        if (e->form->tokens[e->at] == ELIST_CELL) {
             e->at++;
-            return expand_term(e) && put_cell(e, EMPTY_LIST);
+            return put_cell(e, PAIR_CELL) && expand_term(e) && put_cell(e, EMPTY_LIST);
         }
-        if (!expand_term(e))
+        if (e->form->tokens[e->at] == EPAIR_CELL) {
+            e->at++;
+            return element && e->at < e->form->count && e->form->tokens[e->at] != EMPTY_LIST &&
+                   e->form->tokens[e->at] != BLIST_CELL && expand_term(e);
+        }
+        if (!put_cell(e, PAIR_CELL) || !expand_term(e))
             return false;
     }
-    return false;
 }
 
-/* "Loading accepts exactly the compact forms of legal terms": so many, legal together. */
-static bool expand(uint32_t edition, uint32_t terms, const uint32_t *tokens, size_t count,
-                   struct terms *to)
+/* The form as exactly so many terms, at most 32, that are legal together. */
+static bool expand(uint32_t edition, const struct form *form, uint32_t count, struct terms *terms)
 {
-    struct expanding e = {edition, tokens, count, 0, to};
-    to->count = 0;
-    to->variables = 0;
-    for (uint32_t i = 0; i < terms; i++)
+    struct expanding e = {edition, form, 0, terms};
+
+    terms->count = 0;
+    terms->variables = 0;
+    for (uint32_t i = 0; i < count; i++) {
+        terms->starts[i] = terms->count;
         if (!expand_term(&e))
             return false;
-    return e.at == count;
-}
-
-/* ---- The header and the records ------------------------------------------------------------- */
-
-/* A space whose header is sound: its cells, edition, counts used and capacities. */
-struct space {
-    const uint32_t *cells;
-    uint32_t edition;
-    uint32_t nodes, subgoals, answers;
-    uint32_t node_room, subgoal_room, answer_room;
-};
-
-/* "A capacity by the offsets not whole or out of range"; falling offsets too (OP 16). */
-static bool read_capacity(uint32_t from, uint32_t to, uint32_t record_cells, uint32_t least,
-                          uint32_t *room)
-{
-    if (to < from || (to - from) % record_cells != 0)
-        return false;
-    *room = (to - from) / record_cells;
-    return least <= *room && *room <= MOST_RECORDS;
-}
-
-/* False: refusal 1. */
-static bool read_header(const uint32_t *cells, size_t length, struct space *s)
-{
-    if (length < HEADER_CELLS)
-        return false;
-    *s = (struct space){.cells = cells, .edition = cells[EDITION], .nodes = cells[NODES_USED],
-                        .subgoals = cells[SUBGOALS_USED], .answers = cells[ANSWERS_USED]};
-    return is_edition(s->edition) && cells[NODE_OFFSET] == HEADER_CELLS &&
-           read_capacity(cells[NODE_OFFSET], cells[SUBGOAL_OFFSET], NODE_CELLS, LEAST_NODES,
-                         &s->node_room) &&
-           read_capacity(cells[SUBGOAL_OFFSET], cells[ANSWER_OFFSET], SUBGOAL_CELLS, 0,
-                         &s->subgoal_room) &&
-           read_capacity(cells[ANSWER_OFFSET], cells[END], ANSWER_CELLS, 0, &s->answer_room) &&
-           cells[END] <= length && s->nodes != 0 && s->nodes <= s->node_room &&
-           s->subgoals <= s->subgoal_room && s->answers <= s->answer_room;
-}
-
-/* The places of a field: nodes are "numbered from 0", subgoals and answers "from 1". */
-static size_t node_at(uint32_t node, enum node_field field)
-{
-    return HEADER_CELLS + (size_t)NODE_CELLS * node + (size_t)field;
-}
-
-static size_t subgoal_at(const struct space *s, uint32_t subgoal, enum subgoal_field field)
-{
-    return s->cells[SUBGOAL_OFFSET] + (size_t)SUBGOAL_CELLS * (subgoal - 1) + (size_t)field;
-}
-
-static size_t answer_at(const struct space *s, uint32_t answer, enum answer_field field)
-{
-    return s->cells[ANSWER_OFFSET] + (size_t)ANSWER_CELLS * (answer - 1) + (size_t)field;
-}
-
-static uint32_t of_node(const struct space *s, uint32_t node, enum node_field field)
-{
-    return s->cells[node_at(node, field)];
-}
-
-static uint32_t of_subgoal(const struct space *s, uint32_t subgoal, enum subgoal_field field)
-{
-    return s->cells[subgoal_at(s, subgoal, field)];
-}
-
-static uint32_t of_answer(const struct space *s, uint32_t answer, enum answer_field field)
-{
-    return s->cells[answer_at(s, answer, field)];
-}
-
-/* ---- Judging a record ----------------------------------------------------------------------- */
-
-/*
- * "A record read is judged whole: a field that names another by its range, the other when it is
- * itself read." These judge a record's own fields; a number given to them is in range already.
- * What a record must be in its place (its expected parent, the same subgoal, that leaf) is asked
- * where it is read.
- */
-
-static bool is_node(const struct space *s, uint32_t number)
-{
-    return number < s->nodes;
-}
-
-static bool is_subgoal(const struct space *s, uint32_t number)
-{
-    return 1 <= number && number <= s->subgoals;
-}
-
-static bool is_answer(const struct space *s, uint32_t number)
-{
-    return 1 <= number && number <= s->answers;
+    }
+    terms->starts[count] = terms->count;
+    return e.at == form->count;
 }
 
 /*
- * Which trie a walk is in: said by the root that it starts from or ends at (OP 11), so by what the
- * walk is for. A damaged subgoal may name node 0 as its answer root (OP 4): from there too, answer
- * and load walk in an answer trie.
+ * The tokens from a root to a leaf, gathered from the leaf up (01, load). Every node is judged, the root that ends the path too,
+ * which must be the one expected; over 383 tokens are damage (readings, Damaged spaces 2, 7, 10 and 17).
  */
-enum trie { SUBGOAL_TRIE, ANSWER_TRIE };
-
-/* "A link is held to the subgoals in the subgoal trie, to the answers in an answer trie, its root
- * included". */
-static bool is_sound_link(const struct space *s, enum trie trie, uint32_t link)
+static bool gather(const struct table *table, enum trie trie, uint32_t leaf, uint32_t root, struct form *form)
 {
-    return link == NONE || (trie == SUBGOAL_TRIE ? is_subgoal(s, link) : is_answer(s, link));
+    uint32_t upward[MOST_TOKENS];
+    size_t count = 0;
+    uint32_t number = leaf;
+
+    for (;;) {
+        struct node node = node_of(table, number);
+
+        if (!node_sound(table, trie, number, &node))
+            return false;
+        if (node.parent == number)
+            break;
+        if (count == MOST_TOKENS)
+            return false;
+        upward[count++] = node.token;
+        number = node.parent;
+    }
+    form->count = count;
+    for (size_t i = 0; i < count; i++)
+        form->tokens[i] = upward[count - 1 - i];
+    return number == root;
 }
 
-/* "Child and sibling numbers must be above the node they come from, below the nodes used". */
-static bool is_sound_step(const struct space *s, uint32_t node, uint32_t to)
+/* The terms of an answer, whose record and whose subgoal's record are judged: exactly m (readings, Damaged spaces 8). */
+static bool load_answer(const struct table *table, const struct answer *answer, const struct subgoal *subgoal,
+                        struct terms *terms)
 {
-    return to == NONE || (to > node && is_node(s, to));
+    struct form form;
+
+    return gather(table, ANSWER_TRIE, answer->leaf, subgoal->root, &form) &&
+           expand(table->edition, &form, subgoal->variables, terms);
 }
 
-/* "Parents must be lower, or the node itself at a root". The token is not judged (OP 1). */
-static bool is_sound_node(const struct space *s, enum trie trie, uint32_t node)
+/* A subgoal's own term: one, with exactly m distinct variables. */
+static bool load_subgoal(const struct table *table, const struct subgoal *subgoal, struct terms *terms)
 {
-    return is_sound_step(s, node, of_node(s, node, FIRST_CHILD)) &&
-           is_sound_step(s, node, of_node(s, node, NEXT_SIBLING)) &&
-           of_node(s, node, PARENT) <= node && is_sound_link(s, trie, of_node(s, node, LINK));
+    struct form form;
+
+    return gather(table, SUBGOAL_TRIE, subgoal->leaf, 0, &form) && expand(table->edition, &form, 1, terms) &&
+           terms->variables == subgoal->variables;
 }
 
-/* A node read as a root has itself as parent (OP 2). */
-static bool is_sound_root(const struct space *s, enum trie trie, uint32_t node)
-{
-    return is_sound_node(s, trie, node) && of_node(s, node, PARENT) == node;
-}
+/* The search for a child (01, The search among siblings; 02, Q-5; readings, A slot and a sibling in turn). */
 
-/* Leaf and answer root may be 0 (OP 4). */
-static bool is_sound_subgoal(const struct space *s, uint32_t subgoal)
-{
-    uint32_t state = of_subgoal(s, subgoal, STATE);
-    uint32_t first = of_subgoal(s, subgoal, FIRST_ANSWER);
-    uint32_t last = of_subgoal(s, subgoal, LAST_ANSWER);
-    return is_node(s, of_subgoal(s, subgoal, GOAL_LEAF)) &&
-           is_node(s, of_subgoal(s, subgoal, ANSWER_ROOT)) &&
-           of_subgoal(s, subgoal, M) <= MOST_VARIABLES && (state == OPEN || state == FINISHED) &&
-           ((first == NONE && last == NONE) || (is_answer(s, first) && is_answer(s, last)));
-}
-
-/* "0 means none" for its next answer, not for its subgoal. */
-static bool is_sound_answer(const struct space *s, uint32_t answer)
-{
-    uint32_t next = of_answer(s, answer, NEXT_ANSWER);
-    return is_node(s, of_answer(s, answer, ANSWER_LEAF)) &&
-           is_subgoal(s, of_answer(s, answer, ANSWER_SUBGOAL)) &&
-           (next == NONE || (next > answer && is_answer(s, next)));
-}
-
-/* "A first, last or next one must name the same subgoal". */
-static bool is_sound_answer_of(const struct space *s, uint32_t answer, uint32_t subgoal)
-{
-    return is_sound_answer(s, answer) && of_answer(s, answer, ANSWER_SUBGOAL) == subgoal;
-}
-
-/* ---- The index ------------------------------------------------------------------------------ */
-
-/* "A second lent array, ... one cell a slot", as a call reads it. */
-struct index {
+struct search {
+    const struct table *table;
+    enum trie trie;
     const uint32_t *slots;
-    size_t count;
+    size_t slot_count;
+    uint32_t stood; /* the nodes used when the call began */
 };
 
-static const struct index no_index = {NULL, 0};
-
-struct cells_model_met cells_model_met;
-
-/* "Of power-of-two size"; 0 is none, 1 is one (OP2 38, 41). */
-static bool is_power_of_two(size_t count)
+static bool power_of_two(size_t number)
 {
-    while (count > 1 && count % 2 == 0)
-        count /= 2;
-    return count == 1;
+    return number != 0 && (number & (number - 1)) == 0;
 }
 
-/* "The slot is the 32-bit wrapping sum of both modulo the size". */
-static size_t slot_of(uint32_t parent, uint32_t token, size_t slots)
+static struct search search_of(const struct table *table, enum trie trie, const uint32_t *slots, size_t slot_count)
 {
-    return (uint32_t)(parent + token) % slots;
+    return (struct search){table, trie, slots, slot_count, nodes_used(table)};
 }
 
-/* "The next .. one around". */
-static size_t slot_after(size_t slot, size_t slots)
+enum met { CHILD, OTHER, LAST, DAMAGED };
+
+/* The child found, or the last sibling, 0 where there is none; a number that is of no account where damage was met. */
+struct met_child {
+    enum met met;
+    uint32_t node;
+};
+
+/* A node compared is judged whole before its token is looked at, the child too (readings, Damaged spaces 9). */
+static enum met compare(const struct search *search, uint32_t number, uint32_t parent, uint32_t token)
 {
-    return slot + 1 == slots ? 0 : slot + 1;
+    struct node node = node_of(search->table, number);
+
+    if (!node_sound(search->table, search->trie, number, &node) || node.parent != parent)
+        return DAMAGED;
+    if (node.token == token)
+        return CHILD;
+    return node.sibling == 0 ? LAST : OTHER;
 }
 
-/* "An entry counts only if the node record confirms it": "below the nodes used and above the
- * parent, and its record has this parent and this token" (OP2 36). */
-static bool is_confirmed(const struct space *s, uint32_t entry, uint32_t parent, uint32_t token)
+/* An entry counts only if its node confirms it: above the parent, below the nodes used, with this parent and this token. */
+static bool confirmed(const struct search *search, uint32_t entry, uint32_t parent, uint32_t token)
 {
-    return entry > parent && is_node(s, entry) && of_node(s, entry, PARENT) == parent &&
-           of_node(s, entry, TOKEN) == token;
+    struct node node;
+
+    if (entry <= parent || entry >= nodes_used(search->table))
+        return false;
+    node = node_of(search->table, entry);
+    return node.parent == parent && node.token == token;
 }
 
-/* A lookup on its way: the slot that is due, or no more once a free one was met. */
+/* The slots of one search: where it looks, and whether it still does. */
 struct lookup {
-    bool goes_on;
+    bool going;
     size_t slot;
 };
 
-/* "An index of another size goes to the sibling chain", from the start. */
-static struct lookup begin_lookup(const struct index *index, uint32_t parent, uint32_t token)
+static struct lookup lookup_of(const struct search *search, uint32_t parent, uint32_t token)
 {
-    bool goes_on = is_power_of_two(index->count);
-    return (struct lookup){goes_on, goes_on ? slot_of(parent, token, index->count) : 0};
+    struct lookup lookup = {power_of_two(search->slot_count), 0};
+
+    if (lookup.going)
+        lookup.slot = (uint32_t)(parent + token) % search->slot_count;
+    return lookup;
 }
 
 /*
- * The entry of the slot that is due, if it is the child; else none, and the next slot is due. "A
- * free slot ends it as a miss; an entry that is not confirmed is passed over" and never judged
- * (OP2 35, 36).
+ * One turn's slot beside a sibling: the entry that is the child, or 0. Beside a sibling that did not stand when the call began
+ * the slot is not looked in and counts as free; a free slot ends the lookup.
  */
-static uint32_t look_up(const struct space *s, const struct index *index, struct lookup *lookup,
-                        uint32_t parent, uint32_t token)
+static uint32_t look_in(const struct search *search, struct lookup *lookup, uint32_t sibling, uint32_t parent, uint32_t token)
 {
-    if (!lookup->goes_on)
-        return NONE;
-    uint32_t entry = index->slots[lookup->slot];
-    if (entry == FREE_SLOT) {
-        lookup->goes_on = false;
-        cells_model_met.free_slots++;
-        return NONE;
+    uint32_t entry;
+
+    if (!lookup->going)
+        return 0;
+    if (sibling >= search->stood) {
+        lookup->going = false;
+        return 0;
     }
-    if (is_confirmed(s, entry, parent, token)) {
+    entry = search->slots[lookup->slot];
+    if (entry == 0) {
+        cells_model_met.free_slots++;
+        lookup->going = false;
+        return 0;
+    }
+    if (confirmed(search, entry, parent, token)) {
         cells_model_met.confirmed++;
         return entry;
     }
     cells_model_met.passed_over++;
-    lookup->slot = slot_after(lookup->slot, index->count);
-    cells_model_met.around += lookup->slot == 0;
-    return NONE;
+    return 0;
 }
 
-/* ---- The walk down a trie and the path up --------------------------------------------------- */
+static void next_slot(const struct search *search, struct lookup *lookup)
+{
+    if (!lookup->going)
+        return;
+    lookup->slot++;
+    if (lookup->slot == search->slot_count) {
+        lookup->slot = 0;
+        cells_model_met.around++;
+    }
+}
 
-/* How far a form is in a trie: its first `matched` tokens lead from the root to `node`. */
-struct walk {
-    size_t matched;
+/* Below a parent that was read and found sound. Siblings rise, so that the turns come to an end. */
+static struct met_child find_child(const struct search *search, uint32_t parent, uint32_t token)
+{
+    uint32_t sibling = node_of(search->table, parent).child;
+    struct lookup lookup = lookup_of(search, parent, token);
+
+    if (sibling == 0)
+        return (struct met_child){LAST, 0};
+    for (;;) {
+        uint32_t entry = look_in(search, &lookup, sibling, parent, token);
+        enum met met;
+
+        if (entry != 0)
+            return (struct met_child){compare(search, entry, parent, token), entry};
+        met = compare(search, sibling, parent, token);
+        if (met != OTHER)
+            return (struct met_child){met, sibling};
+        sibling = node_of(search->table, sibling).sibling;
+        next_slot(search, &lookup);
+    }
+}
+
+/* How far a form is found: the last node found, the tokens down to it, and where some are missing the last child of that node. */
+struct walked {
+    bool sound;
     uint32_t node;
-    uint32_t last_child; /* where the form is not whole: the node's last child, or none */
-    uint32_t link;       /* where the form is whole: the node's link; else none */
+    size_t depth;
+    uint32_t last;
 };
 
-/*
- * The child of a node with a token, or none and the last child. "The search among siblings ends
- * with the child found, or with the last sibling." Each child is judged whole before its token is
- * compared (OP 9); the range of its number was judged with the record that it comes from, as the
- * node itself. False: damaged.
- *
- * "A search takes a cell of the index and a sibling in turn, and ends with whichever is the child
- * first" (tables.h): a confirmed entry is a node compared, so judged whole as well. It may be one
- * that the siblings do not lead to, or stand behind a damaged one (OP2 37).
- */
-static bool find_child(const struct space *s, const struct index *index, enum trie trie,
-                       uint32_t node, uint32_t token, uint32_t *found, uint32_t *last)
+static struct walked walk(const struct search *search, uint32_t root, const struct form *form)
 {
-    struct lookup lookup = begin_lookup(index, node, token);
-    uint32_t child = of_node(s, node, FIRST_CHILD);
-    *found = NONE;
-    *last = NONE;
-    while (child != NONE) {
-        *found = look_up(s, index, &lookup, node, token);
-        if (*found != NONE)
-            return is_sound_node(s, trie, *found);
-        if (!is_sound_node(s, trie, child) || of_node(s, child, PARENT) != node)
-            return false;
-        if (of_node(s, child, TOKEN) == token) {
-            *found = child;
-            return true;
+    struct walked walked = {root_sound(search->table, search->trie, root), root, 0, 0};
+
+    while (walked.sound && walked.depth < form->count) {
+        struct met_child child = find_child(search, walked.node, form->tokens[walked.depth]);
+
+        if (child.met == DAMAGED) {
+            walked.sound = false;
+        } else if (child.met == LAST) {
+            walked.last = child.node;
+            break;
+        } else {
+            walked.node = child.node;
+            walked.depth++;
         }
-        *last = child;
-        child = of_node(s, child, NEXT_SIBLING);
     }
-    return true;
+    return walked;
 }
 
-/* Searches a form from a root that has been judged. False: damaged. */
-static bool walk_down(const struct space *s, const struct index *index, enum trie trie,
-                      uint32_t root, const struct form *form, struct walk *walk)
+/* What a search comes to: damage, the number of an old record, or where a new one goes. */
+enum held { HELD_DAMAGED, HELD_OLD, HELD_NEW };
+
+struct looked {
+    enum held held;
+    uint32_t number;
+    struct walked walked;
+};
+
+static struct looked looked_damaged(void)
 {
-    uint32_t child;
-    *walk = (struct walk){.matched = 0, .node = root, .last_child = NONE, .link = NONE};
-    while (walk->matched < form->count) {
-        if (!find_child(s, index, trie, walk->node, form->cells[walk->matched], &child,
-                        &walk->last_child))
-            return false;
-        if (child == NONE)
-            return true;
-        walk->node = child;
-        walk->matched++;
-    }
-    walk->link = of_node(s, walk->node, LINK);
-    /* "A non-empty path found whole must end in a non-zero link." */
-    return form->count == 0 || walk->link != NONE;
+    return (struct looked){HELD_DAMAGED, 0, {false, 0, 0, 0}};
 }
 
 /*
- * The tokens from a root down to a leaf. "Tokens are gathered from the leaf up to the root", each
- * node judged by its own fields, the root too (OP 7, 10); the leaf's link need not lead back
- * (OP 6). False: damaged, "over 383 tokens, or ends at the wrong root".
+ * A form that is found whole ends in a link, and the record found by it names that leaf (readings, Damaged spaces 5). Only the
+ * empty form may end in none: with m = 0 and the root's link 0 the answer is new (readings, Damaged spaces 12).
  */
-static bool gather(const struct space *s, enum trie trie, uint32_t leaf, uint32_t root,
-                   struct form *path)
+static struct looked look_up(const struct search *search, uint32_t root, const struct form *form)
 {
-    uint32_t upward[MOST_COMPACT_CELLS];
-    uint32_t node = leaf;
-    size_t count = 0;
-    while (!is_sound_root(s, trie, node)) {
-        if (!is_sound_node(s, trie, node) || count == MOST_COMPACT_CELLS)
-            return false;
-        upward[count++] = of_node(s, node, TOKEN);
-        node = of_node(s, node, PARENT);
+    const struct table *table = search->table;
+    struct walked walked = walk(search, root, form);
+    uint32_t link;
+    bool sound;
+
+    if (!walked.sound)
+        return looked_damaged();
+    if (walked.depth < form->count)
+        return (struct looked){HELD_NEW, 0, walked};
+    link = node_of(table, walked.node).link;
+    if (link == 0)
+        return form->count == 0 ? (struct looked){HELD_NEW, 0, walked} : looked_damaged();
+    if (search->trie == SUBGOAL_TRIE) {
+        struct subgoal subgoal = subgoal_of(table, link);
+        sound = subgoal_sound(table, &subgoal) && subgoal.leaf == walked.node;
+    } else {
+        struct answer answer = answer_of(table, link);
+        sound = answer_sound(table, link, &answer) && answer.leaf == walked.node;
     }
-    if (node != root)
-        return false;
-    for (size_t i = 0; i < count; i++)
-        path->cells[i] = upward[count - 1 - i];
-    path->count = count;
-    return true;
+    return sound ? (struct looked){HELD_OLD, link, walked} : looked_damaged();
 }
 
-/* "By load, the answer, its subgoal and the path": the answer's m terms. False: 9. */
-static bool read_answer(const struct space *s, uint32_t answer, struct terms *terms)
+/* Writing. Every record is written whole, whatever its cells held (readings, Damaged spaces 15). */
+
+static void write_node(uint32_t *space, uint32_t number, uint32_t token, uint32_t parent)
 {
-    struct form path;
-    if (!is_sound_answer(s, answer))
-        return false;
-    uint32_t subgoal = of_answer(s, answer, ANSWER_SUBGOAL);
-    return is_sound_subgoal(s, subgoal) &&
-           gather(s, ANSWER_TRIE, of_answer(s, answer, ANSWER_LEAF),
-                  of_subgoal(s, subgoal, ANSWER_ROOT), &path) &&
-           expand(s->edition, of_subgoal(s, subgoal, M), path.cells, path.count, terms);
+    uint32_t *at = space + node_place(number);
+
+    at[0] = token;
+    at[1] = 0;
+    at[2] = 0;
+    at[3] = parent;
+    at[4] = 0;
 }
 
-/* "By instance, the subgoal's path too": one term of m distinct variables (OP 8). False: 9. */
-static bool read_goal(const struct space *s, uint32_t subgoal, struct terms *goal)
+/* The nodes that a form lacks, in path order; the first goes after the last sibling. The leaf, which gets the link. */
+static uint32_t write_path(uint32_t *space, const struct form *form, const struct walked *walked, uint32_t link)
 {
-    struct form path;
-    return gather(s, SUBGOAL_TRIE, of_subgoal(s, subgoal, GOAL_LEAF), SUBGOAL_ROOT, &path) &&
-           expand(s->edition, 1, path.cells, path.count, goal) &&
-           goal->variables == of_subgoal(s, subgoal, M);
-}
+    uint32_t node = walked->node;
+    uint32_t last = walked->last;
 
-/* ---- Writing: after the last refusal -------------------------------------------------------- */
+    for (size_t i = walked->depth; i < form->count; i++) {
+        uint32_t number = space[1]++;
 
-/* "A new record is written whole" (OP 15). */
-static void write_node(uint32_t *cells, uint32_t node, uint32_t token, uint32_t child,
-                       uint32_t parent, uint32_t link)
-{
-    cells[node_at(node, TOKEN)] = token;
-    cells[node_at(node, FIRST_CHILD)] = child;
-    cells[node_at(node, NEXT_SIBLING)] = NONE;
-    cells[node_at(node, PARENT)] = parent;
-    cells[node_at(node, LINK)] = link;
-}
-
-/*
- * Writes the nodes of a form that a walk did not find, and the link of its leaf; the leaf. "A new
- * child goes after the last sibling. New nodes take the next numbers in path order". For an empty
- * form there is no new node and the root is the leaf.
- */
-static uint32_t write_path(uint32_t *cells, const struct space *s, const struct form *form,
-                           const struct walk *walk, uint32_t link)
-{
-    uint32_t leaf = walk->node;
-    uint32_t node = s->nodes;
-    if (walk->matched == form->count)
-        cells[node_at(leaf, LINK)] = link;
-    else if (walk->last_child == NONE)
-        cells[node_at(walk->node, FIRST_CHILD)] = node;
-    else
-        cells[node_at(walk->last_child, NEXT_SIBLING)] = node;
-    for (size_t i = walk->matched; i < form->count; i++, node++) {
-        bool ends = i + 1 == form->count;
-        write_node(cells, node, form->cells[i], ends ? NONE : node + 1, leaf, ends ? link : NONE);
-        leaf = node;
+        write_node(space, number, form->tokens[i], node);
+        if (last != 0)
+            space[node_place(last) + 2] = number;
+        else
+            space[node_place(node) + 1] = number;
+        node = number;
+        last = 0;
     }
-    cells[NODES_USED] = node;
-    return leaf;
+    space[node_place(node) + 4] = link;
+    return node;
 }
 
-/* "A new subgoal's answer root follows its leaf." */
-static void write_subgoal(uint32_t *cells, const struct space *s, const struct form *form,
-                          const struct walk *walk)
+static uint64_t write_subgoal(uint32_t *space, const struct table *table, const struct form *form, const struct walked *walked,
+                              uint32_t variables)
 {
-    uint32_t number = s->subgoals + 1;
-    uint32_t leaf = write_path(cells, s, form, walk, number);
-    uint32_t root = leaf + 1;
-    write_node(cells, root, ROOT_TOKEN, NONE, root, NONE);
-    cells[NODES_USED] = root + 1;
-    cells[subgoal_at(s, number, GOAL_LEAF)] = leaf;
-    cells[subgoal_at(s, number, ANSWER_ROOT)] = root;
-    cells[subgoal_at(s, number, M)] = form->variables;
-    cells[subgoal_at(s, number, STATE)] = OPEN;
-    cells[subgoal_at(s, number, FIRST_ANSWER)] = NONE;
-    cells[subgoal_at(s, number, LAST_ANSWER)] = NONE;
-    cells[SUBGOALS_USED] = number;
+    uint32_t number = ++space[2];
+    uint32_t *at = space + subgoal_place(table, number);
+    uint32_t leaf = write_path(space, form, walked, number);
+    uint32_t root = space[1]++;
+
+    write_node(space, root, 0, root);
+    at[0] = leaf;
+    at[1] = root;
+    at[2] = variables;
+    at[3] = 0;
+    at[4] = 0;
+    at[5] = 0;
+    return word_of(TABLES_NEW, number);
 }
 
-/* The new answer is its subgoal's last, and its first if it had none. "A ground subgoal also becomes
- * finished as its one answer enters" (Q-4); ground is m = 0, as recorded (OP2 31). */
-static void write_answer(uint32_t *cells, const struct space *s, uint32_t subgoal,
-                         const struct form *form, const struct walk *walk)
+/* The empty answer finishes its subgoal as it enters (02, Q-4; readings: the decision that enters it is the ground case). */
+static uint64_t write_answer(uint32_t *space, const struct table *table, uint32_t subgoal, const struct form *form,
+                             const struct walked *walked)
 {
-    uint32_t number = s->answers + 1;
-    uint32_t leaf = write_path(cells, s, form, walk, number);
-    uint32_t before = of_subgoal(s, subgoal, LAST_ANSWER);
-    cells[answer_at(s, number, ANSWER_LEAF)] = leaf;
-    cells[answer_at(s, number, ANSWER_SUBGOAL)] = subgoal;
-    cells[answer_at(s, number, NEXT_ANSWER)] = NONE;
-    if (before == NONE)
-        cells[subgoal_at(s, subgoal, FIRST_ANSWER)] = number;
+    uint32_t number = ++space[3];
+    uint32_t *at = space + answer_place(table, number);
+    uint32_t *of = space + subgoal_place(table, subgoal);
+
+    at[0] = write_path(space, form, walked, number);
+    at[1] = subgoal;
+    at[2] = 0;
+    if (of[5] != 0)
+        space[answer_place(table, of[5]) + 2] = number;
     else
-        cells[answer_at(s, before, NEXT_ANSWER)] = number;
-    cells[subgoal_at(s, subgoal, LAST_ANSWER)] = number;
-    if (of_subgoal(s, subgoal, M) == 0)
-        cells[subgoal_at(s, subgoal, STATE)] = FINISHED;
-    cells[ANSWERS_USED] = number;
+        of[4] = number;
+    of[5] = number;
+    if (form->count == 0)
+        of[3] = 1;
+    return word_of(TABLES_NEW, number);
 }
 
-/* The two checks for room, 10 before 11 (OP 23). */
-static enum refusal room_for(const struct space *s, size_t new_nodes, uint32_t records,
-                             uint32_t record_room)
-{
-    if (s->node_room - s->nodes < new_nodes)
-        return NO_NODES_LEFT;
-    if (records == record_room)
-        return NO_RECORD_LEFT;
-    return ACCEPTED;
-}
+/* The calls. */
 
-/* ---- The calls ------------------------------------------------------------------------------ */
-
-static uint64_t result(uint32_t what, uint32_t value)
+uint64_t cells_model_fresh(uint32_t *space, size_t space_cells, uint32_t nodes, uint32_t subgoals, uint32_t answers,
+                           uint32_t edition)
 {
-    return (uint64_t)what << 32 | value;
-}
+    uint64_t subgoals_at = HEADER_CELLS + (uint64_t)NODE_CELLS * nodes;
+    uint64_t answers_at = subgoals_at + (uint64_t)SUBGOAL_CELLS * subgoals;
+    uint64_t end = answers_at + (uint64_t)ANSWER_CELLS * answers;
 
-static uint64_t refused(enum refusal number)
-{
-    return result((uint32_t)TABLES_CALL_REFUSED + number, 0);
-}
-
-/* "12: also the need". */
-static uint64_t too_short(size_t need)
-{
-    return result((uint32_t)TABLES_CALL_REFUSED + OUT_TOO_SHORT, (uint32_t)need);
-}
-
-/* "Fresh writes the header with one node used and zeros up to the end": node 0 is a root so. */
-uint64_t cells_model_fresh(uint32_t *space, size_t space_cells, uint32_t nodes, uint32_t subgoals,
-                           uint32_t answers, uint32_t edition)
-{
-    if (!is_edition(edition) || nodes < LEAST_NODES || nodes > MOST_RECORDS ||
-        subgoals > MOST_RECORDS || answers > MOST_RECORDS)
-        return refused(BAD_FRESH);
-    uint32_t subgoal_offset = HEADER_CELLS + NODE_CELLS * nodes;
-    uint32_t answer_offset = subgoal_offset + SUBGOAL_CELLS * subgoals;
-    uint32_t end = answer_offset + ANSWER_CELLS * answers;
-    if (end > space_cells)
-        return refused(BAD_FRESH);
-    for (uint32_t i = 0; i < end; i++)
+    if (!known_edition(edition) || nodes == 0 || nodes > MOST_RECORDS || subgoals > MOST_RECORDS || answers > MOST_RECORDS ||
+        end > space_cells)
+        return refused(TABLES_REFUSED_FRESH);
+    for (size_t i = 0; i < end; i++)
         space[i] = 0;
-    space[EDITION] = edition;
-    space[NODES_USED] = 1;
-    space[NODE_OFFSET] = HEADER_CELLS;
-    space[SUBGOAL_OFFSET] = subgoal_offset;
-    space[ANSWER_OFFSET] = answer_offset;
-    space[END] = end;
-    return result(TABLES_DONE, 0);
+    space[0] = edition;
+    space[1] = 1;
+    space[4] = HEADER_CELLS;
+    space[5] = (uint32_t)subgoals_at;
+    space[6] = (uint32_t)answers_at;
+    space[7] = (uint32_t)end;
+    return word_of(TABLES_DONE, 0);
 }
 
-uint64_t cells_model_call(uint32_t *space, size_t space_cells, const uint32_t *term,
-                          size_t term_cells)
+/* 1, 4, 3, 5, 6, 9, 10, 11. */
+uint64_t cells_model_call_indexed(uint32_t *space, size_t space_cells, const uint32_t *index_slots, size_t index_cells,
+                                  const uint32_t *term, size_t term_cells)
 {
-    return cells_model_call_indexed(space, space_cells, no_index.slots, no_index.count, term,
-                                    term_cells);
-}
-
-uint64_t cells_model_call_indexed(uint32_t *space, size_t space_cells, const uint32_t *index_slots,
-                                  size_t index_cells, const uint32_t *term, size_t term_cells)
-{
-    const struct index index = {index_slots, index_cells};
-    struct space s;
+    struct table table;
+    struct search search;
     struct form form;
-    struct walk walk;
-    if (!read_header(space, space_cells, &s))
-        return refused(BAD_HEADER);
-    enum refusal refusal = compact(s.edition, 1, term, term_cells, &form);
-    if (refusal != ACCEPTED)
+    struct names names;
+    struct looked looked;
+    uint32_t refusal;
+
+    if (!read_header(&table, space, space_cells))
+        return refused(TABLES_REFUSED_HEADER);
+    refusal = read_terms(table.edition, term, term_cells, 1, &form, &names);
+    if (refusal != 0)
         return refused(refusal);
-    if (kind_of(term[0]) != ATOM && kind_of(term[0]) != FUNCTOR)
-        return refused(BAD_PREDICATE);
-    if (!is_sound_root(&s, SUBGOAL_TRIE, SUBGOAL_ROOT) ||
-        !walk_down(&s, &index, SUBGOAL_TRIE, SUBGOAL_ROOT, &form, &walk))
-        return refused(DAMAGED);
-    if (walk.link != NONE) {
-        /* "A record found by a link names that leaf." Nothing else, not even m, is compared. */
-        if (!is_sound_subgoal(&s, walk.link) || of_subgoal(&s, walk.link, GOAL_LEAF) != walk.node)
-            return refused(DAMAGED);
-        bool open = of_subgoal(&s, walk.link, STATE) == OPEN;
-        return result(open ? TABLES_OLD_OPEN : TABLES_OLD_FINISHED, walk.link);
-    }
-    /* "Fewer free than the new ones, a new subgoal's answer root included". */
-    refusal = room_for(&s, form.count - walk.matched + 1, s.subgoals, s.subgoal_room);
-    if (refusal != ACCEPTED)
-        return refused(refusal);
-    write_subgoal(space, &s, &form, &walk);
-    return result(TABLES_NEW, s.subgoals + 1);
+    if (TABLES_KIND(term[0]) != TABLES_ATOM && TABLES_KIND(term[0]) != TABLES_FUNCTOR)
+        return refused(TABLES_REFUSED_PREDICATE);
+    search = search_of(&table, SUBGOAL_TRIE, index_slots, index_cells);
+    looked = look_up(&search, 0, &form);
+    if (looked.held == HELD_DAMAGED)
+        return refused(TABLES_REFUSED_DAMAGED);
+    if (looked.held == HELD_OLD)
+        return word_of(subgoal_of(&table, looked.number).state == 0 ? TABLES_OLD_OPEN : TABLES_OLD_FINISHED, looked.number);
+    if (form.count - looked.walked.depth + 1 > table.most_nodes - nodes_used(&table))
+        return refused(TABLES_REFUSED_NO_NODE);
+    if (subgoals_used(&table) == table.most_subgoals)
+        return refused(TABLES_REFUSED_NO_RECORD);
+    return write_subgoal(space, &table, &form, &looked.walked, names.count);
 }
 
-/* "If new, the last answer, whose next must be 0"; before 10 and 11 (OP 14), and before 8, which is
- * only for an answer "that it lacks" and stands "after all of 9" (Q-4, OP2 28). */
-static uint64_t new_answer(uint32_t *space, const struct space *s, uint32_t subgoal,
-                           const struct form *form, const struct walk *walk)
+/* A subgoal's last answer, which a new one follows: same subgoal, next 0, leaf in range (readings, Damaged spaces 14). */
+static bool last_sound(const struct table *table, uint32_t number, const struct subgoal *subgoal)
 {
-    uint32_t last = of_subgoal(s, subgoal, LAST_ANSWER);
-    if (last != NONE && (!is_sound_answer_of(s, last, subgoal) ||
-                         of_answer(s, last, NEXT_ANSWER) != NONE))
-        return refused(DAMAGED);
-    if (of_subgoal(s, subgoal, STATE) == FINISHED)
-        return refused(FINISHED_ALREADY);
-    enum refusal refusal = room_for(s, form->count - walk->matched, s->answers, s->answer_room);
-    if (refusal != ACCEPTED)
-        return refused(refusal);
-    write_answer(space, s, subgoal, form, walk);
-    return result(TABLES_NEW, s->answers + 1);
+    struct answer last;
+
+    if (subgoal->last == 0)
+        return true;
+    last = answer_of(table, subgoal->last);
+    return answer_sound(table, subgoal->last, &last) && last.subgoal == number && last.next == 0;
 }
 
-uint64_t cells_model_answer(uint32_t *space, size_t space_cells, uint32_t subgoal,
-                            const uint32_t *terms, size_t terms_cells)
+/* An answer's form, given to a subgoal whose record is judged: 9, 8, 10, 11 (02, Q-4: 8 is behind all of 9). */
+static uint64_t give(uint32_t *space, const struct search *search, uint32_t number, const struct form *form)
 {
-    return cells_model_answer_indexed(space, space_cells, no_index.slots, no_index.count, subgoal,
-                                      terms, terms_cells);
+    const struct table *table = search->table;
+    struct subgoal subgoal = subgoal_of(table, number);
+    struct looked looked = look_up(search, subgoal.root, form);
+
+    if (looked.held == HELD_DAMAGED)
+        return refused(TABLES_REFUSED_DAMAGED);
+    if (looked.held == HELD_OLD)
+        return word_of(TABLES_OLD, looked.number);
+    if (!last_sound(table, number, &subgoal))
+        return refused(TABLES_REFUSED_DAMAGED);
+    if (subgoal.state != 0)
+        return refused(TABLES_REFUSED_STATE);
+    if (form->count - looked.walked.depth > table->most_nodes - nodes_used(table))
+        return refused(TABLES_REFUSED_NO_NODE);
+    if (answers_used(table) == table->most_answers)
+        return refused(TABLES_REFUSED_NO_RECORD);
+    return write_answer(space, table, number, form, &looked.walked);
 }
 
-uint64_t cells_model_answer_indexed(uint32_t *space, size_t space_cells,
-                                    const uint32_t *index_slots, size_t index_cells,
+/* What answer judges straight after 7, and a join of its target: the record and its answer root. */
+static bool entrance_sound(const struct table *table, const struct subgoal *subgoal)
+{
+    return subgoal_sound(table, subgoal) && root_sound(table, ANSWER_TRIE, subgoal->root);
+}
+
+/* 1, 7, 9, 4, 3, 5, 9, 8, 10, 11. */
+uint64_t cells_model_answer_indexed(uint32_t *space, size_t space_cells, const uint32_t *index_slots, size_t index_cells,
                                     uint32_t subgoal, const uint32_t *terms, size_t terms_cells)
 {
-    const struct index index = {index_slots, index_cells};
-    struct space s;
+    struct table table;
+    struct subgoal record;
+    struct search search;
     struct form form;
-    struct walk walk;
-    if (!read_header(space, space_cells, &s))
-        return refused(BAD_HEADER);
-    if (!is_subgoal(&s, subgoal))
-        return refused(BAD_NUMBER);
-    /* "The records named by the number are judged (9) straight after 7" (OP 3). */
-    uint32_t root = of_subgoal(&s, subgoal, ANSWER_ROOT);
-    if (!is_sound_subgoal(&s, subgoal) || !is_sound_root(&s, ANSWER_TRIE, root))
-        return refused(DAMAGED);
-    enum refusal refusal =
-        compact(s.edition, of_subgoal(&s, subgoal, M), terms, terms_cells, &form);
-    if (refusal != ACCEPTED)
+    struct names names;
+    uint32_t refusal;
+
+    if (!read_header(&table, space, space_cells))
+        return refused(TABLES_REFUSED_HEADER);
+    if (!is_subgoal(&table, subgoal))
+        return refused(TABLES_REFUSED_NUMBER);
+    record = subgoal_of(&table, subgoal);
+    if (!entrance_sound(&table, &record))
+        return refused(TABLES_REFUSED_DAMAGED);
+    refusal = read_terms(table.edition, terms, terms_cells, record.variables, &form, &names);
+    if (refusal != 0)
         return refused(refusal);
-    if (!walk_down(&s, &index, ANSWER_TRIE, root, &form, &walk))
-        return refused(DAMAGED);
-    if (walk.link != NONE) {
-        /* "A record found by a link names that leaf"; its subgoal is not compared (OP 5). In either
-         * state, and the state stays (OP2 30). */
-        if (!is_sound_answer(&s, walk.link) || of_answer(&s, walk.link, ANSWER_LEAF) != walk.node)
-            return refused(DAMAGED);
-        return result(TABLES_OLD, walk.link);
-    }
-    return new_answer(space, &s, subgoal, &form, &walk);
+    search = search_of(&table, ANSWER_TRIE, index_slots, index_cells);
+    return give(space, &search, subgoal, &form);
 }
 
+/* A call without an index is one with an index of no cells (readings, An index beside the nodes). */
+uint64_t cells_model_call(uint32_t *space, size_t space_cells, const uint32_t *term, size_t term_cells)
+{
+    return cells_model_call_indexed(space, space_cells, NULL, 0, term, term_cells);
+}
+
+uint64_t cells_model_answer(uint32_t *space, size_t space_cells, uint32_t subgoal, const uint32_t *terms, size_t terms_cells)
+{
+    return cells_model_answer_indexed(space, space_cells, NULL, 0, subgoal, terms, terms_cells);
+}
+
+/* 1, 7, 9. */
 uint64_t cells_model_finish(uint32_t *space, size_t space_cells, uint32_t subgoal)
 {
-    struct space s;
-    if (!read_header(space, space_cells, &s))
-        return refused(BAD_HEADER);
-    if (!is_subgoal(&s, subgoal))
-        return refused(BAD_NUMBER);
-    if (!is_sound_subgoal(&s, subgoal))
-        return refused(DAMAGED);
-    space[subgoal_at(&s, subgoal, STATE)] = FINISHED;
-    return result(TABLES_DONE, 0);
+    struct table table;
+    struct subgoal record;
+
+    if (!read_header(&table, space, space_cells))
+        return refused(TABLES_REFUSED_HEADER);
+    if (!is_subgoal(&table, subgoal))
+        return refused(TABLES_REFUSED_NUMBER);
+    record = subgoal_of(&table, subgoal);
+    if (!subgoal_sound(&table, &record))
+        return refused(TABLES_REFUSED_DAMAGED);
+    space[subgoal_place(&table, subgoal) + 3] = 1;
+    return word_of(TABLES_DONE, 0);
 }
 
-/* 7 reads the subgoal field of `after` as it stands, before any record is judged (OP 13). */
-uint64_t cells_model_next(const uint32_t *space, size_t space_cells, uint32_t subgoal,
-                          uint32_t after)
+/* 1, 7, 9. The subgoal field of answer `after` is read as it stands for 7 (readings, Damaged spaces 13). Q-1: the two words. */
+uint64_t cells_model_next(const uint32_t *space, size_t space_cells, uint32_t subgoal, uint32_t after)
 {
-    struct space s;
-    if (!read_header(space, space_cells, &s))
-        return refused(BAD_HEADER);
-    if (!is_subgoal(&s, subgoal) ||
-        (after != NONE &&
-         (!is_answer(&s, after) || of_answer(&s, after, ANSWER_SUBGOAL) != subgoal)))
-        return refused(BAD_NUMBER);
-    if (!is_sound_subgoal(&s, subgoal) || (after != NONE && !is_sound_answer(&s, after)))
-        return refused(DAMAGED);
-    uint32_t next = after == NONE ? of_subgoal(&s, subgoal, FIRST_ANSWER)
-                                  : of_answer(&s, after, NEXT_ANSWER);
-    if (next == NONE) {
-        /* Q-1, by "the subgoal's state at the time of the call"; nothing further is read (OP2 6). */
-        bool open = of_subgoal(&s, subgoal, STATE) == OPEN;
-        return result(open ? TABLES_NONE_YET : TABLES_NO_MORE, 0);
-    }
-    if (!is_sound_answer_of(&s, next, subgoal))
-        return refused(DAMAGED);
-    return result(TABLES_AT, next);
+    struct table table;
+    struct subgoal record;
+    struct answer from = {0, 0, 0};
+    struct answer to;
+    uint32_t number;
+
+    if (!read_header(&table, space, space_cells))
+        return refused(TABLES_REFUSED_HEADER);
+    if (!is_subgoal(&table, subgoal) || after > answers_used(&table))
+        return refused(TABLES_REFUSED_NUMBER);
+    if (after != 0)
+        from = answer_of(&table, after);
+    if (after != 0 && from.subgoal != subgoal)
+        return refused(TABLES_REFUSED_NUMBER);
+    record = subgoal_of(&table, subgoal);
+    if (!subgoal_sound(&table, &record) || (after != 0 && !answer_sound(&table, after, &from)))
+        return refused(TABLES_REFUSED_DAMAGED);
+    number = after != 0 ? from.next : record.first;
+    if (number == 0)
+        return word_of(record.state == 0 ? TABLES_NONE_YET : TABLES_NO_MORE, 0);
+    to = answer_of(&table, number);
+    if (!answer_sound(&table, number, &to) || to.subgoal != subgoal)
+        return refused(TABLES_REFUSED_DAMAGED);
+    return word_of(TABLES_AT, number);
 }
 
-uint64_t cells_model_load(const uint32_t *space, size_t space_cells, uint32_t answer, uint32_t *out,
-                          size_t out_cells)
+/* What load and instance read of an answer: its record, its subgoal's record and its path. The refusal's number, or 0. */
+static uint32_t read_answer(const struct table *table, uint32_t number, struct subgoal *subgoal, struct terms *terms)
 {
-    struct space s;
+    struct answer answer;
+
+    if (!is_answer(table, number))
+        return TABLES_REFUSED_NUMBER;
+    answer = answer_of(table, number);
+    if (!answer_sound(table, number, &answer))
+        return TABLES_REFUSED_DAMAGED;
+    *subgoal = subgoal_of(table, answer.subgoal);
+    if (!subgoal_sound(table, subgoal) || !load_answer(table, &answer, subgoal, terms))
+        return TABLES_REFUSED_DAMAGED;
+    return 0;
+}
+
+/* 1, 7, 9, 12. */
+uint64_t cells_model_load(const uint32_t *space, size_t space_cells, uint32_t answer, uint32_t *out, size_t out_cells)
+{
+    struct table table;
+    struct subgoal subgoal;
     struct terms terms;
-    if (!read_header(space, space_cells, &s))
-        return refused(BAD_HEADER);
-    if (!is_answer(&s, answer))
-        return refused(BAD_NUMBER);
-    if (!read_answer(&s, answer, &terms))
-        return refused(DAMAGED);
+    uint32_t refusal;
+
+    if (!read_header(&table, space, space_cells))
+        return refused(TABLES_REFUSED_HEADER);
+    refusal = read_answer(&table, answer, &subgoal, &terms);
+    if (refusal != 0)
+        return refused(refusal);
     if (out_cells < terms.count)
-        return too_short(terms.count);
-    for (size_t i = 0; i < terms.count; i++)
+        return refused_out(terms.count);
+    for (uint32_t i = 0; i < terms.count; i++)
         out[i] = terms.cells[i];
-    return result(TABLES_CELLS, (uint32_t)terms.count);
+    return word_of(TABLES_CELLS, terms.count);
 }
 
-/* "The subgoal with variable i replaced by term i": its cells; with out NULL they are counted. */
-static size_t write_instance(uint32_t edition, const struct terms *goal,
-                             const struct terms *answer, uint32_t *out)
+/* The subgoal's cells with term i for variable i: how many they are, and where there is an out, the cells themselves. */
+static uint32_t put_instance(const struct terms *subgoal, const struct terms *answer, uint32_t *out)
 {
-    size_t begin[MOST_VARIABLES + 1] = {0};
-    size_t written = 0;
-    for (uint32_t i = 0; i < goal->variables; i++) {
-        size_t taken = 0;
-        (void)measure(edition, 1, answer->cells + begin[i], answer->count - begin[i], &taken);
-        begin[i + 1] = begin[i] + taken;
-    }
-    for (size_t i = 0; i < goal->count; i++) {
-        const uint32_t *from = &goal->cells[i];
-        size_t cells = 1;
-        if (kind_of(*from) == VARIABLE) {
-            uint32_t rank = payload_of(*from);
-            from = &answer->cells[begin[rank]];
-            cells = begin[rank + 1] - begin[rank];
+    uint32_t count = 0;
+
+    for (uint32_t i = 0; i < subgoal->count; i++) {
+        uint32_t cell = subgoal->cells[i];
+        bool variable = TABLES_KIND(cell) == TABLES_VARIABLE;
+        uint32_t from = variable ? answer->starts[TABLES_PAYLOAD(cell)] : i;
+        uint32_t to = variable ? answer->starts[TABLES_PAYLOAD(cell) + 1] : i + 1;
+
+        for (uint32_t k = from; k < to; k++) {
+            if (out != NULL)
+                out[count] = variable ? answer->cells[k] : cell;
+            count++;
         }
-        for (size_t j = 0; j < cells && out != NULL; j++)
-            out[written + j] = from[j];
-        written += cells;
     }
-    return written;
+    return count;
 }
 
-uint64_t cells_model_instance(const uint32_t *space, size_t space_cells, uint32_t answer,
-                              uint32_t *out, size_t out_cells)
+/*
+ * 1, 7, 9, 12. The subgoal's path must be one term with exactly m distinct variables, and nothing else is judged of it: the term
+ * may begin with any token, also where a call of it would be refused by 6.
+ */
+uint64_t cells_model_instance(const uint32_t *space, size_t space_cells, uint32_t answer, uint32_t *out, size_t out_cells)
 {
-    struct space s;
-    struct terms goal, terms;
-    if (!read_header(space, space_cells, &s))
-        return refused(BAD_HEADER);
-    if (!is_answer(&s, answer))
-        return refused(BAD_NUMBER);
-    if (!read_answer(&s, answer, &terms) ||
-        !read_goal(&s, of_answer(&s, answer, ANSWER_SUBGOAL), &goal))
-        return refused(DAMAGED);
-    size_t need = write_instance(s.edition, &goal, &terms, NULL);
+    struct table table;
+    struct subgoal subgoal;
+    struct terms terms;
+    struct terms called;
+    uint32_t refusal;
+    uint32_t need;
+
+    if (!read_header(&table, space, space_cells))
+        return refused(TABLES_REFUSED_HEADER);
+    refusal = read_answer(&table, answer, &subgoal, &terms);
+    if (refusal != 0)
+        return refused(refusal);
+    if (!load_subgoal(&table, &subgoal, &called))
+        return refused(TABLES_REFUSED_DAMAGED);
+    need = put_instance(&called, &terms, NULL);
     if (out_cells < need)
-        return too_short(need);
-    write_instance(s.edition, &goal, &terms, out);
-    return result(TABLES_CELLS, (uint32_t)need);
+        return refused_out(need);
+    return word_of(TABLES_CELLS, put_instance(&called, &terms, out));
 }
 
-/* "Nodes, subgoals and answers used": the header alone is read (OP 16). */
-uint64_t cells_model_counts(const uint32_t *space, size_t space_cells, uint32_t *out,
-                            size_t out_cells)
+/* 1, 12. The header alone is read. */
+uint64_t cells_model_counts(const uint32_t *space, size_t space_cells, uint32_t *out, size_t out_cells)
 {
-    enum { COUNTS = 3 };
-    struct space s;
-    if (!read_header(space, space_cells, &s))
-        return refused(BAD_HEADER);
-    if (out_cells < COUNTS)
-        return too_short(COUNTS);
-    out[0] = s.nodes;
-    out[1] = s.subgoals;
-    out[2] = s.answers;
-    return result(TABLES_COUNTS, COUNTS);
+    struct table table;
+
+    if (!read_header(&table, space, space_cells))
+        return refused(TABLES_REFUSED_HEADER);
+    if (out_cells < 3)
+        return refused_out(3);
+    out[0] = nodes_used(&table);
+    out[1] = subgoals_used(&table);
+    out[2] = answers_used(&table);
+    return word_of(TABLES_COUNTS, 3);
 }
 
-/* ---- The join ------------------------------------------------------------------------------- */
+/* The join (02, Q-2; readings, Joins). */
 
-/* Memory that grows; ends the program if there is none. */
-static void *grown(void *block, size_t bytes)
-{
-    void *moved = realloc(block, bytes);
-    if (moved == NULL) {
-        fputs("cells model: out of memory\n", stderr);
-        exit(EXIT_FAILURE);
-    }
-    return moved;
-}
-
-/* A source as it was read: its m, and its answers in the order of their chain. */
-struct source {
-    uint32_t variables;
-    bool finished;
-    size_t count;
-    struct terms *answers;
-};
-
-/* What a join was given and has read. */
 struct join {
-    struct index index;
-    struct source side[2];
+    uint32_t *space;
+    struct table table;
+    struct search search; /* in the target */
+    uint32_t numbers[2];  /* the sources, and their records */
+    struct subgoal sources[2];
+    uint32_t target_number;
+    struct subgoal target; /* as lent */
     const uint32_t *pairs;
     size_t pairs_cells;
-    uint32_t target;
     const uint32_t *copies;
     size_t copies_cells;
+    bool variable;               /* an answer of a source holds one */
+    const struct terms *hand[2]; /* the two answers that are taken together */
+    struct form form;            /* what they give to the target */
+    uint32_t new_nodes;          /* counted before anything is written */
+    uint32_t new_answers;
+    bool left_out;
 };
 
 /*
- * "The sources' answers are judged (9), as next and load do": the subgoal's record, then the chain
- * from the first answer by next until 0, each of them the same subgoal's, and each path (OP2 9).
- * The numbers in the chain rise, so it ends; where it ends is not compared with the last answer.
- * False: 9.
+ * The second source's answers as loaded, by their place in its chain. They stay what they are while the target is written
+ * (readings, Joins: a form given to one subgoal leaves the records, paths and chains of all others).
  */
-static bool read_source(const struct space *s, uint32_t subgoal, struct source *source)
+static struct terms kept[KEPT];
+
+/*
+ * Judges a source as next and load do: its record, then by next from its first answer each answer's record and path. A next
+ * answer is above the one before, so that the chain ends. That it ends at the recorded last answer is not judged.
+ */
+static bool source_sound(struct join *join, int side)
 {
-    if (!is_sound_subgoal(s, subgoal))
+    const struct table *table = &join->table;
+    const struct subgoal *source = &join->sources[side];
+    struct terms terms;
+    size_t place = 0;
+
+    if (!subgoal_sound(table, source))
         return false;
-    source->variables = of_subgoal(s, subgoal, M);
-    source->finished = of_subgoal(s, subgoal, STATE) == FINISHED;
-    uint32_t answer = of_subgoal(s, subgoal, FIRST_ANSWER);
-    while (answer != NONE) {
-        source->answers =
-            grown(source->answers, (source->count + 1) * sizeof *source->answers);
-        if (!is_sound_answer_of(s, answer, subgoal) ||
-            !read_answer(s, answer, &source->answers[source->count]))
+    for (uint32_t number = source->first; number != 0; place++) {
+        struct answer answer = answer_of(table, number);
+        struct terms *to = side == 1 && place < KEPT ? &kept[place] : &terms;
+
+        if (!answer_sound(table, number, &answer) || answer.subgoal != join->numbers[side] ||
+            !load_answer(table, &answer, source, to))
             return false;
-        source->count++;
-        answer = of_answer(s, answer, NEXT_ANSWER);
+        join->variable = join->variable || to->variables != 0;
+        number = answer.next;
     }
     return true;
 }
 
-/* "The target as by answer": what its number names, so its record and its answer root (OP2 10). */
-static bool is_sound_target(const struct space *s, uint32_t target)
-{
-    return is_sound_subgoal(s, target) &&
-           is_sound_root(s, ANSWER_TRIE, of_subgoal(s, target, ANSWER_ROOT));
-}
-
-static bool has_variable(const struct source *source)
-{
-    for (size_t i = 0; i < source->count; i++)
-        if (source->answers[i].variables != 0)
-            return true;
-    return false;
-}
-
 /*
- * 16: "a variable or side named is out of range, the pairs are over 32 or the copies are not one
- * for each target variable"; a number of cells that is odd too (OP2 22). Where the side is out of
- * range its variable is not looked at (OP2 14).
+ * Refusal 16: one number, so that the order of its conditions has no part in it. An odd number of cells is 16, since the last
+ * pair or copy is not whole; where a side is neither 0 nor 1 the variable with it is not looked at.
  */
-static bool are_names(const struct join *join, uint32_t target_variables)
+static bool names_sound(const struct join *join)
 {
-    if (join->pairs_cells % 2 != 0 || join->pairs_cells > 2 * MOST_PAIRS ||
-        join->copies_cells != 2 * (size_t)target_variables)
+    if (join->pairs_cells % 2 != 0 || join->pairs_cells > 2 * MOST_PAIRS)
         return false;
-    for (size_t i = 0; i < join->pairs_cells; i++)
-        if (join->pairs[i] >= join->side[i % 2].variables)
+    if (join->copies_cells % 2 != 0 || join->copies_cells / 2 != join->target.variables)
+        return false;
+    for (size_t i = 0; i < join->pairs_cells; i++) {
+        if (join->pairs[i] >= join->sources[i % 2].variables)
             return false;
-    for (size_t i = 0; i < join->copies_cells; i += 2)
-        if (join->copies[i] > 1 || join->copies[i + 1] >= join->side[join->copies[i]].variables)
+    }
+    for (size_t i = 0; i < join->copies_cells; i += 2) {
+        if (join->copies[i] > 1 || join->copies[i + 1] >= join->sources[join->copies[i]].variables)
             return false;
+    }
     return true;
 }
 
-/* Where term i of an answer stands, and its cells. */
-static const uint32_t *nth_term(uint32_t edition, const struct terms *answer, uint32_t i,
-                                size_t *cells)
+static uint32_t term_length(const struct terms *terms, uint32_t rank)
 {
-    size_t before = 0;
-    (void)measure(edition, i, answer->cells, answer->count, &before);
-    (void)measure(edition, 1, answer->cells + before, answer->count - before, cells);
-    return answer->cells + before;
+    return terms->starts[rank + 1] - terms->starts[rank];
 }
 
-/* "A pair whose named terms are equal": as loaded, nothing is unified (OP2 18). */
-static bool match(uint32_t edition, const struct join *join, const struct terms *one,
-                  const struct terms *other)
+/* Equal as load gives the two ground terms; nothing is unified. */
+static bool terms_equal(const struct terms *one, uint32_t one_rank, const struct terms *other, uint32_t other_rank)
+{
+    uint32_t length = term_length(one, one_rank);
+
+    if (length != term_length(other, other_rank))
+        return false;
+    for (uint32_t i = 0; i < length; i++) {
+        if (one->cells[one->starts[one_rank] + i] != other->cells[other->starts[other_rank] + i])
+            return false;
+    }
+    return true;
+}
+
+static bool matching(const struct join *join)
 {
     for (size_t i = 0; i < join->pairs_cells; i += 2) {
-        size_t cells, other_cells;
-        const uint32_t *term = nth_term(edition, one, join->pairs[i], &cells);
-        const uint32_t *other_term = nth_term(edition, other, join->pairs[i + 1], &other_cells);
-        if (cells != other_cells || memcmp(term, other_term, cells * sizeof *term) != 0)
+        if (!terms_equal(join->hand[0], join->pairs[i], join->hand[1], join->pairs[i + 1]))
             return false;
     }
     return true;
 }
 
-/* The form of the answer that two answers give: "for each of its variables a side and variable to
- * copy", one after another. Only 4 can come of it. */
-static enum refusal copy_terms(uint32_t edition, const struct join *join, const struct terms *one,
-                               const struct terms *other, struct form *form)
+/* Loads an answer of a source that was judged before. */
+static bool load_again(const struct join *join, int side, uint32_t number, struct terms *terms)
 {
-    const struct terms *sides[] = {one, other};
-    uint32_t joined[MOST_TERM_CELLS];
-    size_t count = 0;
+    struct answer answer = answer_of(&join->table, number);
+    return load_answer(&join->table, &answer, &join->sources[side], terms);
+}
+
+/* Takes every answer of the second with the one of the first that is in hand; see each_match. */
+static bool each_second(struct join *join, bool (*visit)(struct join *join))
+{
+    struct terms loaded;
+    size_t place = 0;
+
+    for (uint32_t b = join->sources[1].first; b != 0; b = answer_of(&join->table, b).next, place++) {
+        join->hand[1] = place < KEPT ? &kept[place] : &loaded;
+        if (place >= KEPT && !load_again(join, 1, b, &loaded))
+            return false;
+        if (matching(join) && !visit(join))
+            return false;
+    }
+    return true;
+}
+
+/* Visits every pair of answers that match, in order of the first, then of the second, until a visit says no. */
+static bool each_match(struct join *join, bool (*visit)(struct join *join))
+{
+    struct terms loaded;
+
+    for (uint32_t a = join->sources[0].first; a != 0; a = answer_of(&join->table, a).next) {
+        join->hand[0] = &loaded;
+        if (!load_again(join, 0, a, &loaded) || !each_second(join, visit))
+            return false;
+    }
+    return true;
+}
+
+/* Refusal 4: the copied terms of a match are over 256 cells of pair form, whether the answer is old or not. */
+static bool short_enough(struct join *join)
+{
+    uint32_t length = 0;
+
+    for (size_t i = 0; i < join->copies_cells; i += 2)
+        length += term_length(join->hand[join->copies[i]], join->copies[i + 1]);
+    return length <= MOST_CELLS;
+}
+
+/* The form of the copied terms, which are ground and at most 256 cells. */
+static void make_form(struct join *join)
+{
+    uint32_t cells[MOST_CELLS];
+    uint32_t count = 0;
+    struct names none = {0, {0}};
+    struct compacting c = {join->table.edition, cells, 0, &none, &join->form};
+
     for (size_t i = 0; i < join->copies_cells; i += 2) {
-        size_t cells;
-        const uint32_t *term =
-            nth_term(edition, sides[join->copies[i]], join->copies[i + 1], &cells);
-        if (count + cells > MOST_TERM_CELLS)
-            return TOO_LONG;
-        memcpy(joined + count, term, cells * sizeof *term);
-        count += cells;
+        const struct terms *from = join->hand[join->copies[i]];
+        uint32_t rank = join->copies[i + 1];
+
+        for (uint32_t k = from->starts[rank]; k < from->starts[rank + 1]; k++)
+            cells[count++] = from->cells[k];
     }
-    return compact(edition, (uint32_t)(join->copies_cells / 2), joined, count, form);
-}
-
-/* The forms of all matching combinations, in order, repeated ones too. */
-struct forms {
-    size_t count;
-    struct form *form;
-};
-
-/* "Answers pair in order of the first, then of the second": the first's outermost (OP2 17). */
-static enum refusal pair_answers(uint32_t edition, const struct join *join, struct forms *forms)
-{
-    for (size_t i = 0; i < join->side[0].count; i++)
-        for (size_t j = 0; j < join->side[1].count; j++) {
-            const struct terms *one = &join->side[0].answers[i];
-            const struct terms *other = &join->side[1].answers[j];
-            if (!match(edition, join, one, other))
-                continue;
-            forms->form = grown(forms->form, (forms->count + 1) * sizeof *forms->form);
-            enum refusal refusal =
-                copy_terms(edition, join, one, other, &forms->form[forms->count]);
-            if (refusal != ACCEPTED)
-                return refusal;
-            forms->count++;
-        }
-    return ACCEPTED;
-}
-
-static size_t shared_tokens(const struct form *one, const struct form *other)
-{
-    size_t shared = 0;
-    while (shared < one->count && shared < other->count &&
-           one->cells[shared] == other->cells[shared])
-        shared++;
-    return shared;
-}
-
-/* What the new answers of a join need. */
-struct need {
-    size_t nodes;
-    size_t answers;
-};
-
-/*
- * Adds what the form at `at` needs, which the space as lent lacks: nothing if an earlier one is
- * equal (no form begins another, so equal is shared whole), else a node for each token that
- * neither the space nor an earlier new form has. An earlier form that the space holds has no more
- * in common with this one than the space has.
- */
-static void add_need(const struct forms *forms, size_t at, size_t matched, struct need *need)
-{
-    const struct form *form = &forms->form[at];
-    size_t known = matched;
-    for (size_t i = 0; i < at; i++) {
-        size_t shared = shared_tokens(form, &forms->form[i]);
-        if (shared == form->count && shared == forms->form[i].count)
-            return;
-        known = shared > known ? shared : known;
-    }
-    need->nodes += form->count - known;
-    need->answers++;
+    join->form.count = 0;
+    for (uint32_t i = 0; i < join->target.variables; i++)
+        compact_term(&c);
 }
 
 /*
- * The later 9 and the need: "every search runs on the space as lent, before the first write" (OP2
- * 10), for every combination; an old answer's record; and "where anything is new, the last
- * answer". False: 9.
+ * The forms that the target lacks, as a trie of their own, so that a form that came up before and a node that two forms share
+ * count once. Place 0 is its root. A place is a node of the table that was found, or one that is counted as new, and
+ * counting stops where these no longer fit, so there are never more than the table's nodes and one form.
  */
-static bool search_all(const struct space *s, const struct join *join, const struct forms *forms,
-                       struct need *need)
+static struct {
+    uint32_t used;
+    uint32_t token[MOST_RECORDS + MOST_TOKENS + 1];
+    uint32_t child[MOST_RECORDS + MOST_TOKENS + 1];
+    uint32_t sibling[MOST_RECORDS + MOST_TOKENS + 1];
+} lacking;
+
+static void lack_nothing(void)
 {
-    uint32_t target = join->target, root = of_subgoal(s, target, ANSWER_ROOT);
-    *need = (struct need){0, 0};
-    for (size_t i = 0; i < forms->count; i++) {
-        struct walk walk;
-        if (!walk_down(s, &join->index, ANSWER_TRIE, root, &forms->form[i], &walk))
-            return false;
-        if (walk.link == NONE)
-            add_need(forms, i, walk.matched, need);
-        else if (!is_sound_answer(s, walk.link) ||
-                 of_answer(s, walk.link, ANSWER_LEAF) != walk.node)
-            return false;
-    }
-    uint32_t last = of_subgoal(s, target, LAST_ANSWER);
-    return need->answers == 0 || last == NONE ||
-           (is_sound_answer_of(s, last, target) && of_answer(s, last, NEXT_ANSWER) == NONE);
+    lacking.used = 1;
+    lacking.child[0] = 0;
 }
 
-/*
- * Each combination in order, searched and written in the space as the one before left it; how many
- * could not be. "As if given by answer" (OP2 20): where a single answer would be refused, nothing is
- * written and the next one follows.
- *
- * That comes on a damaged space with an index only. There a later search may be led into a node that
- * has the parent and the token of one that was entered just before, which no sibling leads to and
- * whose entry was out of reach when it was counted: so it may find the answer, or more nodes missing
- * than were counted, or damage.
- */
-static uint32_t write_joined(uint32_t *space, size_t space_cells, const struct join *join,
-                             const struct forms *forms)
+/* The place of a token below another, made if there is none. */
+static uint32_t lacking_below(uint32_t place, uint32_t token)
 {
-    uint32_t left_out = 0;
-    for (size_t i = 0; i < forms->count; i++) {
-        const struct form *form = &forms->form[i];
-        struct space s;
-        struct walk walk;
-        bool found = read_header(space, space_cells, &s) &&
-                     walk_down(&s, &join->index, ANSWER_TRIE,
-                               of_subgoal(&s, join->target, ANSWER_ROOT), form, &walk);
-        if (found && walk.link != NONE)
+    uint32_t *at = &lacking.child[place];
+
+    while (*at != 0 && lacking.token[*at] != token)
+        at = &lacking.sibling[*at];
+    if (*at == 0) {
+        *at = lacking.used++;
+        lacking.token[*at] = token;
+        lacking.child[*at] = 0;
+        lacking.sibling[*at] = 0;
+    }
+    return *at;
+}
+
+static uint32_t free_nodes(const struct join *join)
+{
+    return join->table.most_nodes - nodes_used(&join->table);
+}
+
+/* Counts a form of which so many tokens were found. No form begins another, so one that makes no place came up before. */
+static void count_lacking(struct join *join, size_t found)
+{
+    bool first = join->form.count == 0 && join->new_answers == 0;
+    uint32_t place = 0;
+
+    if (join->new_nodes > free_nodes(join))
+        return;
+    for (size_t i = 0; i < join->form.count; i++) {
+        uint32_t before = lacking.used;
+
+        place = lacking_below(place, join->form.tokens[i]);
+        if (lacking.used == before)
             continue;
-        if (found &&
-            room_for(&s, form->count - walk.matched, s.answers, s.answer_room) == ACCEPTED)
-            write_answer(space, &s, join->target, form, &walk);
-        else
-            left_out++;
+        first = true;
+        if (i >= found)
+            join->new_nodes++;
     }
-    return left_out;
+    if (first)
+        join->new_answers++;
 }
 
-/* Enters all that was judged; "the result is how many were appended" (OP2 20), which without an
- * index is what was counted. */
-static uint32_t enter_joined(uint32_t *space, size_t space_cells, const struct join *join,
-                             const struct forms *forms, const struct need *need)
+/* Searches the target, on the space as lent, for what a match gives; false where damage is met. */
+static bool search_target(struct join *join)
 {
-    uint32_t nodes = space[NODES_USED], answers = space[ANSWERS_USED];
-    uint32_t left_out = write_joined(space, space_cells, join, forms);
-    bool counted = left_out == 0 && space[NODES_USED] == nodes + need->nodes &&
-                   space[ANSWERS_USED] == answers + need->answers;
-    if (!counted && !is_power_of_two(join->index.count)) {
-        fputs("cells model: a join was written otherwise than it was judged\n", stderr);
-        abort();
-    }
-    cells_model_met.joins_otherwise += !counted;
-    cells_model_met.joins_left_out += left_out > 0;
-    return space[ANSWERS_USED] - answers;
+    struct looked looked;
+
+    make_form(join);
+    looked = look_up(&join->search, join->target.root, &join->form);
+    if (looked.held == HELD_NEW)
+        count_lacking(join, looked.walked.depth);
+    return looked.held != HELD_DAMAGED;
 }
 
-/*
- * From the sources' answers to the last refusal: 8, "14 when a source is open, 15 when a source
- * answer holds a variable, 16 ...: in this order after 7 and 8, before 4"; 9; 10 "by the total",
- * and "only then 11" (OP2 21).
- */
-static enum refusal judge_join(const struct space *s, const struct join *join,
-                               struct forms *forms, struct need *need)
+/* Gives what a match gives as a single answer is given, on the cells that the one before left. */
+static bool enter(struct join *join)
 {
-    if (of_subgoal(s, join->target, STATE) == FINISHED)
-        return FINISHED_ALREADY;
-    if (!join->side[0].finished || !join->side[1].finished)
-        return SOURCE_OPEN;
-    if (has_variable(&join->side[0]) || has_variable(&join->side[1]))
-        return SOURCE_VARIABLE;
-    if (!are_names(join, of_subgoal(s, join->target, M)))
-        return BAD_NAMES;
-    enum refusal refusal = pair_answers(s->edition, join, forms);
-    if (refusal != ACCEPTED)
-        return refusal;
-    if (!search_all(s, join, forms, need))
-        return DAMAGED;
-    if (need->nodes > s->node_room - s->nodes)
-        return NO_NODES_LEFT;
-    if (need->answers > s->answer_room - s->answers)
-        return NO_RECORD_LEFT;
-    return ACCEPTED;
+    uint64_t word;
+
+    make_form(join);
+    word = give(join->space, &join->search, join->target_number, &join->form);
+    if (tables_refused_by(word) != 0)
+        join->left_out = true;
+    return true;
 }
 
-uint64_t cells_model_join(uint32_t *space, size_t space_cells, uint32_t first, uint32_t second,
-                          const uint32_t *pairs, size_t pairs_cells, uint32_t target,
-                          const uint32_t *copies, size_t copies_cells)
+/* What a join answers is by how much the answers used rise (readings, Joins: What a join answers). */
+static uint64_t write_joined(struct join *join)
 {
-    return cells_model_join_indexed(space, space_cells, no_index.slots, no_index.count, first,
-                                    second, pairs, pairs_cells, target, copies, copies_cells);
+    uint32_t nodes = nodes_used(&join->table);
+    uint32_t answers = answers_used(&join->table);
+
+    each_match(join, enter);
+    nodes = nodes_used(&join->table) - nodes;
+    answers = answers_used(&join->table) - answers;
+    if (nodes != join->new_nodes || answers != join->new_answers || join->left_out)
+        cells_model_met.joins_otherwise++;
+    if (join->left_out)
+        cells_model_met.joins_left_out++;
+    return word_of(TABLES_JOINED, answers);
 }
 
-/* 9's first place stands "straight after 7", which looks at all three numbers (OP2 8). */
-uint64_t cells_model_join_indexed(uint32_t *space, size_t space_cells, const uint32_t *index_slots,
-                                  size_t index_cells, uint32_t first, uint32_t second,
-                                  const uint32_t *pairs, size_t pairs_cells, uint32_t target,
+/* Reads the three records and judges what is judged straight after 7: the sources with their answers, the target and its root. */
+static bool join_records_sound(struct join *join)
+{
+    for (int side = 0; side < 2; side++)
+        join->sources[side] = subgoal_of(&join->table, join->numbers[side]);
+    join->target = subgoal_of(&join->table, join->target_number);
+    return source_sound(join, 0) && source_sound(join, 1) && entrance_sound(&join->table, &join->target);
+}
+
+/* Behind 16: 4, 9, 10, 11. All is judged on the space as lent, before the first write. */
+static uint64_t join_matches(struct join *join)
+{
+    if (!each_match(join, short_enough))
+        return refused(TABLES_REFUSED_LENGTH);
+    lack_nothing();
+    if (!each_match(join, search_target))
+        return refused(TABLES_REFUSED_DAMAGED);
+    if (join->new_answers != 0 && !last_sound(&join->table, join->target_number, &join->target))
+        return refused(TABLES_REFUSED_DAMAGED);
+    if (join->new_nodes > free_nodes(join))
+        return refused(TABLES_REFUSED_NO_NODE);
+    if (join->new_answers > join->table.most_answers - answers_used(&join->table))
+        return refused(TABLES_REFUSED_NO_RECORD);
+    return write_joined(join);
+}
+
+/* 1, 7, 9, 8, 14, 15, 16, 4, 9, 10, 11. */
+uint64_t cells_model_join_indexed(uint32_t *space, size_t space_cells, const uint32_t *index_slots, size_t index_cells,
+                                  uint32_t first, uint32_t second, const uint32_t *pairs, size_t pairs_cells, uint32_t target,
                                   const uint32_t *copies, size_t copies_cells)
 {
-    struct space s;
-    struct join join = {.index = {index_slots, index_cells}, .pairs = pairs,
-                        .pairs_cells = pairs_cells, .target = target, .copies = copies,
-                        .copies_cells = copies_cells};
-    struct forms forms = {0, NULL};
-    struct need need = {0, 0};
-    uint32_t joined = 0;
-    if (!read_header(space, space_cells, &s))
-        return refused(BAD_HEADER);
-    if (!is_subgoal(&s, first) || !is_subgoal(&s, second) || !is_subgoal(&s, target))
-        return refused(BAD_NUMBER);
-    enum refusal refusal = DAMAGED;
-    if (read_source(&s, first, &join.side[0]) && read_source(&s, second, &join.side[1]) &&
-        is_sound_target(&s, target))
-        refusal = judge_join(&s, &join, &forms, &need);
-    if (refusal == ACCEPTED)
-        joined = enter_joined(space, space_cells, &join, &forms, &need);
-    free(join.side[0].answers);
-    free(join.side[1].answers);
-    free(forms.form);
-    return refusal == ACCEPTED ? result(TABLES_JOINED, joined) : refused(refusal);
+    struct join join;
+
+    if (!read_header(&join.table, space, space_cells))
+        return refused(TABLES_REFUSED_HEADER);
+    if (!is_subgoal(&join.table, first) || !is_subgoal(&join.table, second) || !is_subgoal(&join.table, target))
+        return refused(TABLES_REFUSED_NUMBER);
+    join.space = space;
+    join.search = search_of(&join.table, ANSWER_TRIE, index_slots, index_cells);
+    join.numbers[0] = first;
+    join.numbers[1] = second;
+    join.target_number = target;
+    join.pairs = pairs;
+    join.pairs_cells = pairs_cells;
+    join.copies = copies;
+    join.copies_cells = copies_cells;
+    join.variable = false;
+    join.new_nodes = 0;
+    join.new_answers = 0;
+    join.left_out = false;
+    if (!join_records_sound(&join))
+        return refused(TABLES_REFUSED_DAMAGED);
+    if (join.target.state != 0)
+        return refused(TABLES_REFUSED_STATE);
+    if (join.sources[0].state == 0 || join.sources[1].state == 0)
+        return refused(TABLES_REFUSED_SOURCE_OPEN);
+    if (join.variable)
+        return refused(TABLES_REFUSED_SOURCE_VARIABLE);
+    if (!names_sound(&join))
+        return refused(TABLES_REFUSED_NAMES);
+    return join_matches(&join);
 }
 
-/* ---- The build of an index ------------------------------------------------------------------ */
-
-/* "By the root that its parents lead to" (OP2 42), of a node whose parent, as theirs, is not above
- * it: node 0 is the root of the subgoals, any other root is one of answers. */
-static enum trie trie_of(const struct space *s, uint32_t node)
+uint64_t cells_model_join(uint32_t *space, size_t space_cells, uint32_t first, uint32_t second, const uint32_t *pairs,
+                          size_t pairs_cells, uint32_t target, const uint32_t *copies, size_t copies_cells)
 {
-    while (of_node(s, node, PARENT) != node)
-        node = of_node(s, node, PARENT);
-    return node == SUBGOAL_ROOT ? SUBGOAL_TRIE : ANSWER_TRIE;
+    return cells_model_join_indexed(space, space_cells, NULL, 0, first, second, pairs, pairs_cells, target, copies,
+                                    copies_cells);
 }
 
-/* "Each judged whole as a node compared or on a path is, including the expected parent of its child
- * and sibling, since these are read too" (OP2 42). The nodes before it have been judged. */
-static bool is_sound_record(const struct space *s, uint32_t node)
-{
-    uint32_t parent = of_node(s, node, PARENT), child = of_node(s, node, FIRST_CHILD);
-    uint32_t sibling = of_node(s, node, NEXT_SIBLING);
-    return parent <= node && is_sound_node(s, trie_of(s, node), node) &&
-           (child == NONE || of_node(s, child, PARENT) == node) &&
-           (sibling == NONE || of_node(s, sibling, PARENT) == parent);
-}
+/* The build (02, Q-5; readings, A build). */
 
-/* "A build reads every node". */
-static bool are_sound_nodes(const struct space *s)
+/*
+ * A link is held to the subgoals below node 0, else to the answers. The way up to the root is gone only where the link is within
+ * one count and not the other; every node on it has a lower number, so that it was judged before and the way ends.
+ */
+static bool built_link_sound(const struct table *table, uint32_t number, uint32_t link)
 {
-    for (uint32_t node = 0; node < s->nodes; node++)
-        if (!is_sound_record(s, node))
-            return false;
-    return true;
-}
+    bool of_subgoals = link <= most_link(table, SUBGOAL_TRIE);
+    bool of_answers = link <= most_link(table, ANSWER_TRIE);
 
-/* "Each node of more than 8 children": "those of its sibling chain" (OP2 33). */
-static bool has_many_children(const struct space *s, uint32_t node)
-{
-    size_t children = 0;
-    for (uint32_t child = of_node(s, node, FIRST_CHILD);
-         child != NONE && children <= MOST_UNINDEXED; child = of_node(s, child, NEXT_SIBLING))
-        children++;
-    return children > MOST_UNINDEXED;
-}
-
-/* A root is nobody's child, though it has itself as parent. */
-static bool is_to_enter(const struct space *s, uint32_t node)
-{
-    uint32_t parent = of_node(s, node, PARENT);
-    return parent != node && has_many_children(s, parent);
-}
-
-/* "The slot is ..., else the next free one around". */
-static void enter_child(const struct space *s, uint32_t *slots, size_t count, uint32_t node)
-{
-    size_t slot = slot_of(of_node(s, node, PARENT), of_node(s, node, TOKEN), count);
-    while (slots[slot] != FREE_SLOT)
-        slot = slot_after(slot, count);
-    slots[slot] = node;
+    if (of_subgoals == of_answers)
+        return of_subgoals;
+    while (node_of(table, number).parent != number)
+        number = node_of(table, number).parent;
+    return number == 0 ? of_subgoals : of_answers;
 }
 
 /*
- * "17 when a build has fewer slots than twice the children to enter, or a number of slots that is no
- * power of two, checked after 9"; "children enter by number", over the whole space, and "every slot
- * is written, what it held before has no part in it" (OP2 40).
+ * A build reads every node, the one that a child or sibling names too. So it is judged here that these have the expected parent
+ * (01): a first child this node, and a sibling this node's parent.
  */
-uint64_t cells_model_build(const uint32_t *space, size_t space_cells, uint32_t *index,
-                           size_t index_cells)
+static bool built_node_sound(const struct table *table, uint32_t number)
 {
-    struct space s;
-    uint32_t entered = 0;
-    if (!read_header(space, space_cells, &s))
-        return refused(BAD_HEADER);
-    if (!are_sound_nodes(&s))
-        return refused(DAMAGED);
-    for (uint32_t node = 0; node < s.nodes; node++)
-        entered += is_to_enter(&s, node);
-    if (!is_power_of_two(index_cells) || index_cells < 2 * (size_t)entered)
-        return refused(BAD_SLOTS);
-    for (size_t slot = 0; slot < index_cells; slot++)
-        index[slot] = FREE_SLOT;
-    for (uint32_t node = 0; node < s.nodes; node++)
-        if (is_to_enter(&s, node))
-            enter_child(&s, index, index_cells, node);
-    return result(TABLES_BUILT, entered);
+    struct node node = node_of(table, number);
+
+    if (!places_sound(table, number, &node))
+        return false;
+    if (node.child != 0 && node_of(table, node.child).parent != number)
+        return false;
+    if (node.sibling != 0 && node_of(table, node.sibling).parent != node.parent)
+        return false;
+    return built_link_sound(table, number, node.link);
+}
+
+/*
+ * Whether a node has more than 8 children: its sibling chain has, from its first child on, sibling by sibling. All nodes are
+ * judged by then, so that the chain rises and every node on it names this one as its parent.
+ */
+static bool crowded(const struct table *table, uint32_t number)
+{
+    uint32_t child = node_of(table, number).child;
+    uint32_t count = 0;
+
+    while (child != 0 && count <= CROWDED) {
+        count++;
+        child = node_of(table, child).sibling;
+    }
+    return count > CROWDED;
+}
+
+/*
+ * Below a crowded node every node enters whose own record names it as parent, whether or not a sibling leads to it. A root is
+ * its own parent and nobody's child, so it never enters.
+ */
+static bool enters(const struct table *table, uint32_t number)
+{
+    uint32_t parent = node_of(table, number).parent;
+    return parent != number && crowded(table, parent);
+}
+
+/* All nodes that enter, by number over the whole space, each in its slot or the next free one, around. */
+static void fill_index(const struct table *table, uint32_t *index, size_t slots)
+{
+    uint32_t used = nodes_used(table);
+
+    for (size_t slot = 0; slot < slots; slot++)
+        index[slot] = 0;
+    for (uint32_t number = 0; number < used; number++) {
+        struct node node = node_of(table, number);
+        size_t slot = (uint32_t)(node.parent + node.token) % slots;
+
+        if (!enters(table, number))
+            continue;
+        while (index[slot] != 0)
+            slot = slot + 1 == slots ? 0 : slot + 1;
+        index[slot] = number;
+    }
+}
+
+/* 1, 9, 17. */
+uint64_t cells_model_build(const uint32_t *space, size_t space_cells, uint32_t *index, size_t index_cells)
+{
+    struct table table;
+    uint32_t entering = 0;
+
+    if (!read_header(&table, space, space_cells))
+        return refused(TABLES_REFUSED_HEADER);
+    for (uint32_t number = 0; number < nodes_used(&table); number++) {
+        if (!built_node_sound(&table, number))
+            return refused(TABLES_REFUSED_DAMAGED);
+    }
+    for (uint32_t number = 0; number < nodes_used(&table); number++)
+        entering += enters(&table, number);
+    if (!power_of_two(index_cells) || index_cells / 2 < entering)
+        return refused(TABLES_REFUSED_SLOTS);
+    fill_index(&table, index, index_cells);
+    return word_of(TABLES_BUILT, entering);
 }

@@ -29,7 +29,7 @@ uint64_t cells_model_join_indexed(uint32_t *space, size_t space_cells, const uin
                                   const uint32_t *copies, size_t copies_cells);
 uint64_t cells_model_build(const uint32_t *space, size_t space_cells, uint32_t *index, size_t index_cells);
 
-/* What all searches so far met in an index, and the joins on damaged spaces that one led astray (see write_joined). */
+/* What all searches so far met in an index, and joins that did not enter what they were counted to: none is expected. */
 struct cells_model_met {
     uint64_t confirmed;       /* entries that are the child, sound or damaged */
     uint64_t passed_over;     /* entries that are not */
