@@ -337,27 +337,27 @@ static const struct row rows[] = {
         HOLDS(NODE, 10, A(7), 0, 17, 6, 4), HOLDS(NODE, 17, A(13), 0, 0, 6, 11), HOLDS(SUBGOAL, 2, 5, 6, 1, 0, 2, 11)),
 
     /*
-     * A join counts on the table as it is lent, and enters one answer after another, as if given by answer. With an index, and
-     * where children were hidden from the siblings, what it enters first makes the index lead to them: it finds an old answer
-     * there, needs another number of nodes, or leaves out an answer for which there is no room, or damage in the way.
+     * A join counts on the table as it is lent, and enters one answer after another, as if given by answer. Where children were
+     * hidden from the siblings, what it enters first stands before them; but a slot counts only beside a sibling that stood when
+     * the join began. So it finds nothing there that it had not found when it counted: every answer enters, as without an index.
      */
-    ROW("what a join enters may lead it to an old answer", LED_ASTRAY(ANSWERED(2, 3, G1, A(2)), 10), COUNTED(12, 2, 3),
-        CHAIN_JOIN(2, JOINED(2)), ENTER_JOIN(2, JOINED(1)), COUNTED(14, 2, 4), HOLDS(NODE, 6, 0, 12, 0, 6, 0),
-        HOLDS(NODE, 12, G1, 13, 0, 6, 0), HOLDS(NODE, 13, A(1), 0, 0, 12, 4), HOLDS(NODE, 11, A(2), 0, 0, 10, 3)),
-    ROW("below an old node", LED_ASTRAY(ANSWERED(2, 3, G1, A(5)), 10), ENTER_JOIN(2, JOINED(2)), COUNTED(15, 2, 5),
-        HOLDS(NODE, 12, G1, 13, 0, 6, 0), HOLDS(NODE, 11, A(5), 0, 14, 10, 3), HOLDS(NODE, 14, A(2), 0, 0, 10, 5)),
-    ROW("with one node more than counted", LED_DEEP, ENTER_JOIN(2, JOINED(2)), COUNTED(18, 2, 5),
-        HOLDS(NODE, 13, G1, 14, 0, 6, 0), HOLDS(NODE, 12, A(5), 0, 16, 11, 3), HOLDS(NODE, 16, H1, 17, 0, 11, 0),
-        HOLDS(NODE, 17, A(2), 0, 0, 16, 5)),
-    ROW_WITH("left out where there is none", 17, LED_DEEP, LOOK_JOIN(2, JOINED(1)), CHAIN_JOIN(2, JOINED(2)),
-             ENTER_JOIN(2, JOINED(1)), COUNTED(16, 2, 4), HOLDS(NODE, 12, A(5), 0, 0, 11, 3),
-             HOLDS(SUBGOAL, 1, 2, 3, 1, 1, 1, 2), HOLDS(SUBGOAL, 2, 5, 6, 1, 0, 3, 4)),
-    ROW_WITH("10 where fewer are left than counted", 16, LED_DEEP, LOOK_JOIN(2, REFUSED(10)), CHAIN_JOIN(2, REFUSED(10))),
-    ROW("left out where damage is in the way, and the next enters", CALLED(1, P1, X), CALLED(2, Q1, X), ANSWERED(1, 1, G1, A(1)),
+    ROW("what a join enters leads it to no old answer", LED_ASTRAY(ANSWERED(2, 3, G1, A(2)), 10), COUNTED(12, 2, 3),
+        CHAIN_JOIN(2, JOINED(2)), ENTER_JOIN(2, JOINED(2)), COUNTED(15, 2, 5), HOLDS(NODE, 6, 0, 12, 0, 6, 0),
+        HOLDS(NODE, 12, G1, 13, 0, 6, 0), HOLDS(NODE, 13, A(1), 0, 14, 12, 4), HOLDS(NODE, 14, A(2), 0, 0, 12, 5),
+        HOLDS(NODE, 11, A(2), 0, 0, 10, 3)),
+    ROW("nor below an old node", LED_ASTRAY(ANSWERED(2, 3, G1, A(5)), 10), ENTER_JOIN(2, JOINED(2)), COUNTED(15, 2, 5),
+        HOLDS(NODE, 12, G1, 13, 0, 6, 0), HOLDS(NODE, 11, A(5), 0, 0, 10, 3), HOLDS(NODE, 14, A(2), 0, 0, 12, 5)),
+    ROW("with as many nodes as counted", LED_DEEP, ENTER_JOIN(2, JOINED(2)), COUNTED(17, 2, 5),
+        HOLDS(NODE, 13, G1, 14, 0, 6, 0), HOLDS(NODE, 12, A(5), 0, 0, 11, 3), HOLDS(NODE, 16, A(2), 0, 0, 14, 5)),
+    ROW_WITH("none left out where there is just room", 17, LED_DEEP, LOOK_JOIN(2, JOINED(2)), CHAIN_JOIN(2, JOINED(2)),
+             ENTER_JOIN(2, JOINED(2)), COUNTED(17, 2, 5), HOLDS(NODE, 12, A(5), 0, 0, 11, 3),
+             HOLDS(SUBGOAL, 1, 2, 3, 1, 1, 1, 2), HOLDS(SUBGOAL, 2, 5, 6, 1, 0, 3, 5)),
+    ROW_WITH("10 where one fewer is left", 16, LED_DEEP, LOOK_JOIN(2, REFUSED(10)), CHAIN_JOIN(2, REFUSED(10))),
+    ROW("none left out where damage is hidden", CALLED(1, P1, X), CALLED(2, Q1, X), ANSWERED(1, 1, G1, A(1)),
         ANSWERED(1, 2, G1, A(2)), ANSWERED(1, 3, A(9)), ANSWERED(2, 4, G1, A(5)), FINISHED(1), SET_CELL(NODE, 6, CHILD, 0),
-        SET_CELL(NODE, 12, LINK, FAR), INDEX_OF(32, {7, 11}), CHAIN_JOIN(2, JOINED(3)), ENTER_JOIN(2, JOINED(2)),
-        COUNTED(16, 2, 6), HOLDS(NODE, 13, G1, 14, 15, 6, 0), HOLDS(NODE, 14, A(1), 0, 0, 13, 5),
-        HOLDS(NODE, 15, A(9), 0, 0, 6, 6)),
+        SET_CELL(NODE, 12, LINK, FAR), INDEX_OF(32, {7, 11}), CHAIN_JOIN(2, JOINED(3)), ENTER_JOIN(2, JOINED(3)),
+        COUNTED(17, 2, 7), HOLDS(NODE, 13, G1, 14, 16, 6, 0), HOLDS(NODE, 14, A(1), 0, 15, 13, 5),
+        HOLDS(NODE, 15, A(2), 0, 0, 13, 6), HOLDS(NODE, 16, A(9), 0, 0, 6, 7)),
 };
 
 /* The space */
