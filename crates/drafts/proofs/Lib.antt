@@ -1,0 +1,9 @@
+pub mod Steady
+pub mod Stops
+pub mod Noting
+pub mod EntryLaws
+pub mod EntryCases
+pub mod DraftLaws
+pub mod DraftCases
+pub mod WipeCases
+pub mod Roots

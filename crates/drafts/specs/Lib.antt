@@ -1,0 +1,5 @@
+pub mod Entries
+pub mod Drafts
+pub mod Wiping
+pub mod Notes
+pub mod Examples
