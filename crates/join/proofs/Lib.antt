@@ -3,3 +3,7 @@ pub mod JoinCases
 pub mod RoomCases
 pub mod RuleCases
 pub mod CallCases
+pub mod TrialFrame
+pub mod TrialLaws
+pub mod TrialLoop
+pub mod TrialCases

@@ -2,6 +2,8 @@
 use super::Numbers;
 use super::Parties;
 use super::entering::enter;
+use super::trial::UNSETTLED;
+use super::trial::on_trial;
 use answering::last_sound;
 use basis::refusals::LENGTH;
 use basis::refusals::NAMES;
@@ -47,6 +49,7 @@ ghost use Rattle.pairing.specs.Counting.{ReadyToCount};
 ghost use Rattle.join.specs.Joining.{isNumber, Numbered, PartiesIn, sidesOf, wholeAnswers, groundAnswers};
 ghost use Rattle.join.specs.Joining.{RulesOn, Rules, Grounded, JoinsUnder, JoinsNumbered, SomeNew, sumsFit};
 ghost use Rattle.join.specs.Joining.{TellsRoom, Enterable, EntersAll};
+ghost use Rattle.join.specs.Trial.{Roomed, TellsInPlace};
 
 // The sources as the passes take them.
 fn sides_of(h: Head, y: Parties) -> Sides
@@ -208,6 +211,39 @@ fn full(space: &[u32], x: Sides, root: usize, pairs: &[u32], copies: &[u32], ind
     0
 }
 
+// The fewer of two numbers.
+fn least(a: usize, b: u64) -> usize
+    ensures { λ r. ⌜ r ≤ a ⌝ }
+{
+    if b < a as u64 {
+        return b as usize;
+    }
+    a
+}
+
+// The same, counted on trial where that settles it. A draft takes no more nodes than the tokens that were not found.
+fn room(
+    space: &mut [u32],
+    x: Sides,
+    root: usize,
+    pairs: &[u32],
+    copies: &[u32],
+    index: &[u32],
+    missing: u64,
+) -> u32
+    requires { ⌜ Roomed (now space) x root (now pairs) (now copies) ⌝ }
+    ensures { λ r.
+        ⌜ TellsInPlace (searchIndexed (old index) (x .h .nodes)) (old space) x root (old pairs) (old copies)
+        (new space) r ⌝ }
+{
+    let free = least(x.h.node_capacity - x.h.nodes, missing);
+    let r = on_trial(space, x, root, pairs, copies, index, free);
+    if r == UNSETTLED {
+        return full(space, x, root, pairs, copies, index);
+    }
+    r
+}
+
 // Forms that fit, of which some are new: 9 by the last answer, 10, 11, or all are entered.
 fn join_new(
     space: &mut [u32],
@@ -227,7 +263,7 @@ fn join_new(
         if sums_fit(h, sums) {
             return join_entered(space, x, y.target, pairs, copies, index);
         }
-        let r = full(space, x, y.t.root, pairs, copies, index);
+        let r = room(space, x, y.t.root, pairs, copies, index, sums.missing);
         if r == 0 {
             return join_entered(space, x, y.target, pairs, copies, index);
         }

@@ -1,7 +1,8 @@
-// The join of two finished subgoals as a call: what is judged, in its order; what the forms of the join need, which
-// crate pairing counts; and the forms entered, each as a single answer is.
+// The join of two finished subgoals as a call: what is judged, in its order; what the forms of the join need, which a
+// count on trial or crate pairing tells; and the forms entered, each as a single answer is.
 pub mod entering;
 pub mod joins;
+pub mod trial;
 
 use space::Subgoal;
 
@@ -20,4 +21,24 @@ pub struct Parties {
     pub g: Subgoal,
     pub target: usize,
     pub t: Subgoal,
+}
+
+// A draft of the forms so far: the nodes in use with it, and how many forms are new.
+pub struct Tally {
+    pub used: usize,
+    pub answers: u64,
+}
+
+// One form more on trial: the tally with it; or it needs more nodes than the draft may use; or the draft cannot tell.
+pub enum TriedForm {
+    Counted(Tally),
+    Over,
+    Unknown,
+}
+
+// All forms on trial.
+pub enum Tried {
+    All(Tally),
+    Over,
+    Unknown,
 }

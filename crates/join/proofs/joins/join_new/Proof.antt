@@ -1,5 +1,10 @@
 -- `join::joins::join_new` meets its contract.
-use Rattle.join.proofs.CallCases.{target-last, sums-room, new-bounds, new-last, may-enter, may-need, may-need-root, new-by-sums, new-exactly, new-full}
+use mathlib.Core.Path.{ap, _∙_}
+use lib.ListN.{length}
+use Rattle.join.proofs.CallCases.{target-last, sums-room, new-bounds, new-last, may-enter, new-by-sums, new-exactly, new-full}
+use Rattle.join.proofs.TrialCases.{new-roomed, enter-after, entered-after, refused-after}
+use Rattle.join.specs.Joining.{joinAsked}
+use Rattle.plain.specs.Requests.{refused}
 use Rattle.basis.proofs.Tests.{told}
 use Rattle.trie.specs.Index.{searchIndexed}
 use borrow.Author.Needs.{needs}
@@ -24,23 +29,23 @@ same-length c = search needs
 returns : tie.Need-returns
 returns c = new-by-sums (searchIndexed (c .before .before .before .before .before .before .before .before .before .before .before .before .before .before .args .index .now)) (c .before .before .before .before .before .before .before .before .before .before .before .before .before .before .args .space .now) (c .before .before .before .before .before .before .before .before .before .before .before .before .before .before .args .h) (c .before .before .before .before .before .before .before .before .before .before .before .before .before .before .args .y) (c .before .before .before .before .before .before .before .before .before .before .before .before .before .before .args .pairs .now) (c .before .before .before .before .before .before .before .before .before .before .before .before .before .before .args .copies .now) (c .before .before .before .before .before .before .before .before .before .before .before .before .before .before .args .sums) (c .before .before .before .before .before .before .before .before .before .before .before .before .before .before .pre) _ (c .before .before .before .before .before .before .sides-of .ensures) (told (c .before .before .before .before .before .before .before .before .last-sound .ensures) (c .before .before .before .before .before .before .before .if1 .taken)) (told (c .before .before .before .before .before .sums-fit .ensures) (c .before .before .before .before .if2 .taken)) (c .before .before .join-entered .result) _ (c .before .before .join-entered .ensures)
 
-full-requires : tie.Need-full-requires
-full-requires c κs = (may-need (searchIndexed (c .before .before .before .before .before .before .before .before .before .before .before .args .index .now)) (c .before .before .before .before .before .before .before .before .before .before .before .args .space .now) (c .before .before .before .before .before .before .before .before .before .before .before .args .h) (c .before .before .before .before .before .before .before .before .before .before .before .args .y) (c .before .before .before .before .before .before .before .before .before .before .before .args .pairs .now) (c .before .before .before .before .before .before .before .before .before .before .before .args .copies .now) (c .before .before .before .before .before .before .before .before .before .before .before .args .sums) (c .before .before .before .before .before .before .before .before .before .before .before .pre) _ (c .before .before .before .sides-of .ensures), may-need-root (searchIndexed (c .before .before .before .before .before .before .before .before .before .before .before .args .index .now)) (c .before .before .before .before .before .before .before .before .before .before .before .args .space .now) (c .before .before .before .before .before .before .before .before .before .before .before .args .h) (c .before .before .before .before .before .before .before .before .before .before .before .args .y) (c .before .before .before .before .before .before .before .before .before .before .before .args .pairs .now) (c .before .before .before .before .before .before .before .before .before .before .before .args .copies .now) (c .before .before .before .before .before .before .before .before .before .before .before .args .sums) (c .before .before .before .before .before .before .before .before .before .before .before .pre) _ (c .before .before .before .sides-of .ensures))
+room-requires : tie.Need-room-requires
+room-requires c κs = new-roomed (searchIndexed (c .before .before .before .before .before .before .before .before .before .before .before .args .index .now)) (c .before .before .before .before .before .before .before .before .before .before .before .args .space .now) (c .before .before .before .before .before .before .before .before .before .before .before .args .h) (c .before .before .before .before .before .before .before .before .before .before .before .args .y) (c .before .before .before .before .before .before .before .before .before .before .before .args .pairs .now) (c .before .before .before .before .before .before .before .before .before .before .before .args .copies .now) (c .before .before .before .before .before .before .before .before .before .before .before .args .sums) (c .before .before .before .before .before .before .before .before .before .before .before .pre) (c .before .before .before .sides-of .result) (c .before .before .before .sides-of .ensures)
 
 join-entered-requires-2 : tie.Need-join-entered-requires-2
-join-entered-requires-2 c κs = may-enter (searchIndexed (c .before .before .before .before .before .before .before .before .before .before .before .before .before .before .args .index .now)) (c .before .before .before .before .before .before .before .before .before .before .before .before .before .before .args .space .now) (c .before .before .before .before .before .before .before .before .before .before .before .before .before .before .args .h) (c .before .before .before .before .before .before .before .before .before .before .before .before .before .before .args .y) (c .before .before .before .before .before .before .before .before .before .before .before .before .before .before .args .pairs .now) (c .before .before .before .before .before .before .before .before .before .before .before .before .before .before .args .copies .now) (c .before .before .before .before .before .before .before .before .before .before .before .before .before .before .args .sums) (c .before .before .before .before .before .before .before .before .before .before .before .before .before .before .pre) _ (c .before .before .before .before .before .before .sides-of .ensures)
+join-entered-requires-2 c κs = enter-after (searchIndexed (c .before .before .before .before .before .before .before .before .before .before .before .before .before .before .before .before .args .index .now)) (c .before .before .before .before .before .before .before .before .before .before .before .before .before .before .before .before .args .space .now) (c .before .before .before .before .before .before .before .before .before .before .before .before .before .before .before .before .args .h) (c .before .before .before .before .before .before .before .before .before .before .before .before .before .before .before .before .args .y) (c .before .before .before .before .before .before .before .before .before .before .before .before .before .before .before .before .args .pairs .now) (c .before .before .before .before .before .before .before .before .before .before .before .before .before .before .before .before .args .copies .now) (c .before .before .before .before .before .before .before .before .before .before .before .before .before .before .before .before .args .sums) (c .before .before .before .before .before .before .before .before .before .before .before .before .before .before .before .before .pre) (c .before .before .before .before .before .before .before .before .sides-of .result) (c .before .before .before .before .before .before .before .before .sides-of .ensures) (c .before .before .before .before .room .last .0) (c .before .before .before .before .room .ensures .0)
 
 same-length-2 : tie.Need-same-length-2
 same-length-2 c = search needs
 
 returns-2 : tie.Need-returns-2
-returns-2 c = new-exactly (searchIndexed (c .before .before .before .before .before .before .before .before .before .before .before .before .before .before .before .before .before .args .index .now)) (c .before .before .before .before .before .before .before .before .before .before .before .before .before .before .before .before .before .args .space .now) (c .before .before .before .before .before .before .before .before .before .before .before .before .before .before .before .before .before .args .h) (c .before .before .before .before .before .before .before .before .before .before .before .before .before .before .before .before .before .args .y) (c .before .before .before .before .before .before .before .before .before .before .before .before .before .before .before .before .before .args .pairs .now) (c .before .before .before .before .before .before .before .before .before .before .before .before .before .before .before .before .before .args .copies .now) (c .before .before .before .before .before .before .before .before .before .before .before .before .before .before .before .before .before .args .sums) (c .before .before .before .before .before .before .before .before .before .before .before .before .before .before .before .before .before .pre) _ (c .before .before .before .before .before .before .before .before .before .sides-of .ensures) (told (c .before .before .before .before .before .before .before .before .before .before .before .last-sound .ensures) (c .before .before .before .before .before .before .before .before .before .before .if1 .taken)) _ (c .before .before .before .before .before .full .ensures) (search needs) (c .before .before .join-entered2 .result) _ (c .before .before .join-entered2 .ensures)
+returns-2 c = new-exactly (searchIndexed (c .before .before .before .before .before .before .before .before .before .before .before .before .before .before .before .before .before .before .before .args .index .now)) (c .before .before .before .before .before .before .before .before .before .before .before .before .before .before .before .before .before .before .before .args .space .now) (c .before .before .before .before .before .before .before .before .before .before .before .before .before .before .before .before .before .before .before .args .h) (c .before .before .before .before .before .before .before .before .before .before .before .before .before .before .before .before .before .before .before .args .y) (c .before .before .before .before .before .before .before .before .before .before .before .before .before .before .before .before .before .before .before .args .pairs .now) (c .before .before .before .before .before .before .before .before .before .before .before .before .before .before .before .before .before .before .before .args .copies .now) (c .before .before .before .before .before .before .before .before .before .before .before .before .before .before .before .before .before .before .before .args .sums) (c .before .before .before .before .before .before .before .before .before .before .before .before .before .before .before .before .before .before .before .pre) (c .before .before .before .before .before .before .before .before .before .before .before .sides-of .result) (c .before .before .before .before .before .before .before .before .before .before .before .sides-of .ensures) (told (c .before .before .before .before .before .before .before .before .before .before .before .before .before .last-sound .ensures) (c .before .before .before .before .before .before .before .before .before .before .before .before .if1 .taken)) (c .before .before .before .before .before .before .before .room .result) (c .before .before .before .before .before .before .before .room .ensures .1) (search needs) (c .before .before .join-entered2 .result) _ (entered-after (searchIndexed (c .before .before .before .before .before .before .before .before .before .before .before .before .before .before .before .before .before .before .before .args .index .now) (c .before .before .before .before .before .before .before .before .before .before .before .sides-of .result .h .nodes)) (c .before .before .before .before .before .before .before .before .before .before .before .before .before .before .before .before .before .before .before .args .space .now) (c .before .before .before .before .before .before .before .room .last .0) (c .before .before .before .before .before .before .before .before .before .before .before .sides-of .result) (c .before .before .before .before .before .before .before .before .before .before .before .before .before .before .before .before .before .before .before .args .y .target) (c .before .before .before .before .before .before .before .before .before .before .before .before .before .before .before .before .before .before .before .args .pairs .now) (c .before .before .before .before .before .before .before .before .before .before .before .before .before .before .before .before .before .before .before .args .copies .now) (c .before .before .join-entered2 .result) _ (c .before .before .before .before .before .before .before .room .ensures .0) (c .before .before .join-entered2 .ensures))
 
 same-length-3 : tie.Need-same-length-3
-same-length-3 c = search needs
+same-length-3 c = ap length (c .before .before .before .room .ensures .0)
 
 returns-3 : tie.Need-returns-3
-returns-3 c = new-full (searchIndexed (c .before .before .before .before .before .before .before .before .before .before .before .before .before .args .index .now)) (c .before .before .before .before .before .before .before .before .before .before .before .before .before .args .space .now) (c .before .before .before .before .before .before .before .before .before .before .before .before .before .args .h) (c .before .before .before .before .before .before .before .before .before .before .before .before .before .args .y) (c .before .before .before .before .before .before .before .before .before .before .before .before .before .args .pairs .now) (c .before .before .before .before .before .before .before .before .before .before .before .before .before .args .copies .now) (c .before .before .before .before .before .before .before .before .before .before .before .before .before .args .sums) (c .before .before .before .before .before .before .before .before .before .before .before .before .before .pre) _ (c .before .before .before .before .before .sides-of .ensures) (told (c .before .before .before .before .before .before .before .last-sound .ensures) (c .before .before .before .before .before .before .if1 .taken)) _ (c .before .full .ensures) (search needs)
+returns-3 c = refused-after (searchIndexed (c .before .before .before .before .before .before .before .before .before .before .before .before .before .before .before .args .index .now) (c .before .before .before .before .before .before .before .before .before .before .before .before .before .before .before .args .h .nodes)) (c .before .before .before .before .before .before .before .before .before .before .before .before .before .before .before .args .space .now) (c .before .before .before .room .last .0) (c .before .before .before .before .before .before .before .before .before .before .before .before .before .before .before .args .h) (joinAsked (c .before .before .before .before .before .before .before .before .before .before .before .before .before .before .before .args .y) (c .before .before .before .before .before .before .before .before .before .before .before .before .before .before .before .args .pairs .now) (c .before .before .before .before .before .before .before .before .before .before .before .before .before .before .before .args .copies .now)) (refused (c .before .before .before .room .result)) (c .before .before .before .room .ensures .0) (new-full (searchIndexed (c .before .before .before .before .before .before .before .before .before .before .before .before .before .before .before .args .index .now)) (c .before .before .before .before .before .before .before .before .before .before .before .before .before .before .before .args .space .now) (c .before .before .before .before .before .before .before .before .before .before .before .before .before .before .before .args .h) (c .before .before .before .before .before .before .before .before .before .before .before .before .before .before .before .args .y) (c .before .before .before .before .before .before .before .before .before .before .before .before .before .before .before .args .pairs .now) (c .before .before .before .before .before .before .before .before .before .before .before .before .before .before .before .args .copies .now) (c .before .before .before .before .before .before .before .before .before .before .before .before .before .before .before .args .sums) (c .before .before .before .before .before .before .before .before .before .before .before .before .before .before .before .pre) (c .before .before .before .before .before .before .before .sides-of .result) (c .before .before .before .before .before .before .before .sides-of .ensures) (told (c .before .before .before .before .before .before .before .before .before .last-sound .ensures) (c .before .before .before .before .before .before .before .before .if1 .taken)) (c .before .before .before .room .result) (c .before .before .before .room .ensures .1) (search needs))
 
 same-length-4 : tie.Need-same-length-4
 same-length-4 c = search needs
@@ -58,7 +63,7 @@ join-new-spec =
     join-entered-requires
     same-length
     returns
-    full-requires
+    room-requires
     join-entered-requires-2
     same-length-2
     returns-2
