@@ -80,6 +80,16 @@ static const struct row rows[] = {
 
 enum { ROWS = sizeof rows / sizeof *rows };
 
+/* The same joins refused, with none, half and all but one of the nodes that they need. */
+static const struct row refused_rows[] = {
+    {"2,000 by 2,000, 2,000 pairs", 2000, 2000, NO_MATCH, 1, 0, 0, 1, 0, 2000},
+    {"2,000 by 2,000, shared nodes", 2000, 2000, 10, 1, 0, 0, 1, 0, 2000},
+    {"100 by 100, every combination", 100, 100, NO_MATCH, 1, 0, 0, 0, 0, 10000},
+    {"500 by 500, lists of 20", 500, 500, NO_MATCH, 1, 0, 1, 1, 0, 500},
+};
+
+enum { REFUSED_ROWS = sizeof refused_rows / sizeof *refused_rows, FULLNESSES = 3 };
+
 /* A table with both sources, as it is before each join; a copy, which is joined; and the request. */
 struct table {
     const struct row *row;
@@ -418,6 +428,58 @@ static void time_row(FILE *tsv, const struct row *row)
     free_table(&table);
 }
 
+/* The best time of a side on the table as it is, in nanoseconds, and its word. */
+static double time_once(struct table *table, int side, uint64_t *word)
+{
+    double best = 0;
+    for (int round = 0; round < LEAST_ROUNDS; round++) {
+        restore(table);
+        double start = now();
+        *word = sides[side](table);
+        double time = now() - start;
+        if (round == 0 || time < best)
+            best = time;
+    }
+    return best;
+}
+
+/* A join accepted with room to spare, and refused at several fullnesses: how many times as long that takes. */
+static void time_refused(FILE *tsv, const struct row *row)
+{
+    struct table table;
+    uint32_t counts[3];
+    uint64_t word;
+    double accepted[PLAIN + 1];
+    make_table(&table, row, roomy_nodes(row));
+    must_be(&table, plain_counts(table.before, table.cells, counts, 3), TABLES_COUNTS);
+    for (int side = OURS; side <= PLAIN; side++) {
+        accepted[side] = time_once(&table, side, &word);
+        must_be(&table, word, TABLES_JOINED);
+    }
+    free_table(&table);
+    uint32_t used = counts[0], needed = exact_nodes(row) - used;
+    const uint32_t free_nodes[FULLNESSES] = {0, needed / 2, needed - 1};
+    for (int i = 0; i < FULLNESSES; i++) {
+        double refused[PLAIN + 1];
+        make_table(&table, row, used + free_nodes[i]);
+        for (int side = OURS; side <= PLAIN; side++) {
+            refused[side] = time_once(&table, side, &word);
+            if (tables_refused_by(word) != TABLES_REFUSED_NO_NODE ||
+                memcmp(table.before, table.space, table.cells * sizeof *table.space) != 0)
+                stop(row->name, "a side enters more than there is room for");
+        }
+        free_table(&table);
+        printf("%-34s  %6u of %6u nodes free: refused in %8.3f ms, %5.2f times; plain %8.3f, %5.2f\n",
+               row->name, free_nodes[i], needed, refused[OURS] / 1e6, refused[OURS] / accepted[OURS],
+               refused[PLAIN] / 1e6, refused[PLAIN] / accepted[PLAIN]);
+        if (tsv != NULL)
+            fprintf(tsv, "%s\t%u\t%u\t%.3f\t%.3f\t%.2f\t%.3f\t%.3f\t%.2f\n", row->name,
+                    free_nodes[i], needed, accepted[OURS] / 1e6, refused[OURS] / 1e6,
+                    refused[OURS] / accepted[OURS], accepted[PLAIN] / 1e6, refused[PLAIN] / 1e6,
+                    refused[PLAIN] / accepted[PLAIN]);
+    }
+}
+
 /* Only one side of one row, a few times over, to be counted by callgrind: joins ROW SIDE TIMES. */
 static void run_one(const char *row, const char *side, const char *times)
 {
@@ -453,6 +515,11 @@ int main(int argc, char **argv)
                      "loading to ours\tkeeping to ours\trounds\n");
     for (int i = 0; i < ROWS; i++)
         time_row(tsv, &rows[i]);
+    if (tsv != NULL)
+        fprintf(tsv, "refused\tfree nodes\tneeded\tours accepted ms\tours refused ms\ttimes\tplain accepted ms\t"
+                     "plain refused ms\ttimes\n");
+    for (int i = 0; i < REFUSED_ROWS; i++)
+        time_refused(tsv, &refused_rows[i]);
     if (tsv != NULL && fclose(tsv) != 0) {
         perror(argv[1]);
         return 1;

@@ -281,15 +281,103 @@ static void need(const struct join *join, size_t root, uint64_t *nodes, uint64_t
     }
 }
 
+/* The needs on trial: a draft of the new nodes in free ones, found by parent and token through a hash table */
+
+/* The free nodes that a draft may use: the first of them, and how many. */
+struct room {
+    size_t base, most;
+};
+
+static inline size_t slot_in(const struct room *room, size_t parent, uint32_t token)
+{
+    return room->base + (parent * 40503 + token) % room->most;
+}
+
+/* Are the free nodes zeros? */
+static bool is_blank(const uint32_t *space, const struct room *room)
+{
+    const uint32_t *end = node_at(space, room->base + room->most);
+    for (const uint32_t *at = node_at(space, room->base); at != end; at++)
+        if (*at != 0)
+            return false;
+    return true;
+}
+
+/* The entry with this parent and this token, made where there is none; 0 where no node is left. */
+static inline size_t reach(uint32_t *space, const struct room *room, size_t *used, size_t parent,
+                           uint32_t token)
+{
+    if (room->most == 0)
+        return 0;
+    size_t slot = slot_in(room, parent, token);
+    for (size_t n = node_at(space, slot)[CHILD]; n != 0; n = node_at(space, n)[SIBLING])
+        if (node_at(space, n)[PARENT] == parent && node_at(space, n)[TOKEN] == token)
+            return n;
+    if (*used == room->base + room->most)
+        return 0;
+    uint32_t *own = (uint32_t *)node_at(space, *used);
+    own[TOKEN] = token;
+    own[SIBLING] = node_at(space, slot)[CHILD];
+    own[PARENT] = (uint32_t)parent;
+    own[LINK] = 0;
+    ((uint32_t *)node_at(space, slot))[CHILD] = (uint32_t)*used;
+    return (*used)++;
+}
+
+enum tried { TRIED, TRIED_OVER, TRIED_UNKNOWN };
+
+/* All forms on trial; the draft stays. */
+static enum tried try_forms(uint32_t *space, const struct join *join, size_t root,
+                            const struct room *room, uint64_t *nodes, uint64_t *answers)
+{
+    struct stand stand;
+    size_t used = room->base;
+    *answers = 0;
+    begin(join, &stand);
+    while (advance(join, &stand) == FOUND) {
+        struct place place;
+        const struct compaction *form = &stand.form;
+        if (!walk(join->space, join->head.nodes, join->head.answers, root, join->index, form->tokens,
+                  form->count, &place))
+            return TRIED_UNKNOWN;
+        if (place.left == 0) {
+            if (node_at(space, place.node)[LINK] == 0)
+                return TRIED_UNKNOWN;
+            continue;
+        }
+        size_t n = place.node;
+        for (size_t i = form->count - place.left; i < form->count; i++) {
+            n = reach(space, room, &used, n, form->tokens[i]);
+            if (n == 0)
+                return TRIED_OVER;
+        }
+        uint32_t *end = (uint32_t *)node_at(space, n);
+        *answers += end[LINK] == 0;
+        end[LINK] = 1;
+    }
+    *nodes = used - room->base;
+    return TRIED;
+}
+
 /* Is there room: by the sums, or else by the exact needs? */
-static enum refusal room(const struct join *join, size_t root, const struct sums *sums)
+static enum refusal room_for(uint32_t *space, const struct join *join, size_t root,
+                             const struct sums *sums)
 {
     uint64_t nodes = join->head.node_capacity - join->head.nodes;
     uint64_t answers = join->head.answer_capacity - join->head.answers;
     uint64_t nodes_needed, answers_needed;
     if (sums->missing <= nodes && sums->lacking <= answers)
         return ACCEPTED;
-    need(join, root, &nodes_needed, &answers_needed);
+    struct room room = {join->head.nodes, sums->missing < nodes ? sums->missing : nodes};
+    enum tried tried = TRIED_UNKNOWN;
+    if (is_blank(space, &room)) {
+        tried = try_forms(space, join, root, &room, &nodes_needed, &answers_needed);
+        memset((uint32_t *)node_at(space, room.base), 0, room.most * NODE_CELLS * sizeof *space);
+        if (tried == TRIED_OVER && room.most == nodes)
+            return NO_NODES;
+    }
+    if (tried != TRIED)
+        need(join, root, &nodes_needed, &answers_needed);
     if (nodes_needed > nodes)
         return NO_NODES;
     return answers_needed > answers ? NO_RECORDS : ACCEPTED;
@@ -358,7 +446,7 @@ static uint64_t join_ground(uint32_t *space, struct join *join, size_t target)
         return say(SAID_JOINED, 0);
     if (!last_is_sound(space, &join->head, target, record[LAST]))
         return refuse(DAMAGED);
-    enum refusal refusal = room(join, root, &sums);
+    enum refusal refusal = room_for(space, join, root, &sums);
     if (refusal != ACCEPTED)
         return refuse(refusal);
     return say(SAID_JOINED, enter(space, join, target, root));
