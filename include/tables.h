@@ -555,7 +555,9 @@ uint64_t tables_counts(const uint32_t *space, size_t space_cells, uint32_t *out,
  *
  * A join costs as many comparisons as the first has answers times the second;
  * where the table may be too full for every match as a new answer with nodes of
- * its own, it counts exactly, which multiplies the cost by half the matches.
+ * its own, it counts exactly, in one pass more, with a draft in free cells of the
+ * space that it sets back. Where those cells are not 0, as after damage, the exact
+ * count multiplies the cost by half the matches.
  * First and second may be the same subgoal. TABLES_JOINED with the number of new
  * answers. Refused by 1, 7, 9, 8, 14, 15, 16, 4, 9, 10, 11.
  */

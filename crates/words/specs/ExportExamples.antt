@@ -37,8 +37,8 @@ pub exports-shown :
     ∷ wordSeen (268 * 2 ^ 32 + 3) 4 1 (9 ∷ [])
     ∷ []
 unfolding zipWith word counting countsReply countsOut trace step counted called fits appended nodes answerNodes
-    answersTo number subgoalOf settled distinct prefixes union add has allInits inits judged naming handedOn reading callable predicate
-    taken storedOf compactForm areTerms pairForm formTerms front symbolic tokenOf items entered filled lastOf tailOf into
-    inside collected whole reads begun applied paired shapeOf arityOf every compact elements pairs numbered renamed met seen
-    rank same
+    answersTo number subgoalOf settled distinct prefixes union add has allInits inits judged naming handedOn reading
+    callable predicate taken storedOf compactForm areTerms pairForm formTerms front symbolic tokenOf items entered
+    filled lastOf tailOf into inside collected whole reads begun applied paired shapeOf arityOf every compact elements
+    pairs numbered renamed met seen rank same
 exports-shown = refl
