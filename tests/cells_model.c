@@ -408,7 +408,7 @@ static uint32_t read_terms(uint32_t edition, const uint32_t *cells, size_t count
 struct terms {
     uint32_t count;
     uint32_t variables;
-    uint32_t starts[MOST_VARIABLES + 1]; /* where each term begins, and behind the last its end */
+    uint32_t starts[MOST_VARIABLES + 1]; /* where each term begins, and after the last its end */
     uint32_t cells[MOST_CELLS];
 };
 

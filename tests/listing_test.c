@@ -113,7 +113,7 @@ static bool legal_cell(uint32_t cell, uint32_t edition)
     return kind >= 1 && kind <= 3;
 }
 
-/* The place behind the term that begins at a place, or 0 where cells are missing or illegal. */
+/* The place after the term that begins at a place, or 0 where cells are missing or illegal. */
 static size_t end_of_term(const uint32_t *cells, size_t n, size_t at, uint32_t edition)
 {
     if (at >= n || !legal_cell(cells[at], edition))
@@ -352,7 +352,7 @@ static const char *const layout_names[] = {"guard behind", "guard before", "NULL
 static size_t page_cells;
 static uint32_t *symbols_page, *term_page, *out_page;
 
-/* A page with one before it and one behind it that cannot be touched. */
+/* A page with one before it and one after it that cannot be touched. */
 static uint32_t *guarded_page(void)
 {
     size_t bytes = page_cells * sizeof(uint32_t);
@@ -934,7 +934,7 @@ static void check_strangers(uint32_t e)
     }
 }
 
-/* A term of the list with cells behind it, as many as a count of 8 bits would lose among others. */
+/* A term of the list with cells after it, as many as a count of 8 bits would lose among others. */
 static void check_lengths(uint32_t e)
 {
     static const size_t more[] = {1, 2, 3, 8, 128, 255, 256, 257, 512, 768};
@@ -944,7 +944,7 @@ static void check_lengths(uint32_t e)
             uint32_t cells[MOST_SIZE + 768] = {0};
             for (size_t j = 0; j < size; j++)
                 cells[j] = l.symbols[j + 1 == size];
-            struct question q = after_of("cells behind a term of the list", &l, size, cells, size + more[i], size);
+            struct question q = after_of("cells after a term of the list", &l, size, cells, size + more[i], size);
             check(&q, refusal(TABLES_REFUSED_LISTED), NULL);
             q.out_cells = 0;
             check(&q, refusal(TABLES_REFUSED_LISTED), NULL);
@@ -998,9 +998,9 @@ static void check_editions(void)
     struct listing l = sixteen(2);
     for (size_t i = 0; i < COUNT_OF(editions); i++)
         for (size_t size = 0; size <= 9; size++) {
-            check_no_list("an edition that there is not", editions[i], l.symbols, l.count, size);
-            check_no_list("an edition that there is not", editions[i], l.symbols + 1, 1, size);
-            check_no_list("an edition that there is not, no symbols", editions[i], NULL, 0, size);
+            check_no_list("an unknown edition", editions[i], l.symbols, l.count, size);
+            check_no_list("an unknown edition", editions[i], l.symbols + 1, 1, size);
+            check_no_list("an unknown edition, no symbols", editions[i], NULL, 0, size);
         }
 }
 
