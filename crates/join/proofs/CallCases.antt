@@ -44,7 +44,7 @@ use Rattle.pairing.specs.declared.Needs.{Needs}
 use Rattle.join.specs.declared.Parties.{Parties}
 use Rattle.pairing.specs.declared.Sides.{Sides}
 use Rattle.pairing.specs.declared.Sums.{Sums}
-use Rattle.pairing.specs.Counting.{allForms, JoinReady, Fitting, CountedOf, CountsForms, NeedsOf}
+use Rattle.pairing.specs.Counting.{allForms, JoinReady, Fitting, CountedOf, CountsForms, NeedsUpTo}
 use Rattle.join.specs.Entering.{Enters}
 use Rattle.join.specs.Joining.{isNumber, joinAsked, Numbered, PartiesIn, sidesOf, Grounded, JoinsUnder, sumsFit, roomFor, TellsRoom, SomeNew, Enterable, EntersAll}
 use Rattle.join.proofs.EnterLaws.{sound-is}
@@ -218,24 +218,24 @@ module _ (cs : List ℕ) (h : Head) (y : Parties) (ps ks : List ℕ) (g : Ground
 
 -- ---- forms of which some are new
 
-module _ (find : Finding) (cs : List ℕ) (x : Sides) (root : ℕ) (ps ks : List ℕ) (y : Needs) (n : NeedsOf find cs x root ps ks y) where
+module _ (find : Finding) (cs : List ℕ) (x : Sides) (root : ℕ) (ps ks : List ℕ) (y : Needs) (n : NeedsUpTo (x .h .«node_capacity» - x .h .nodes) find cs x root ps ks y) where
   pub fills-nodes : x .h .«node_capacity» - x .h .nodes < y .nodes → TellsRoom find cs x root ps ks 10
   fills-nodes l s e =
       room-nodes (x .h) (nodesNeededBy find (viewIn cs (x .h)) s [] (allForms cs x ps ks)) (answersNeededBy find (viewIn cs (x .h)) s [] (allForms cs x ps ks))
-      (subst (λ (k : ℕ). x .h .«node_capacity» - x .h .nodes < k) (n s e .0) l)
+      (let m = n s e .0 in omega arith)
 
   module _ (k : y .nodes ≤ x .h .«node_capacity» - x .h .nodes) where
     pub fills-answers : x .h .«answer_capacity» - x .h .answers < y .answers → TellsRoom find cs x root ps ks 11
     fills-answers l s e =
         room-answers (x .h) (nodesNeededBy find (viewIn cs (x .h)) s [] (allForms cs x ps ks)) (answersNeededBy find (viewIn cs (x .h)) s [] (allForms cs x ps ks))
-        (subst (λ (i : ℕ). i ≤ x .h .«node_capacity» - x .h .nodes) (n s e .0) k)
-        (subst (λ (i : ℕ). x .h .«answer_capacity» - x .h .answers < i) (n s e .1) l)
+        (subst (λ (i : ℕ). i ≤ x .h .«node_capacity» - x .h .nodes) (n s e .1 k .0) k)
+        (subst (λ (i : ℕ). x .h .«answer_capacity» - x .h .answers < i) (n s e .1 k .1) l)
 
     pub fills-none : y .answers ≤ x .h .«answer_capacity» - x .h .answers → TellsRoom find cs x root ps ks 0
     fills-none l s e =
         room-enough (x .h) (nodesNeededBy find (viewIn cs (x .h)) s [] (allForms cs x ps ks)) (answersNeededBy find (viewIn cs (x .h)) s [] (allForms cs x ps ks))
-        (subst (λ (i : ℕ). i ≤ x .h .«node_capacity» - x .h .nodes) (n s e .0) k)
-        (subst (λ (i : ℕ). i ≤ x .h .«answer_capacity» - x .h .answers) (n s e .1) l)
+        (subst (λ (i : ℕ). i ≤ x .h .«node_capacity» - x .h .nodes) (n s e .1 k .0) k)
+        (subst (λ (i : ℕ). i ≤ x .h .«answer_capacity» - x .h .answers) (n s e .1 k .1) l)
 
 pub sums-room : (cs : List ℕ) (h : Head) → Bounds cs h
     → ((h .nodes ≤ h .«node_capacity») × (h .answers ≤ h .«answer_capacity»)) × ((h .«node_capacity» < 2 ^ 32) × (h .«answer_capacity» < 2 ^ 32))

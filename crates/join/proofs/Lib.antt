@@ -3,6 +3,7 @@ pub mod JoinCases
 pub mod RoomCases
 pub mod RuleCases
 pub mod CallCases
+pub mod GroundLaws
 pub mod TrialFrame
 pub mod TrialLaws
 pub mod TrialLoop

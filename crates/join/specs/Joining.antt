@@ -147,6 +147,12 @@ TellsRoom find cs x root ps ks r =
     r ≡ roomFor (x .h) (nodesNeededBy find (viewIn cs (x .h)) s [] ws)
     (answersNeededBy find (viewIn cs (x .h)) s [] ws))
 
+-- some form is new
+abbrev pub SomeNeeded : Finding → List ℕ → Sides → ℕ → List ℕ → List ℕ → Type 0
+SomeNeeded find cs x root ps ks =
+    (s : ℕ) → root ≡ subgoalUnder cs (x .h) s .root
+    → answersNeededBy find (viewIn cs (x .h)) s [] (allForms cs x ps ks) ≡ 0 → ⊥
+
 -- the forms fit, no damaged record was met, and some are new
 pub record SomeNew (find : Finding) (cs : List ℕ) (h : Head) (y : Parties) (ps ks : List ℕ) (sums : Sums) : Type 0 where
   pub grounded : Grounded cs h y ps ks

@@ -48,7 +48,7 @@ ghost use Rattle.store.specs.Replies.{saidJoin};
 ghost use Rattle.pairing.specs.Counting.{ReadyToCount};
 ghost use Rattle.join.specs.Joining.{isNumber, Numbered, PartiesIn, sidesOf, wholeAnswers, groundAnswers};
 ghost use Rattle.join.specs.Joining.{RulesOn, Rules, Grounded, JoinsUnder, JoinsNumbered, SomeNew, sumsFit};
-ghost use Rattle.join.specs.Joining.{TellsRoom, Enterable, EntersAll};
+ghost use Rattle.join.specs.Joining.{roomFor, TellsRoom, SomeNeeded, Enterable, EntersAll};
 ghost use Rattle.join.specs.Trial.{Roomed, TellsInPlace};
 
 // The sources as the passes take them.
@@ -199,9 +199,9 @@ fn full(space: &[u32], x: Sides, root: usize, pairs: &[u32], copies: &[u32], ind
     ensures { λ r.
         ⌜ TellsRoom (searchIndexed (old index) (x .h .nodes)) (old space) x root (old pairs) (old copies) r ⌝ }
 {
-    let y = needs(space, x, root, pairs, copies, index);
     let nodes = (x.h.node_capacity - x.h.nodes) as u64;
     let answers = (x.h.answer_capacity - x.h.answers) as u64;
+    let y = needs(space, x, root, pairs, copies, index, nodes);
     if nodes < y.nodes {
         return NODES;
     }
@@ -209,6 +209,16 @@ fn full(space: &[u32], x: Sides, root: usize, pairs: &[u32], copies: &[u32], ind
         return RECORDS_LEFT;
     }
     0
+}
+
+// The same where no node is needed, and one answer.
+fn full_for_one(h: Head) -> u32
+    ensures { λ r. ⌜ r ≡ roomFor h 0 1 ⌝ }
+{
+    if h.answers < h.answer_capacity {
+        return 0;
+    }
+    RECORDS_LEFT
 }
 
 // The fewer of two numbers.
@@ -221,7 +231,8 @@ fn least(a: usize, b: u64) -> usize
     a
 }
 
-// The same, counted on trial where that settles it. A draft takes no more nodes than the tokens that were not found.
+// The refusal for want of room where some form is new. Without variables all forms are the empty one and not counted;
+// others are counted on trial where that settles it. A draft takes no more nodes than the tokens that were not found.
 fn room(
     space: &mut [u32],
     x: Sides,
@@ -232,10 +243,14 @@ fn room(
     missing: u64,
 ) -> u32
     requires { ⌜ Roomed (now space) x root (now pairs) (now copies) ⌝ }
+    requires { ⌜ SomeNeeded (searchIndexed (now index) (x .h .nodes)) (now space) x root (now pairs) (now copies) ⌝ }
     ensures { λ r.
         ⌜ TellsInPlace (searchIndexed (old index) (x .h .nodes)) (old space) x root (old pairs) (old copies)
         (new space) r ⌝ }
 {
+    if copies.len() == 0 {
+        return full_for_one(x.h);
+    }
     let free = least(x.h.node_capacity - x.h.nodes, missing);
     let r = on_trial(space, x, root, pairs, copies, index, free);
     if r == UNSETTLED {

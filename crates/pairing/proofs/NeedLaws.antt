@@ -1,12 +1,12 @@
 -- The pass over all forms of a join that counts exactly: each form against those before it.
 use mathlib.Core.Path.{_≡_, refl, sym, ap, _∙_, subst}
-use mathlib.Core.Bool.{Bool, true, false, _||_}
+use mathlib.Core.Bool.{Bool, true, false, _||_, false≢true}
 use mathlib.Core.List.{List, [], _∷_, _++_}
 use Prim.Native.Nat.{ℕ, suc, _+_, _-_, _*_, _^_, _≤_, _<_, min, max}
 use native.Mathlib.Omega.{arith}
 use lib.Dec.{eqb}
 use lib.ListN.{length, take, length-append}
-use lib.Seq.{take-at, length-take-le}
+use lib.Seq.{take-at, take-append-add, length-take-le}
 use borrow.Author.Tests.{eqb-true, eqb-false}
 use Rattle.basis.proofs.Tests.{strictly}
 use Rattle.plain.proofs.LongestShared.{most-le}
@@ -29,7 +29,7 @@ use Rattle.pairing.specs.declared.Match.the-variants as match
 use Rattle.pairing.specs.declared.Needs.{Needs}
 use Rattle.pairing.specs.declared.Earlier.{Earlier}
 use Rattle.pairing.specs.Pairing.{twoHands, mostTokens, Stands, toCome, Advances}
-use Rattle.pairing.specs.Counting.{beginning, allForms, JoinReady, Fitting, backwards, EarlierOf, allShared, MeetsOneMore, oneNew, needsMore, NeedsOf}
+use Rattle.pairing.specs.Counting.{beginning, allForms, JoinReady, Fitting, backwards, EarlierOf, allShared, MeetsOneMore, oneNew, needsMore, NeedsUpTo}
 use Rattle.pairing.proofs.CountLaws.{begins, all-come, fit-cons, met-walk}
 
 -- ---- lists
@@ -47,6 +47,11 @@ unfolding backwards
 backwards-one [] w before = refl
 backwards-one (d ∷ ds) w before = backwards-one ds w (d ∷ before)
 
+backwards-more : (ds es before : List Word) → backwards (ds ++ es) before ≡ backwards es (backwards ds before)
+unfolding backwards
+backwards-more [] es before = refl
+backwards-more (d ∷ ds) es before = backwards-more ds es (d ∷ before)
+
 -- ---- one form against another
 
 most-cons : (v : Word) (before : List Word) (w : Word) → most (v ∷ before) w ≡ max (common v w) (most before w)
@@ -56,6 +61,14 @@ most-cons v before w = refl
 has-cons : (v : Word) (before : List Word) (w : Word) → has (v ∷ before) w ≡ (same v w || has before w)
 unfolding has
 has-cons v before w = refl
+
+has-none : (w : Word) → has [] w ≡ false
+unfolding has
+has-none w = refl
+
+or-true : (b : Bool) → (b || true) ≡ true
+or-true true = refl
+or-true false = refl
 
 -- two forms are equal where they share all tokens of both
 common-most : (v w : Word) → (common v w ≤ length v) × (common v w ≤ length w)
@@ -100,6 +113,31 @@ shared-same v w = by-cases (eqb (common v w) (length v))
     (λ l. rw (e, l) (sym (same-longer v w (eqb-false _ _ l)))))
     (λ e. rw e (sym (same-less v w (strictly (common v w) (length v) (common-most v w .0) (eqb-false _ _ e)))))
 
+same-all : (v w : Word) → same v w ≡ true → common v w ≡ length w
+unfolding common same
+same-all [] [] e = refl
+same-all [] (y ∷ w) e = absurd (false≢true e)
+same-all (x ∷ v) [] e = absurd (false≢true e)
+same-all (x ∷ v) (y ∷ w) e = by-cases (eqb x y)
+    (λ q. rw q (ap suc (same-all v w (rw q at e))))
+    (λ q. absurd (false≢true (rw q at e)))
+
+-- a form among those before it shares all its tokens
+held-whole : (before : List Word) (w : Word) → has before w ≡ true → most before w ≡ length w
+held-whole before w h = let m = most-le before w in let k = at-least before h in omega arith
+  where
+    at-least : (vs : List Word) → has vs w ≡ true → length w ≤ most vs w
+    at-least [] e = absurd (false≢true (sym (has-none w) ∙ e))
+    at-least (v ∷ vs) e = by-cases (same v w)
+        (λ q. omega (arith, most-cons v vs w, same-all v w q))
+        (λ q. omega (arith, most-cons v vs w, at-least vs (sym (ap (λ (b : Bool). b || has vs w) q) ∙ sym (has-cons v vs w) ∙ e)))
+
+-- and among more of them
+held-more : (ds before : List Word) (w : Word) → has before w ≡ true → has (backwards ds before) w ≡ true
+unfolding backwards
+held-more [] before w h = h
+held-more (d ∷ ds) before w h = held-more ds (d ∷ before) w (has-cons d before w ∙ ap (λ (b : Bool). same d w || b) h ∙ or-true (same d w))
+
 -- what a form shares with one more before it
 pub meets : (e : Earlier) (v w : Word) (b : Earlier) → b .shared ≡ max (common v w) (e .shared) → (q : Bool) → q ≡ allShared (common v w) (length v) (length w) → b .held ≡ (q || e .held) → MeetsOneMore e v w b
 meets e v w b s q p h = λ before a d. (
@@ -141,6 +179,18 @@ module _ (cs : List ℕ) (x : Sides) (ps ks : List ℕ) (w : Word) where
     compared-end count k =
         let t : take count (allForms cs x ps ks) ≡ c .done = ap (take count) (c .are) ∙ take-at (c .done) (toCome cs x ps ks at hands) count (c .passed ∙ k) in
         (c .shared ∙ ap (λ (ds : List Word). most (backwards ds []) w) (sym t), c .held ∙ ap (λ (ds : List Word). has (backwards ds []) w) (sym t))
+
+    -- the form is among those passed, so that those to come change nothing
+    pub compared-held : (count : ℕ) → i ≤ count → e .held ≡ true → EarlierOf (allForms cs x ps ks) count w e
+    compared-held count k h =
+        let more : List Word = take (count - i) (toCome cs x ps ks at hands) in
+        let n : count ≡ length (c .done) + (count - i) = omega (arith, c .passed) in
+        let t : take count (allForms cs x ps ks) ≡ c .done ++ more =
+        ap (take count) (c .are) ∙ ap (λ (j : ℕ). take j (c .done ++ toCome cs x ps ks at hands)) n ∙ take-append-add (c .done) (toCome cs x ps ks at hands) (count - i) in
+        let b : backwards (take count (allForms cs x ps ks)) [] ≡ backwards more (backwards (c .done) []) = ap (λ (ds : List Word). backwards ds []) t ∙ backwards-more (c .done) more [] in
+        let p : has (backwards (c .done) []) w ≡ true = sym (c .held) ∙ h in
+        let q : has (backwards (take count (allForms cs x ps ks)) []) w ≡ true = ap (λ (ds : List Word). has ds w) b ∙ held-more more (backwards (c .done) []) w p in
+        (c .shared ∙ held-whole (backwards (c .done) []) w p ∙ sym (held-whole (backwards (take count (allForms cs x ps ks)) []) w q), h ∙ sym q)
 
     -- there is a further form
     pub comparing-short : (count : ℕ) → count ≤ length (allForms cs x ps ks) → i < count → toCome cs x ps ks at hands ≡ [] → ⊥
@@ -221,12 +271,16 @@ module _ (find : Finding) where
         }
 
     module _ (at : Cursor) (hands form : List ℕ) (i : ℕ) (y : Needs) (c : Needing cs x root ps ks at hands form i y) (hands′ form′ : List ℕ) where
-      pub needed-end : Advances cs x ps ks at hands hands′ form′ match.End → NeedsOf find cs x root ps ks y
+      pub needed-end : (free : ℕ) → Advances cs x ps ks at hands hands′ form′ match.End → NeedsUpTo free find cs x root ps ks y
       unfolding nodesNeededBy answersNeededBy
-      needed-end e s p = (
-        omega (arith, c .nodes s p, ap (nodesNeededBy find (viewIn cs (x .h)) s (backwards (c .done) [])) e),
-        omega (arith, c .answers s p, ap (answersNeededBy find (viewIn cs (x .h)) s (backwards (c .done) [])) e),
-      )
+      needed-end free e s p =
+          let n = ap (nodesNeededBy find (viewIn cs (x .h)) s (backwards (c .done) [])) e in
+          let a = ap (answersNeededBy find (viewIn cs (x .h)) s (backwards (c .done) [])) e in
+          (omega (arith, c .nodes s p), λ l. (omega (arith, c .nodes s p, n), omega (arith, c .answers s p, a)))
+
+      -- more nodes than are free, whatever is still to come
+      pub needed-over : (free : ℕ) → free < y .nodes → NeedsUpTo free find cs x root ps ks y
+      needed-over free o s p = (omega (arith, c .nodes s p), λ l. absurd (omega arith))
 
       module _ (next : Cursor) (n : ℕ) (a : Advances cs x ps ks at hands hands′ form′ (match.At next n)) where
         fewer : length (toCome cs x ps ks at hands) ≡ suc (length (toCome cs x ps ks next hands′))

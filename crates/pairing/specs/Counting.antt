@@ -1,5 +1,5 @@
 -- What the forms of a join need, as the functions that go through all of them say it.
-use Prim.Native.Nat.{ℕ, _+_, _-_, min}
+use Prim.Native.Nat.{ℕ, _+_, _-_, _≤_, min}
 use mathlib.Core.Bool.{Bool, true, false, _&&_}
 use mathlib.Core.List.{List, [], _∷_}
 use mathlib.Core.Path.{_≡_}
@@ -110,9 +110,12 @@ needsMore y m e n = record {
   answers = y .answers + oneNew (m .lacking) (e .held);
 }
 
-abbrev pub NeedsOf : Finding → List ℕ → Sides → ℕ → List ℕ → List ℕ → Needs → Type 0
-NeedsOf find cs x root ps ks r =
+-- all that the forms need; or, where that is more nodes than `free`, a part of it that is more too
+abbrev pub NeedsUpTo : ℕ → Finding → List ℕ → Sides → ℕ → List ℕ → List ℕ → Needs → Type 0
+NeedsUpTo free find cs x root ps ks r =
     (s : ℕ) → root ≡ subgoalUnder cs (x .h) s .root
     → (let ws = allForms cs x ps ks in
-    (r .nodes ≡ nodesNeededBy find (viewIn cs (x .h)) s [] ws)
-    × (r .answers ≡ answersNeededBy find (viewIn cs (x .h)) s [] ws))
+    (r .nodes ≤ nodesNeededBy find (viewIn cs (x .h)) s [] ws)
+    × (r .nodes ≤ free
+    → (r .nodes ≡ nodesNeededBy find (viewIn cs (x .h)) s [] ws)
+    × (r .answers ≡ answersNeededBy find (viewIn cs (x .h)) s [] ws)))

@@ -20,7 +20,7 @@ ghost use Rattle.basis.specs.Moments.{old};
 ghost use Rattle.trie.specs.Index.{searchIndexed};
 ghost use Rattle.pairing.specs.Counting.{beginning, allForms, oneMore, added};
 ghost use Rattle.pairing.specs.Counting.{JoinReady, CountsForms, ReadyToCount};
-ghost use Rattle.pairing.specs.Counting.{EarlierOf, allShared, MeetsOneMore, oneNew, needsMore, NeedsOf};
+ghost use Rattle.pairing.specs.Counting.{EarlierOf, allShared, MeetsOneMore, oneNew, needsMore, NeedsUpTo};
 
 // Where a join begins: nothing is in hand.
 pub fn begin(x: Sides) -> Cursor
@@ -141,7 +141,7 @@ fn meet(e: Earlier, other: &[u32], form: &[u32]) -> Earlier
     }
 }
 
-// What the form shares with the first `count` forms.
+// What the form shares with the first `count` forms. It ends early at one that is the same: no other shares more.
 fn earlier(
     space: &[u32],
     x: Sides,
@@ -167,6 +167,9 @@ fn earlier(
         match next {
             Match::At(behind, n) => {
                 e = meet(e, &form[..n], own);
+                if e.held {
+                    return e;
+                }
                 at = behind;
                 i += 1;
             }
@@ -212,7 +215,8 @@ fn need(y: Needs, m: Met, e: Earlier, n: usize) -> Needs
     }
 }
 
-// What all forms need, each compared with those before it.
+// What all forms need, each compared with those before it. It ends early, with what was counted so far, as soon as that
+// is more nodes than are free.
 pub fn needs(
     space: &[u32],
     x: Sides,
@@ -220,11 +224,12 @@ pub fn needs(
     pairs: &[u32],
     copies: &[u32],
     index: &[u32],
+    free: u64,
 ) -> Needs
     requires { ⌜ ReadyToCount (now space) x (now pairs) (now copies) ⌝ }
     requires { ⌜ root < x .h .nodes ⌝ }
     ensures { λ r.
-        ⌜ NeedsOf (searchIndexed (old index) (x .h .nodes)) (old space) x root (old pairs) (old copies) r ⌝ }
+        ⌜ NeedsUpTo free (searchIndexed (old index) (x .h .nodes)) (old space) x root (old pairs) (old copies) r ⌝ }
 {
     let mut hands = [0u32; HANDS];
     let mut form = [0u32; MOST_TOKENS];
@@ -241,6 +246,9 @@ pub fn needs(
                 let met = search(space, x.h, root, &form[..n], index);
                 let before = earlier(space, x, pairs, copies, &form[..n], i);
                 y = need(y, met, before, n);
+                if free < y.nodes {
+                    return y;
+                }
                 at = behind;
                 i += 1;
             }

@@ -3,6 +3,7 @@ use mathlib.Core.Path.{ap, _∙_}
 use lib.ListN.{length}
 use Rattle.join.proofs.CallCases.{target-last, sums-room, new-bounds, new-last, may-enter, new-by-sums, new-exactly, new-full}
 use Rattle.join.proofs.TrialCases.{new-roomed, enter-after, entered-after, refused-after}
+use Rattle.join.proofs.GroundLaws.{new-needed}
 use Rattle.join.specs.Joining.{joinAsked}
 use Rattle.plain.specs.Requests.{refused}
 use Rattle.basis.proofs.Tests.{told}
@@ -30,7 +31,7 @@ returns : tie.Need-returns
 returns c = new-by-sums (searchIndexed (c .before .before .before .before .before .before .before .before .before .before .before .before .before .before .args .index .now)) (c .before .before .before .before .before .before .before .before .before .before .before .before .before .before .args .space .now) (c .before .before .before .before .before .before .before .before .before .before .before .before .before .before .args .h) (c .before .before .before .before .before .before .before .before .before .before .before .before .before .before .args .y) (c .before .before .before .before .before .before .before .before .before .before .before .before .before .before .args .pairs .now) (c .before .before .before .before .before .before .before .before .before .before .before .before .before .before .args .copies .now) (c .before .before .before .before .before .before .before .before .before .before .before .before .before .before .args .sums) (c .before .before .before .before .before .before .before .before .before .before .before .before .before .before .pre) _ (c .before .before .before .before .before .before .sides-of .ensures) (told (c .before .before .before .before .before .before .before .before .last-sound .ensures) (c .before .before .before .before .before .before .before .if1 .taken)) (told (c .before .before .before .before .before .sums-fit .ensures) (c .before .before .before .before .if2 .taken)) (c .before .before .join-entered .result) _ (c .before .before .join-entered .ensures)
 
 room-requires : tie.Need-room-requires
-room-requires c κs = new-roomed (searchIndexed (c .before .before .before .before .before .before .before .before .before .before .before .args .index .now)) (c .before .before .before .before .before .before .before .before .before .before .before .args .space .now) (c .before .before .before .before .before .before .before .before .before .before .before .args .h) (c .before .before .before .before .before .before .before .before .before .before .before .args .y) (c .before .before .before .before .before .before .before .before .before .before .before .args .pairs .now) (c .before .before .before .before .before .before .before .before .before .before .before .args .copies .now) (c .before .before .before .before .before .before .before .before .before .before .before .args .sums) (c .before .before .before .before .before .before .before .before .before .before .before .pre) (c .before .before .before .sides-of .result) (c .before .before .before .sides-of .ensures)
+room-requires c κs = (new-roomed (searchIndexed (c .before .before .before .before .before .before .before .before .before .before .before .args .index .now)) (c .before .before .before .before .before .before .before .before .before .before .before .args .space .now) (c .before .before .before .before .before .before .before .before .before .before .before .args .h) (c .before .before .before .before .before .before .before .before .before .before .before .args .y) (c .before .before .before .before .before .before .before .before .before .before .before .args .pairs .now) (c .before .before .before .before .before .before .before .before .before .before .before .args .copies .now) (c .before .before .before .before .before .before .before .before .before .before .before .args .sums) (c .before .before .before .before .before .before .before .before .before .before .before .pre) (c .before .before .before .sides-of .result) (c .before .before .before .sides-of .ensures), new-needed (searchIndexed (c .before .before .before .before .before .before .before .before .before .before .before .args .index .now)) (c .before .before .before .before .before .before .before .before .before .before .before .args .space .now) (c .before .before .before .before .before .before .before .before .before .before .before .args .h) (c .before .before .before .before .before .before .before .before .before .before .before .args .y) (c .before .before .before .before .before .before .before .before .before .before .before .args .pairs .now) (c .before .before .before .before .before .before .before .before .before .before .before .args .copies .now) (c .before .before .before .before .before .before .before .before .before .before .before .args .sums) (c .before .before .before .before .before .before .before .before .before .before .before .pre) (c .before .before .before .sides-of .result) (c .before .before .before .sides-of .ensures))
 
 join-entered-requires-2 : tie.Need-join-entered-requires-2
 join-entered-requires-2 c κs = enter-after (searchIndexed (c .before .before .before .before .before .before .before .before .before .before .before .before .before .before .before .before .args .index .now)) (c .before .before .before .before .before .before .before .before .before .before .before .before .before .before .before .before .args .space .now) (c .before .before .before .before .before .before .before .before .before .before .before .before .before .before .before .before .args .h) (c .before .before .before .before .before .before .before .before .before .before .before .before .before .before .before .before .args .y) (c .before .before .before .before .before .before .before .before .before .before .before .before .before .before .before .before .args .pairs .now) (c .before .before .before .before .before .before .before .before .before .before .before .before .before .before .before .before .args .copies .now) (c .before .before .before .before .before .before .before .before .before .before .before .before .before .before .before .before .args .sums) (c .before .before .before .before .before .before .before .before .before .before .before .before .before .before .before .before .pre) (c .before .before .before .before .before .before .before .before .sides-of .result) (c .before .before .before .before .before .before .before .before .sides-of .ensures) (c .before .before .before .before .room .last .0) (c .before .before .before .before .room .ensures .0)

@@ -1,5 +1,5 @@
 -- `pairing::counting::earlier` meets its contract.
-use Prim.Native.Nat.{_-_, _≤_}
+use Prim.Native.Nat.{_+_, _-_, _≤_}
 use mathlib.Core.Path.{refl, sym, subst}
 use native.Mathlib.Omega.{arith}
 use lib.Seq.{length-take-le}
@@ -8,7 +8,7 @@ use Rattle.pairing.specs.declared.Cursor.{Cursor}
 use Rattle.pairing.specs.declared.Match.the-variants as match
 use Rattle.pairing.specs.Pairing.{Advances}
 use Rattle.pairing.proofs.CountLaws.{not-long}
-use Rattle.pairing.proofs.NeedLaws.{Comparing, noneEarlier, comparing-begun, compared-end, comparing-short, comparing-on}
+use Rattle.pairing.proofs.NeedLaws.{Comparing, noneEarlier, comparing-begun, compared-end, compared-held, comparing-short, comparing-on}
 use Rattle.pairing.proofs.counting.earlier.Statement.{statement}
 use Rattle.pairing.proofs.counting.earlier.Tie as tie
 
@@ -21,6 +21,10 @@ abbrev μ-loop : tie.MeasureT-loop
 -- what the search for the next match answered
 got : (c : tie.After-next Inv-loop μ-loop) → Advances (c .before .before .before .before .before .before .before .before .before .before .before .before .before .before .args .space .now) (c .before .before .before .before .before .before .before .before .before .before .before .before .before .before .args .x) (c .before .before .before .before .before .before .before .before .before .before .before .before .before .before .args .pairs .now) (c .before .before .before .before .before .before .before .before .before .before .before .before .before .before .args .copies .now) (c .before .before .before .before .before .before .before .before .loop .at) (c .before .before .before .before .before .before .before .before .loop .hands) (c .before .before .before .before .advance .last .1 .1 .1 .0) (c .before .before .before .before .advance .last .1 .1 .1 .1 .1 .1 .0) (match.At (c .next .given .0 .0) (c .next .given .0 .1 .0))
 got c = rw (c .next .given .1) at (c .before .before .before .before .advance .ensures)
+
+-- with what the form shares with the one that came
+came : (c : tie.After-meet Inv-loop μ-loop) → Comparing (c .before .before .before .before .before .before .before .before .before .before .before .before .before .before .before .before .before .args .space .now) (c .before .before .before .before .before .before .before .before .before .before .before .before .before .before .before .before .before .args .x) (c .before .before .before .before .before .before .before .before .before .before .before .before .before .before .before .before .before .args .pairs .now) (c .before .before .before .before .before .before .before .before .before .before .before .before .before .before .before .before .before .args .copies .now) (c .before .before .before .before .before .before .before .before .before .before .before .before .before .before .before .before .before .args .own .now) (c .before .before .before .next .given .0 .0) (c .before .before .before .before .before .before .before .advance .last .1 .1 .1 .0) (c .before .before .before .before .before .before .before .advance .last .1 .1 .1 .1 .1 .1 .0) (c .before .before .before .before .before .before .before .before .before .before .before .loop .i + 1) (c .meet .result)
+came c = comparing-on (c .before .before .before .before .before .before .before .before .before .before .before .before .before .before .before .before .before .args .space .now) (c .before .before .before .before .before .before .before .before .before .before .before .before .before .before .before .before .before .args .x) (c .before .before .before .before .before .before .before .before .before .before .before .before .before .before .before .before .before .args .pairs .now) (c .before .before .before .before .before .before .before .before .before .before .before .before .before .before .before .before .before .args .copies .now) (c .before .before .before .before .before .before .before .before .before .before .before .before .before .before .before .before .before .args .own .now) _ _ _ _ _ (c .before .before .before .before .before .before .before .before .before .before .before .loop .inv .0) _ _ _ _ (got (c .before .before .before)) _ (c .meet .ensures)
 
 begin-requires : tie.Need-begin-requires Inv-loop μ-loop
 begin-requires c κs = search needs
@@ -49,6 +53,9 @@ slice-aggregate-meet c = sym (length-take-le _ _ (got (c .before .before) .1 .0)
 meet-requires : tie.Need-meet-requires Inv-loop μ-loop
 meet-requires c κs = search needs
 
+returns : tie.Need-returns Inv-loop μ-loop
+returns c = compared-held (c .before .before .before .before .before .before .before .before .before .before .before .before .before .before .before .before .before .before .args .space .now) (c .before .before .before .before .before .before .before .before .before .before .before .before .before .before .before .before .before .before .args .x) (c .before .before .before .before .before .before .before .before .before .before .before .before .before .before .before .before .before .before .args .pairs .now) (c .before .before .before .before .before .before .before .before .before .before .before .before .before .before .before .before .before .before .args .copies .now) (c .before .before .before .before .before .before .before .before .before .before .before .before .before .before .before .before .before .before .args .own .now) _ _ _ _ _ (came (c .before)) (c .before .before .before .before .before .before .before .before .advance .last .1 .1 .1 .0) (c .before .before .before .before .before .before .before .before .advance .last .1 .1 .1 .1 .1 .1 .0) (c .before .before .before .before .before .before .before .before .before .before .before .before .before .before .before .before .before .before .args .count) (omega arith) (search needs)
+
 add-i : tie.Need-add-i Inv-loop μ-loop
 add-i c = search needs
 
@@ -56,22 +63,22 @@ loop-less : tie.Need-loop-less Inv-loop μ-loop
 loop-less c = omega arith
 
 loop-again : tie.Need-loop-again Inv-loop μ-loop
-loop-again c = (comparing-on (c .before .before .before .before .before .before .before .before .before .before .before .before .before .before .before .before .before .args .space .now) (c .before .before .before .before .before .before .before .before .before .before .before .before .before .before .before .before .before .args .x) (c .before .before .before .before .before .before .before .before .before .before .before .before .before .before .before .before .before .args .pairs .now) (c .before .before .before .before .before .before .before .before .before .before .before .before .before .before .before .before .before .args .copies .now) (c .before .before .before .before .before .before .before .before .before .before .before .before .before .before .before .before .before .args .own .now) _ _ _ _ _ (c .before .before .before .before .before .before .before .before .before .before .before .loop .inv .0) _ _ _ _ (got (c .before .before .before)) _ (c .meet .ensures), omega arith)
+loop-again c = (came (c .before), omega arith)
 
 enum-told : tie.Need-enum-told Inv-loop μ-loop
 enum-told c = search needs
 
-returns : tie.Need-returns Inv-loop μ-loop
-returns c = absurd (not-long _ _ (c .before .before .before .before .before .before .before .before .loop .inv .0 .fit) (rw (c .enum-told .given .1) at (c .before .before .before .before .advance .ensures)))
+returns-2 : tie.Need-returns-2 Inv-loop μ-loop
+returns-2 c = absurd (not-long _ _ (c .before .before .before .before .before .before .before .before .loop .inv .0 .fit) (rw (c .enum-told .given .1) at (c .before .before .before .before .advance .ensures)))
 
 enum-told-2 : tie.Need-enum-told-2 Inv-loop μ-loop
 enum-told-2 c = search needs
 
-returns-2 : tie.Need-returns-2 Inv-loop μ-loop
-returns-2 c = absurd (comparing-short (c .before .before .before .before .before .before .before .before .before .before .before .before .before .before .args .space .now) (c .before .before .before .before .before .before .before .before .before .before .before .before .before .before .args .x) (c .before .before .before .before .before .before .before .before .before .before .before .before .before .before .args .pairs .now) (c .before .before .before .before .before .before .before .before .before .before .before .before .before .before .args .copies .now) (c .before .before .before .before .before .before .before .before .before .before .before .before .before .before .args .own .now) _ _ _ _ _ (c .before .before .before .before .before .before .before .before .loop .inv .0) (c .before .before .before .before .advance .last .1 .1 .1 .0) (c .before .before .before .before .advance .last .1 .1 .1 .1 .1 .1 .0) (c .before .before .before .before .before .before .before .before .before .before .before .before .before .before .args .count) (c .before .before .before .before .before .before .before .before .before .before .before .before .before .before .pre .1) (search needs) (rw (c .enum-told2 .given .1) at (c .before .before .before .before .advance .ensures)))
-
 returns-3 : tie.Need-returns-3 Inv-loop μ-loop
-returns-3 c = compared-end (c .before .before .before .before .before .before .before .args .space .now) (c .before .before .before .before .before .before .before .args .x) (c .before .before .before .before .before .before .before .args .pairs .now) (c .before .before .before .before .before .before .before .args .copies .now) (c .before .before .before .before .before .before .before .args .own .now) _ _ _ _ _ (c .before .loop .inv .0) (c .before .loop .hands) (c .before .loop .form) (c .before .before .before .before .before .before .before .args .count) (omega (arith, c .before .loop .inv .1))
+returns-3 c = absurd (comparing-short (c .before .before .before .before .before .before .before .before .before .before .before .before .before .before .args .space .now) (c .before .before .before .before .before .before .before .before .before .before .before .before .before .before .args .x) (c .before .before .before .before .before .before .before .before .before .before .before .before .before .before .args .pairs .now) (c .before .before .before .before .before .before .before .before .before .before .before .before .before .before .args .copies .now) (c .before .before .before .before .before .before .before .before .before .before .before .before .before .before .args .own .now) _ _ _ _ _ (c .before .before .before .before .before .before .before .before .loop .inv .0) (c .before .before .before .before .advance .last .1 .1 .1 .0) (c .before .before .before .before .advance .last .1 .1 .1 .1 .1 .1 .0) (c .before .before .before .before .before .before .before .before .before .before .before .before .before .before .args .count) (c .before .before .before .before .before .before .before .before .before .before .before .before .before .before .pre .1) (search needs) (rw (c .enum-told2 .given .1) at (c .before .before .before .before .advance .ensures)))
+
+returns-4 : tie.Need-returns-4 Inv-loop μ-loop
+returns-4 c = compared-end (c .before .before .before .before .before .before .before .args .space .now) (c .before .before .before .before .before .before .before .args .x) (c .before .before .before .before .before .before .before .args .pairs .now) (c .before .before .before .before .before .before .before .args .copies .now) (c .before .before .before .before .before .before .before .args .own .now) _ _ _ _ _ (c .before .loop .inv .0) (c .before .loop .hands) (c .before .loop .form) (c .before .before .before .before .before .before .before .args .count) (omega (arith, c .before .loop .inv .1))
 
 pub earlier-spec : {M : Type 1} → statement M
 earlier-spec =
@@ -88,11 +95,12 @@ earlier-spec =
     array-share-prefix-form
     slice-aggregate-meet
     meet-requires
+    returns
     add-i
     loop-less
     loop-again
     enum-told
-    returns
-    enum-told-2
     returns-2
-    returns-3)
+    enum-told-2
+    returns-3
+    returns-4)
