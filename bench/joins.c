@@ -67,28 +67,38 @@ struct row {
     int lists, pairs;  /* lists as keys; 1 if the keys are to be equal, 0 for every combination */
     int exact;         /* exactly the nodes that the join needs */
     uint32_t expected; /* new answers */
+    int soiled;        /* the free nodes are no zeros */
+    int ground;        /* the target has no variable */
 };
 
 static const struct row rows[] = {
-    {"1,000 by 1,000, 1,000 pairs", 1000, 1000, NO_MATCH, 1, 0, 0, 1, 0, 1000},
-    {"100 by 10,000, 100 pairs", 100, 10000, NO_MATCH, 100, 0, 0, 1, 0, 100},
-    {"1,000 by 1,000, no match", 1000, 1000, NO_MATCH, 1, NO_MATCH, 0, 1, 0, 0},
-    {"200 by 200, 200 pairs, near full", 200, 200, 10, 1, 0, 0, 1, 1, 200},
-    {"100 by 100, every combination", 100, 100, NO_MATCH, 1, 0, 0, 0, 0, 10000},
-    {"500 by 500, 500 pairs, lists of 20", 500, 500, NO_MATCH, 1, 0, 1, 1, 0, 500},
+    {"1,000 by 1,000, 1,000 pairs", 1000, 1000, NO_MATCH, 1, 0, 0, 1, 0, 1000, 0, 0},
+    {"100 by 10,000, 100 pairs", 100, 10000, NO_MATCH, 100, 0, 0, 1, 0, 100, 0, 0},
+    {"1,000 by 1,000, no match", 1000, 1000, NO_MATCH, 1, NO_MATCH, 0, 1, 0, 0, 0, 0},
+    {"200 by 200, 200 pairs, near full", 200, 200, 10, 1, 0, 0, 1, 1, 200, 0, 0},
+    {"100 by 100, every combination", 100, 100, NO_MATCH, 1, 0, 0, 0, 0, 10000, 0, 0},
+    {"500 by 500, 500 pairs, lists of 20", 500, 500, NO_MATCH, 1, 0, 1, 1, 0, 500, 0, 0},
 };
 
 enum { ROWS = sizeof rows / sizeof *rows };
 
 /* The same joins refused, with none, half and all but one of the nodes that they need. */
 static const struct row refused_rows[] = {
-    {"2,000 by 2,000, 2,000 pairs", 2000, 2000, NO_MATCH, 1, 0, 0, 1, 0, 2000},
-    {"2,000 by 2,000, shared nodes", 2000, 2000, 10, 1, 0, 0, 1, 0, 2000},
-    {"100 by 100, every combination", 100, 100, NO_MATCH, 1, 0, 0, 0, 0, 10000},
-    {"500 by 500, lists of 20", 500, 500, NO_MATCH, 1, 0, 1, 1, 0, 500},
+    {"2,000 by 2,000, 2,000 pairs", 2000, 2000, NO_MATCH, 1, 0, 0, 1, 0, 2000, 0, 0},
+    {"2,000 by 2,000, shared nodes", 2000, 2000, 10, 1, 0, 0, 1, 0, 2000, 0, 0},
+    {"100 by 100, every combination", 100, 100, NO_MATCH, 1, 0, 0, 0, 0, 10000, 0, 0},
+    {"500 by 500, lists of 20", 500, 500, NO_MATCH, 1, 0, 1, 1, 0, 500, 0, 0},
+    {"500 by 500, free cells not zeros", 500, 500, NO_MATCH, 1, 0, 0, 1, 0, 500, 1, 0},
+};
+
+/* Refused for want of a record: no variable in the target, so that all pairs give the one empty answer. */
+static const struct row ground_rows[] = {
+    {"500 by 500, target without variables", 500, 500, NO_MATCH, 1, 0, 0, 1, 0, 1, 0, 1},
+    {"2,000 by 2,000, the same", 2000, 2000, NO_MATCH, 1, 0, 0, 1, 0, 1, 0, 1},
 };
 
 enum { REFUSED_ROWS = sizeof refused_rows / sizeof *refused_rows, FULLNESSES = 3 };
+enum { GROUND_ROWS = sizeof ground_rows / sizeof *ground_rows };
 
 /* A table with both sources, as it is before each join; a copy, which is joined; and the request. */
 struct table {
@@ -97,7 +107,7 @@ struct table {
     size_t cells;
     uint32_t *before, *space;
     uint32_t pairs[2], copies[4];
-    size_t pairs_cells;
+    size_t pairs_cells, copies_cells;
 };
 
 static size_t write_key(const struct row *row, uint32_t key, uint32_t *cells)
@@ -117,13 +127,16 @@ static void must_be(const struct table *table, uint64_t word, uint32_t what)
         stop(table->row->name, "a call was answered otherwise than it should be");
 }
 
-/* The three subgoals, whose answers have two terms each. */
+/* The three subgoals, whose answers have two terms each, but for a target that is an atom. */
 static void call_goals(struct table *table)
 {
     for (uint32_t goal = LEFT; goal <= BOTH; goal++) {
         const uint32_t term[] = {TABLES_FUNCTOR_CELL(EDITION, goal, 2), TABLES_CELL(TABLES_VARIABLE, 0),
                                  TABLES_CELL(TABLES_VARIABLE, 1)};
-        must_be(table, plain_call(table->before, table->cells, term, 3), TABLES_NEW);
+        const uint32_t atom[] = {TABLES_CELL(TABLES_ATOM, goal)};
+        int ground = goal == BOTH && table->row->ground;
+        must_be(table, plain_call(table->before, table->cells, ground ? atom : term, ground ? 1 : 3),
+                TABLES_NEW);
     }
 }
 
@@ -143,13 +156,13 @@ static void answer_sources(struct table *table)
     }
 }
 
-/* Makes the table with so many nodes and room for every new answer; both sources are finished. */
-static void make_table(struct table *table, const struct row *row, uint32_t nodes)
+/* Makes the table with so many nodes and so many free records; both sources are finished. */
+static void make_table_with(struct table *table, const struct row *row, uint32_t nodes, uint32_t free_records)
 {
     *table = (struct table){.row = row, .nodes = nodes,
-                            .answers = row->left + row->right + row->expected,
+                            .answers = row->left + row->right + free_records,
                             .pairs = {1, 0}, .pairs_cells = row->pairs ? 2 : 0,
-                            .copies = {0, 0, 1, 1}};
+                            .copies = {0, 0, 1, 1}, .copies_cells = row->ground ? 0 : 4};
     table->cells = TABLES_SPACE_CELLS(table->nodes, SUBGOALS, table->answers);
     table->before = allocate(table->cells, sizeof *table->before);
     table->space = allocate(table->cells, sizeof *table->space);
@@ -160,6 +173,19 @@ static void make_table(struct table *table, const struct row *row, uint32_t node
     answer_sources(table);
     must_be(table, plain_finish(table->before, table->cells, LEFT), TABLES_DONE);
     must_be(table, plain_finish(table->before, table->cells, RIGHT), TABLES_DONE);
+}
+
+/* With room for every new answer. */
+static void make_table(struct table *table, const struct row *row, uint32_t nodes)
+{
+    make_table_with(table, row, nodes, row->expected);
+}
+
+/* Writes to the nodes that are free, of which nothing is read. */
+static void soil(struct table *table, uint32_t used)
+{
+    for (size_t i = TABLES_SPACE_CELLS(used, 0, 0); i < TABLES_SPACE_CELLS(table->nodes, 0, 0); i++)
+        table->before[i] = 1;
 }
 
 static void free_table(struct table *table)
@@ -178,13 +204,13 @@ static void restore(struct table *table)
 static uint64_t join_ours(struct table *table)
 {
     return tables_join(table->space, table->cells, LEFT, RIGHT, table->pairs, table->pairs_cells, BOTH,
-                       table->copies, 4);
+                       table->copies, table->copies_cells);
 }
 
 static uint64_t join_plain(struct table *table)
 {
     return plain_join(table->space, table->cells, LEFT, RIGHT, table->pairs, table->pairs_cells, BOTH,
-                      table->copies, 4);
+                      table->copies, table->copies_cells);
 }
 
 /* An answer that an engine has loaded, and where its terms begin and the last ends. */
@@ -443,41 +469,71 @@ static double time_once(struct table *table, int side, uint64_t *word)
     return best;
 }
 
-/* A join accepted with room to spare, and refused at several fullnesses: how many times as long that takes. */
+/* Times ours and plain, which must be accepted. */
+static void time_accepted(struct table *table, double accepted[PLAIN + 1])
+{
+    uint64_t word;
+    for (int side = OURS; side <= PLAIN; side++) {
+        accepted[side] = time_once(table, side, &word);
+        must_be(table, word, TABLES_JOINED);
+    }
+}
+
+/* The same, which must be refused so and change nothing; and how many times as long that takes. */
+static void time_refusal(FILE *tsv, struct table *table, uint32_t refusal, uint32_t spare,
+                         uint32_t needed, const double accepted[PLAIN + 1])
+{
+    const char *name = table->row->name;
+    double refused[PLAIN + 1];
+    uint64_t word;
+    for (int side = OURS; side <= PLAIN; side++) {
+        refused[side] = time_once(table, side, &word);
+        if (tables_refused_by(word) != refusal ||
+            memcmp(table->before, table->space, table->cells * sizeof *table->space) != 0)
+            stop(name, "a side enters more than there is room for");
+    }
+    printf("%-36s  %6u of %6u free: refused in %8.3f ms, %6.2f times; plain %8.3f, %6.2f\n", name,
+           spare, needed, refused[OURS] / 1e6, refused[OURS] / accepted[OURS],
+           refused[PLAIN] / 1e6, refused[PLAIN] / accepted[PLAIN]);
+    if (tsv != NULL)
+        fprintf(tsv, "%s\t%u\t%u\t%.3f\t%.3f\t%.2f\t%.3f\t%.3f\t%.2f\n", name, spare,
+                needed, accepted[OURS] / 1e6, refused[OURS] / 1e6, refused[OURS] / accepted[OURS],
+                accepted[PLAIN] / 1e6, refused[PLAIN] / 1e6, refused[PLAIN] / accepted[PLAIN]);
+}
+
+/* A join accepted with room to spare, and refused at several fullnesses. */
 static void time_refused(FILE *tsv, const struct row *row)
 {
     struct table table;
     uint32_t counts[3];
-    uint64_t word;
     double accepted[PLAIN + 1];
     make_table(&table, row, roomy_nodes(row));
     must_be(&table, plain_counts(table.before, table.cells, counts, 3), TABLES_COUNTS);
-    for (int side = OURS; side <= PLAIN; side++) {
-        accepted[side] = time_once(&table, side, &word);
-        must_be(&table, word, TABLES_JOINED);
-    }
+    time_accepted(&table, accepted);
     free_table(&table);
     uint32_t used = counts[0], needed = exact_nodes(row) - used;
-    const uint32_t free_nodes[FULLNESSES] = {0, needed / 2, needed - 1};
+    /* Where no node is free there is none to soil. */
+    const uint32_t free_nodes[FULLNESSES] = {row->soiled ? 1 : 0, needed / 2, needed - 1};
     for (int i = 0; i < FULLNESSES; i++) {
-        double refused[PLAIN + 1];
         make_table(&table, row, used + free_nodes[i]);
-        for (int side = OURS; side <= PLAIN; side++) {
-            refused[side] = time_once(&table, side, &word);
-            if (tables_refused_by(word) != TABLES_REFUSED_NO_NODE ||
-                memcmp(table.before, table.space, table.cells * sizeof *table.space) != 0)
-                stop(row->name, "a side enters more than there is room for");
-        }
+        if (row->soiled)
+            soil(&table, used);
+        time_refusal(tsv, &table, TABLES_REFUSED_NO_NODE, free_nodes[i], needed, accepted);
         free_table(&table);
-        printf("%-34s  %6u of %6u nodes free: refused in %8.3f ms, %5.2f times; plain %8.3f, %5.2f\n",
-               row->name, free_nodes[i], needed, refused[OURS] / 1e6, refused[OURS] / accepted[OURS],
-               refused[PLAIN] / 1e6, refused[PLAIN] / accepted[PLAIN]);
-        if (tsv != NULL)
-            fprintf(tsv, "%s\t%u\t%u\t%.3f\t%.3f\t%.2f\t%.3f\t%.3f\t%.2f\n", row->name,
-                    free_nodes[i], needed, accepted[OURS] / 1e6, refused[OURS] / 1e6,
-                    refused[OURS] / accepted[OURS], accepted[PLAIN] / 1e6, refused[PLAIN] / 1e6,
-                    refused[PLAIN] / accepted[PLAIN]);
     }
+}
+
+/* A join into a target without variables, accepted with one record free and refused with none. */
+static void time_ground(FILE *tsv, const struct row *row)
+{
+    struct table table;
+    double accepted[PLAIN + 1];
+    make_table(&table, row, roomy_nodes(row));
+    time_accepted(&table, accepted);
+    free_table(&table);
+    make_table_with(&table, row, roomy_nodes(row), 0);
+    time_refusal(tsv, &table, TABLES_REFUSED_NO_RECORD, 0, 1, accepted);
+    free_table(&table);
 }
 
 /* Only one side of one row, a few times over, to be counted by callgrind: joins ROW SIDE TIMES. */
@@ -516,10 +572,12 @@ int main(int argc, char **argv)
     for (int i = 0; i < ROWS; i++)
         time_row(tsv, &rows[i]);
     if (tsv != NULL)
-        fprintf(tsv, "refused\tfree nodes\tneeded\tours accepted ms\tours refused ms\ttimes\tplain accepted ms\t"
+        fprintf(tsv, "refused\tfree\tneeded\tours accepted ms\tours refused ms\ttimes\tplain accepted ms\t"
                      "plain refused ms\ttimes\n");
     for (int i = 0; i < REFUSED_ROWS; i++)
         time_refused(tsv, &refused_rows[i]);
+    for (int i = 0; i < GROUND_ROWS; i++)
+        time_ground(tsv, &ground_rows[i]);
     if (tsv != NULL && fclose(tsv) != 0) {
         perror(argv[1]);
         return 1;

@@ -259,20 +259,25 @@ static size_t shared_before(const struct join *join, const struct compaction *ow
         size_t k = common(&stand.form, own);
         if (k > shared)
             shared = k;
-        if (k == own->count && k == stand.form.count)
+        if (k == own->count && k == stand.form.count) {
             *held = true;
+            return k;
+        }
     }
     return shared;
 }
 
-/* The nodes and answers that all forms need, each compared with those before it. */
-static void need(const struct join *join, size_t root, uint64_t *nodes, uint64_t *answers)
+/*
+ * The nodes and answers that all forms need, each compared with those before it; it ends early where that is more nodes
+ * than are free.
+ */
+static void need(const struct join *join, size_t root, uint64_t free_nodes, uint64_t *nodes, uint64_t *answers)
 {
     struct stand stand;
     *nodes = 0;
     *answers = 0;
     begin(join, &stand);
-    for (size_t i = 0; advance(join, &stand) == FOUND; i++) {
+    for (size_t i = 0; *nodes <= free_nodes && advance(join, &stand) == FOUND; i++) {
         bool held;
         struct sums one = search(join, root, &stand.form);
         size_t own = stand.form.count - shared_before(join, &stand.form, i, &held);
@@ -368,6 +373,9 @@ static enum refusal room_for(uint32_t *space, const struct join *join, size_t ro
     uint64_t nodes_needed, answers_needed;
     if (sums->missing <= nodes && sums->lacking <= answers)
         return ACCEPTED;
+    /* Without variables all forms are empty: one answer and no node. */
+    if (join->copies_cells == 0)
+        return answers == 0 ? NO_RECORDS : ACCEPTED;
     struct room room = {join->head.nodes, sums->missing < nodes ? sums->missing : nodes};
     enum tried tried = TRIED_UNKNOWN;
     if (is_blank(space, &room)) {
@@ -377,7 +385,7 @@ static enum refusal room_for(uint32_t *space, const struct join *join, size_t ro
             return NO_NODES;
     }
     if (tried != TRIED)
-        need(join, root, &nodes_needed, &answers_needed);
+        need(join, root, nodes, &nodes_needed, &answers_needed);
     if (nodes_needed > nodes)
         return NO_NODES;
     return answers_needed > answers ? NO_RECORDS : ACCEPTED;
