@@ -1,8 +1,8 @@
 // The tokens of a copy: which can be stored in edition 2, and what they become there.
 use answering::answer_at;
 use calling::call_at;
-use sources::names::PAYLOADS;
-use sources::names::is_named;
+use sources::tokens::PAYLOADS;
+use sources::tokens::is_named;
 use space::Head;
 use space::Header;
 use space::heading::read_header;

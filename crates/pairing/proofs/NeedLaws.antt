@@ -1,20 +1,15 @@
 -- The pass over all forms of a join that counts exactly: each form against those before it.
 use mathlib.Core.Path.{_≡_, refl, sym, ap, _∙_, subst}
-use mathlib.Core.Bool.{Bool, true, false, _||_}
+use mathlib.Core.Bool.{Bool, true, false}
 use mathlib.Core.List.{List, [], _∷_, _++_}
-use Prim.Native.Nat.{ℕ, suc, _+_, _-_, _*_, _^_, _≤_, _<_, min, max}
+use Prim.Native.Nat.{ℕ, suc, _+_, _-_, _*_, _^_, _≤_, _<_, min}
 use native.Mathlib.Omega.{arith}
-use lib.Dec.{eqb}
 use lib.ListN.{length, take, length-append}
 use lib.Seq.{take-at, length-take-le}
-use borrow.Author.Tests.{eqb-true, eqb-false}
-use Rattle.basis.proofs.Tests.{strictly}
 use Rattle.plain.proofs.LongestShared.{most-le}
 use Rattle.basis.specs.Choice.{pick}
-use Rattle.basis.proofs.Cases.{by-cases}
 use Rattle.forms.specs.Stored.{storedOf}
-use Rattle.forms.specs.Compact.{same}
-use Rattle.plain.specs.Words.{Word, common, most, has}
+use Rattle.plain.specs.Words.{Word, most, has}
 use Rattle.space.specs.Sound.{subgoalUnder}
 use Rattle.store.specs.Views.{View}
 use Rattle.trie.specs.Walks.{Finding}

@@ -1,22 +1,20 @@
 -- A law for each step of comparing a record with those before it, and of the sum over all.
-use Prim.Native.Nat.{ℕ, suc, _+_, _-_, _*_, _≤_, _<_}
+use Prim.Native.Nat.{ℕ, _+_, _-_, _≤_}
 use mathlib.Core.Path.{_≡_, refl, sym, ap, _∙_, subst}
-use mathlib.Core.Bool.{Bool, true, false, not}
-use mathlib.Core.List.{List, [], _∷_}
+use mathlib.Core.Bool.{true, false, not}
+use mathlib.Core.List.{List, _∷_}
 use native.Mathlib.Omega.{arith}
 use native.Mathlib.Numerals.{add-one}
-use lib.Dec.{eqb}
 use lib.ListN.{length}
 use borrow.Author.Tests.{eq-eqb, ne-eqb}
 use Rattle.plain.specs.Words.{Word, most, has}
 use Rattle.plain.specs.Table.{Answer, answersTo}
 use Rattle.plain.proofs.LongestShared.{most-le}
-use Rattle.trie.specs.Paths.{longest}
 use Rattle.sides.specs.Searches.{MeetsOneMore}
 use Rattle.sides.specs.declared.Earlier.{Earlier}
 use Rattle.sources.specs.declared.Records.{Records}
 use Rattle.sources.specs.declared.Compared.{Compared}
-use Rattle.sources.specs.Records.{sumBelow, recordAt, before, rivals, differsAt, bringsAt, EarlierTo, MeetsRecord, ComparesTo, Brings}
+use Rattle.sources.specs.Records.{sumBelow, recordAt, before, differsAt, bringsAt, EarlierTo, MeetsRecord, ComparesTo, Brings}
 use Rattle.sources.proofs.PlaceCases.{Gathered}
 
 module _ (y : Answer) (l : List Answer) (s : ℕ) where

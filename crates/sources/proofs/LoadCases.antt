@@ -1,7 +1,7 @@
 -- A law for each case of loading a record.
-use Prim.Native.Nat.{ℕ, suc, _+_, _≤_, _<_}
+use Prim.Native.Nat.{ℕ, _+_, _≤_, _<_}
 use mathlib.Core.Path.{_≡_, refl, sym, ap, _∙_, subst}
-use mathlib.Core.Bool.{Bool, true, false, _&&_}
+use mathlib.Core.Bool.{true, false, _&&_}
 use mathlib.Core.List.{List, []}
 use native.Mathlib.Omega.{arith}
 use native.Mathlib.Numerals.{add-one}
@@ -13,7 +13,7 @@ use Rattle.forms.specs.Stored.{storedOf}
 use Rattle.forms.specs.Numbering.{met}
 use Rattle.plain.specs.Coding.{codingOf}
 use Rattle.space.specs.Judging.{subgoalSound, answerSound}
-use Rattle.space.specs.Sound.{Bounds, subgoalUnder, answerUnder}
+use Rattle.space.specs.Sound.{Bounds}
 use Rattle.space.specs.declared.Head.{Head}
 use Rattle.space.specs.declared.Subgoal.{Subgoal}
 use Rattle.space.specs.declared.Answer.{Answer}

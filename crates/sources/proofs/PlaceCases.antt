@@ -12,8 +12,7 @@ use Rattle.forms.specs.Numbering.{met}
 use Rattle.plain.specs.Words.{Word}
 use Rattle.plain.specs.Coding.{codingOf}
 use Rattle.plain.specs.Table as table
-use Rattle.space.specs.Sound.{Bounds, SubgoalUsed, subgoalUnder, answerUnder}
-use Rattle.space.specs.declared.Head.{Head}
+use Rattle.space.specs.Sound.{SubgoalUsed, subgoalUnder, answerUnder}
 use Rattle.space.specs.declared.Subgoal.{Subgoal}
 use Rattle.space.specs.declared.Answer.{Answer}
 use Rattle.space.proofs.HeaderLaws.{bounds-nodes}

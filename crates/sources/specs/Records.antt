@@ -16,7 +16,7 @@ use Rattle.trie.specs.Paths.{tokens, longest}
 use Rattle.trie.specs.Runs.{Ends, pathTo}
 use Rattle.store.specs.Contracts.{viewIn}
 use Rattle.sides.specs.declared.Earlier.{Earlier}
-use Rattle.agreement.specs.Whole.{everyBelow, upTo, wordOf, subgoalPath, answerRead}
+use Rattle.agreement.specs.Whole.{everyBelow, wordOf, subgoalPath, answerRead}
 use Rattle.carrying.specs.Recoding.{widening, takesWord}
 use Rattle.carrying.specs.Copying.{subgoalLoads, answerLoads, sourceLoads}
 use Rattle.sources.specs.declared.Records.{Records}

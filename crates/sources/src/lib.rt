@@ -1,11 +1,11 @@
 // What loads of a source, sound or damaged: its records and their paths, no two alike; and what a copy of it into
-// edition 2 asks for, room for the names and for the nodes. Subgoals and answers go the same way: a subgoal stands as an
-// answer to no subgoal. Nothing is written: each form is compared with those before it, so the time goes with the square
-// of the subgoals and of the answers to each. For a source that passes the check of a whole space none of this is
-// needed.
+// edition 2 asks for: room for the names and for the nodes. Subgoals and answers go the same way, a subgoal as an answer
+// to no subgoal. Nothing is written: each form is compared with those before it, so the time goes with the square of the
+// subgoals and of the answers to each. A source that passes the check of a whole space needs none of this.
 mod comparing;
 mod loading;
-pub mod names;
+mod names;
+pub mod tokens;
 
 use basis::wide;
 use comparing::all_differ;
@@ -18,8 +18,6 @@ ghost use mathlib.Core.Path.{_≡_};
 ghost use mathlib.Core.Bool.{true};
 ghost use Rattle.basis.specs.Moments.{old};
 ghost use Rattle.plain.specs.Coding.{codingOf};
-ghost use Rattle.space.specs.Heading.{spaceHeader};
-ghost use Rattle.space.specs.declared.Header.the-variants as header;
 ghost use Rattle.store.specs.Contracts.{viewIn};
 ghost use Rattle.agreement.specs.Whole.{tableRead};
 ghost use Rattle.carrying.specs.Recoding.{widening};

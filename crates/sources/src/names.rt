@@ -3,28 +3,15 @@ use super::Records;
 use super::loading::count_of;
 use super::loading::find_record;
 use super::loading::gather;
+use super::tokens::is_named;
 use trie::paths::CELLS;
 ghost use mathlib.Core.Path.{_≡_};
 ghost use lib.ListN.{length};
 ghost use Rattle.basis.specs.Moments.{old, new};
 ghost use Rattle.trie.specs.Runs.{pathCells};
 ghost use Rattle.agreement.specs.Whole.{everyBelow};
-ghost use Rattle.carrying.specs.Recoding.{nameFits, widening, takesWord};
+ghost use Rattle.carrying.specs.Recoding.{widening, takesWord};
 ghost use Rattle.sources.specs.Records.{countOf, AllLoad, RecordOf, namedAt};
-
-pub const PAYLOADS: u32 = 268435456;
-
-const NAMES: u32 = 1048576;
-
-// Has edition 2 room for the name of a functor? Other tokens have none.
-pub fn is_named(x: u32) -> bool
-    ensures { λ r. ⌜ r ≡ nameFits x ⌝ }
-{
-    if x / PAYLOADS == 4 {
-        return x % PAYLOADS / 16 < NAMES;
-    }
-    true
-}
 
 // Every token of a form.
 fn form_named(form: &[u32]) -> bool

@@ -1,5 +1,5 @@
 -- `sources::loads` meets its contract.
-use mathlib.Core.Path.{sym, _∙_}
+use mathlib.Core.Path.{_∙_}
 use borrow.Author.Tests.{not-true, not-false}
 use Rattle.basis.proofs.Tests.{told}
 use Rattle.space.proofs.HeaderLaws.{header-bounds}

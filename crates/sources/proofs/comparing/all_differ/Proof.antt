@@ -3,9 +3,7 @@ use Prim.Native.Nat.{_≤_, _-_}
 use mathlib.Core.Path.{_≡_}
 use mathlib.Core.Bool.{true}
 use native.Mathlib.Omega.{arith}
-use borrow.Author.Tests.{not-true, not-false}
 use borrow.Author.Needs.{needs}
-use Rattle.basis.proofs.Tests.{told}
 use Rattle.agreement.specs.Whole.{everyBelow}
 use Rattle.sources.specs.Records.{countOf, differsAt}
 use Rattle.sources.proofs.PassLaws.{pass-begin, pass-on, pass-failed, pass-ended}

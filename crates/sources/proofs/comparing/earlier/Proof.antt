@@ -3,7 +3,6 @@ use Prim.Native.Nat.{_≤_, _-_}
 use mathlib.Core.Path.{_≡_, refl}
 use lib.ListN.{length}
 use native.Mathlib.Omega.{arith}
-use borrow.Author.Needs.{needs}
 use Rattle.sources.specs.Records.{EarlierTo, before}
 use Rattle.sources.proofs.CompareCases.{earlier-begin, earlier-on, earlier-ended}
 use Rattle.sources.proofs.comparing.earlier.Statement.{statement}
