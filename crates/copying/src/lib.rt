@@ -1,6 +1,8 @@
 // The tokens of a copy: which can be stored in edition 2, and what they become there.
 use answering::answer_at;
 use calling::call_at;
+use sources::tokens::PAYLOADS;
+use sources::tokens::is_named;
 use space::Head;
 use space::Header;
 use space::heading::read_header;
@@ -29,21 +31,7 @@ ghost use Rattle.agreement.specs.Whole.{wordOf};
 ghost use Rattle.copying.specs.Contracts.{PathCarried, withFirst, SubgoalsReady, TakesAnswer};
 ghost use Rattle.copying.specs.Contracts.{withAnswers, AnswersReady};
 
-const PAYLOADS: u32 = 268435456;
-
 const FUNCTORS: u32 = 1073741824;
-
-const NAMES: u32 = 1048576;
-
-// Has edition 2 room for the name of a functor? Other tokens have none.
-pub fn is_named(x: u32) -> bool
-    ensures { λ r. ⌜ r ≡ nameFits x ⌝ }
-{
-    if x / PAYLOADS == 4 {
-        return x % PAYLOADS / 16 < NAMES;
-    }
-    true
-}
 
 // The token in edition 2.
 pub fn widened(x: u32) -> u32
