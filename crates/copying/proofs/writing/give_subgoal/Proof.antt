@@ -1,10 +1,10 @@
--- `give_subgoal` meets its contract.
+-- `copying::writing::give_subgoal` meets its contract.
 use borrow.Author.Needs.{needs}
 use Rattle.basis.proofs.Tests.{told}
 use Rattle.space.proofs.HeaderLaws.{header-bounds}
 use Rattle.copying.proofs.GiveCases.{given-refused, given-entered}
-use Rattle.copying.proofs.give_subgoal.Statement.{statement}
-use Rattle.copying.proofs.give_subgoal.Tie as tie
+use Rattle.copying.proofs.writing.give_subgoal.Statement.{statement}
+use Rattle.copying.proofs.writing.give_subgoal.Tie as tie
 
 read-header-requires : tie.Need-read-header-requires
 read-header-requires c κs = search needs

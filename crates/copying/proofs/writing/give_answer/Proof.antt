@@ -1,47 +1,37 @@
--- `give_answer` meets its contract.
+-- `copying::writing::give_answer` meets its contract.
 use borrow.Author.Needs.{needs}
 use Rattle.basis.proofs.Tests.{told}
 use Rattle.copying.proofs.GiveCases.{form-refused, form-entered, takes-used, takes-held}
-use Rattle.copying.proofs.give_answer.Statement.{statement}
-use Rattle.copying.proofs.give_answer.Tie as tie
+use Rattle.copying.proofs.writing.give_answer.Statement.{statement}
+use Rattle.copying.proofs.writing.give_answer.Tie as tie
 
--- src/lib.rt:141:9
 read-header-requires : tie.Need-read-header-requires
 read-header-requires c κs = search needs
 
--- src/lib.rt:142:23
 enum-known-header : tie.Need-enum-known-header
 enum-known-header c = search needs
 
--- src/lib.rt:143:9
 enum-told : tie.Need-enum-told
 enum-told c = search needs
 
--- src/lib.rt:143:9
 same-length : tie.Need-same-length
 same-length c = search needs
 
--- src/lib.rt:143:9
 returns : tie.Need-returns
 returns c = form-refused (c .before .before .before .before .before .before .args .target .now) (c .before .before .before .before .before .before .args .form .now) (c .before .before .before .before .before .before .args .s) (c .before .before .before .before .before .before .pre .0) _ (told (c .enum-told .given .1) (c .before .before .read-header .ensures))
 
--- src/lib.rt:145:9
 subgoal-in-requires : tie.Need-subgoal-in-requires
 subgoal-in-requires c κs = takes-used _ _ _ (told (c .before .before .header .given .1) (c .before .before .before .before .read-header .ensures)) (c .before .before .before .before .before .before .before .before .pre .1)
 
--- src/lib.rt:146:38
 slice-aggregate-answer-at : tie.Need-slice-aggregate-answer-at
 slice-aggregate-answer-at c = search needs
 
--- src/lib.rt:146:5
 answer-at-requires : tie.Need-answer-at-requires
 answer-at-requires c κs = takes-held _ _ _ _ (told (c .before .before .before .before .before .header .given .1) (c .before .before .before .before .before .before .before .read-header .ensures)) (c .before .before .before .before .before .before .before .before .before .before .before .pre .1) (c .before .before .subgoal-in .ensures)
 
--- src/lib.rt:136:1
 same-length-2 : tie.Need-same-length-2
 same-length-2 c = search needs
 
--- src/lib.rt:136:1
 returns-2 : tie.Need-returns-2
 returns-2 c = form-entered (c .before .before .before .before .before .before .before .before .before .before .before .before .before .before .args .target .now) (c .before .before .before .before .before .before .before .before .before .before .before .before .before .before .args .form .now) (c .before .before .before .before .before .before .before .before .before .before .before .before .before .before .args .s) (c .before .before .before .before .before .before .before .before .before .before .before .before .before .before .pre .0) _ (told (c .before .before .before .before .before .before .before .before .header .given .1) (c .before .before .before .before .before .before .before .before .before .before .read-header .ensures)) _ (c .before .before .before .before .before .subgoal-in .ensures) _ _ (c .before .before .answer-at .ensures)
 

@@ -1,4 +1,4 @@
--- `carry_answers` meets its contract.
+-- `copying::writing::carry_answers` meets its contract.
 use Prim.Native.Nat.{_≤_, _-_}
 use mathlib.Core.Path.{_≡_, refl}
 use native.Mathlib.Omega.{arith}
@@ -6,8 +6,8 @@ use lib.ListN.{length}
 use Rattle.space.proofs.HeaderLaws.{bounds-nodes}
 use Rattle.copying.specs.Contracts.{withAnswers}
 use Rattle.copying.proofs.GiveCases.{answers-none, answers-ended, own-used, answer-ready, answers-next}
-use Rattle.copying.proofs.carry_answers.Statement.{statement}
-use Rattle.copying.proofs.carry_answers.Tie as tie
+use Rattle.copying.proofs.writing.carry_answers.Statement.{statement}
+use Rattle.copying.proofs.writing.carry_answers.Tie as tie
 
 abbrev Inv-loop : tie.InvT-loop
 Inv-loop source h target₀ i₀ target i = (i ≤ h .answers) × (target ≡ withAnswers source h target₀ i) × (length target ≡ length target₀)

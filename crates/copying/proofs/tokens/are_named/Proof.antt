@@ -1,4 +1,4 @@
--- `are_named` meets its contract.
+-- `copying::tokens::are_named` meets its contract.
 use Prim.Native.Nat.{_≤_, _-_}
 use mathlib.Core.Path.{_≡_, refl, sym, ap, _∙_}
 use mathlib.Core.Bool.{true}
@@ -10,8 +10,8 @@ use Rattle.space.proofs.HeaderLaws.{bounds-nodes}
 use Rattle.agreement.specs.Whole.{everyBelow}
 use Rattle.carrying.specs.Recoding.{nameFits}
 use Rattle.copying.proofs.TokenCases.{tokenNamed, pass-begin, pass-on, nodes-unnamed, nodes-named}
-use Rattle.copying.proofs.are_named.Statement.{statement}
-use Rattle.copying.proofs.are_named.Tie as tie
+use Rattle.copying.proofs.tokens.are_named.Statement.{statement}
+use Rattle.copying.proofs.tokens.are_named.Tie as tie
 
 abbrev Inv-loop : tie.InvT-loop
 Inv-loop space h i₀ i = (i ≤ h .nodes) × (everyBelow (tokenNamed space h) i ≡ true)

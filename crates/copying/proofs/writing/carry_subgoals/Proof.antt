@@ -1,4 +1,4 @@
--- `carry_subgoals` meets its contract.
+-- `copying::writing::carry_subgoals` meets its contract.
 use Prim.Native.Nat.{_≤_, _-_}
 use mathlib.Core.Path.{_≡_, refl, sym, ap, _∙_, subst}
 use mathlib.Core.List.{List}
@@ -8,8 +8,8 @@ use Rattle.space.specs.declared.Subgoal.{Subgoal}
 use Rattle.copying.specs.Contracts.{withFirst}
 use Rattle.copying.proofs.GiveCases.{first-none, ready-at, first-next, first-ended}
 use Rattle.space.proofs.HeaderLaws.{bounds-nodes}
-use Rattle.copying.proofs.carry_subgoals.Statement.{statement}
-use Rattle.copying.proofs.carry_subgoals.Tie as tie
+use Rattle.copying.proofs.writing.carry_subgoals.Statement.{statement}
+use Rattle.copying.proofs.writing.carry_subgoals.Tie as tie
 
 abbrev Inv-loop : tie.InvT-loop
 Inv-loop source h target₀ i₀ target i = (i ≤ h .subgoals) × (target ≡ withFirst source h target₀ i) × (length target ≡ length target₀)

@@ -1,4 +1,4 @@
--- `recode` meets its contract.
+-- `copying::tokens::recode` meets its contract.
 use Prim.Native.Nat.{_≤_, _-_}
 use mathlib.Core.Path.{_≡_, refl, sym, ap, _∙_}
 use mathlib.Core.Bool.{true}
@@ -6,8 +6,8 @@ use lib.ListN.{length, length-set}
 use native.Mathlib.Omega.{arith}
 use Rattle.carrying.specs.Recoding.{wider, nameFits}
 use Rattle.copying.proofs.TokenCases.{Turned, turned-begin, turned-at, turned-on, turned-ended, taken-at}
-use Rattle.copying.proofs.recode.Statement.{statement}
-use Rattle.copying.proofs.recode.Tie as tie
+use Rattle.copying.proofs.tokens.recode.Statement.{statement}
+use Rattle.copying.proofs.tokens.recode.Tie as tie
 
 abbrev Inv-loop : tie.InvT-loop
 Inv-loop form₀ n i₀ form i = (n ≡ length form₀) × (i ≤ n) × Turned form₀ i form × (length form ≡ length form₀)
