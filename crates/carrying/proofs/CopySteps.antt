@@ -36,7 +36,7 @@ use Rattle.carrying.proofs.BuildingAnswers.{Partly, begun-partly, Enter
 
 -- ---- lists by number
 
-map-upTo : {A B : Type 0} (g : A → B) (f : ℕ → A) (n : ℕ) → map g (upTo f n) ≡ upTo (λ i. g (f i)) n
+pub map-upTo : {A B : Type 0} (g : A → B) (f : ℕ → A) (n : ℕ) → map g (upTo f n) ≡ upTo (λ i. g (f i)) n
 unfolding upTo
 map-upTo g f zero = refl
 map-upTo {A} {B} g f (suc n) = map-append g (upTo f n) (f n ∷ []) ∙ ap (λ (l : List B). l ++ (g (f n) ∷ [])) (map-upTo g f n)

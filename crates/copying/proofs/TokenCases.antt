@@ -17,6 +17,7 @@ use Rattle.agreement.specs.Whole.{everyBelow}
 use Rattle.agreement.proofs.WholeTests.{and-both}
 use Rattle.carrying.specs.Recoding.{wider, nameFits, widening, recoded, takesWord}
 use Rattle.carrying.specs.Quick.{takesNodes}
+use Rattle.sources.proofs.PassLaws.{pass-fails}
 
 -- ---- in place
 
@@ -63,20 +64,6 @@ taken-at (x ∷ w) e (suc i) h = taken-at w (and-both (nameFits x) (takesWord wi
 -- the token of node i is named
 abbrev pub tokenNamed : List ℕ → Head → ℕ → Bool
 tokenNamed cs h i = nameFits (viewIn cs h .node i .token)
-
-pub pass-begin : (test : ℕ → Bool) → everyBelow test 0 ≡ true
-unfolding everyBelow
-pass-begin test = refl
-
-pub pass-on : (test : ℕ → Bool) (i : ℕ) → everyBelow test i ≡ true → test i ≡ true → everyBelow test (i + 1) ≡ true
-pass-on test i e q = let z : i + 1 ≡ suc i = omega arith in rw z (unfold everyBelow in rw (e, q))
-
-pass-fails : (test : ℕ → Bool) (n i : ℕ) → i < n → test i ≡ false → everyBelow test n ≡ false
-unfolding everyBelow
-pass-fails test zero i h e = absurd (omega arith)
-pass-fails test (suc n) i h e = by-cases (eqb i n)
-    (λ q. let z : test n ≡ false = ap test (sym (eqb-true i n q)) ∙ e in by-cases (everyBelow test n) (λ p. rw (p, z)) (λ p. rw p))
-    (λ q. let z : i ≡ n → ⊥ = eqb-false i n q in rw (pass-fails test n i (omega arith) e))
 
 pub nodes-unnamed : (cs : List ℕ) (h : Head) (i : ℕ) → i < h .nodes → tokenNamed cs h i ≡ false → false ≡ takesNodes widening (viewIn cs h)
 unfolding takesNodes

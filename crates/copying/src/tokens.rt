@@ -1,4 +1,6 @@
 // The tokens of a copy: which can be stored in edition 2, and what they become there.
+use sources::names::PAYLOADS;
+use sources::names::is_named;
 use space::Head;
 use space::records::node_in;
 ghost use mathlib.Core.Path.{_≡_};
@@ -9,21 +11,7 @@ ghost use Rattle.store.specs.Contracts.{viewIn};
 ghost use Rattle.carrying.specs.Recoding.{wider, nameFits, widening, recoded, takesWord};
 ghost use Rattle.carrying.specs.Quick.{takesNodes};
 
-const PAYLOADS: u32 = 268435456;
-
 const FUNCTORS: u32 = 1073741824;
-
-const NAMES: u32 = 1048576;
-
-// Has edition 2 room for the name of a functor? Other tokens have none.
-pub fn is_named(x: u32) -> bool
-    ensures { λ r. ⌜ r ≡ nameFits x ⌝ }
-{
-    if x / PAYLOADS == 4 {
-        return x % PAYLOADS / 16 < NAMES;
-    }
-    true
-}
 
 // The token in edition 2.
 pub fn widened(x: u32) -> u32

@@ -3,13 +3,11 @@ use mathlib.Core.Path.{_≡_, refl}
 use mathlib.Core.Bool.{Bool, true, false, _&&_}
 use Prim.Native.Nat.{ℕ, _+_, _-_, _≤_, min}
 use native.Mathlib.Omega.{arith}
-use lib.Dec.{eqb}
-use borrow.Author.Tests.{eq-eqb, ne-eqb}
 use Rattle.sides.specs.declared.Met.{Met}
 use Rattle.pairing.specs.declared.Sums.{Sums}
 use Rattle.pairing.specs.declared.Needs.{Needs}
-use Rattle.pairing.specs.declared.Earlier.{Earlier}
-use Rattle.pairing.specs.Counting.{oneMore, added, allShared, oneNew, needsMore}
+use Rattle.sides.specs.declared.Earlier.{Earlier}
+use Rattle.pairing.specs.Counting.{oneMore, added, oneNew, needsMore}
 
 pub one-true : (b : Bool) → b ≡ true → (1 ≡ oneMore b) × (1 ≤ 1)
 unfolding oneMore
@@ -18,14 +16,6 @@ one-true b e = (rw e, omega arith)
 pub one-false : (b : Bool) → b ≡ false → (0 ≡ oneMore b) × (0 ≤ 1)
 unfolding oneMore
 one-false b e = (rw e, omega arith)
-
-pub shared-all : (k n m : ℕ) → k ≡ n → eqb n m ≡ allShared k n m
-unfolding allShared
-shared-all k n m e = rw (eq-eqb k n e)
-
-pub shared-less : (k n m : ℕ) → (k ≡ n → ⊥) → false ≡ allShared k n m
-unfolding allShared
-shared-less k n m e = rw (ne-eqb k n e)
 
 module _ (lacking held : Bool) where
   pub new-held : lacking ≡ true → held ≡ true → (0 ≡ oneNew lacking held) × (0 ≤ 1)

@@ -23,7 +23,7 @@ use Rattle.pairing.specs.declared.Sums.{Sums}
 use Rattle.pairing.specs.declared.Counted.{Counted}
 use Rattle.pairing.specs.declared.Counted.the-variants as counted
 use Rattle.pairing.specs.declared.Needs.{Needs}
-use Rattle.pairing.specs.declared.Earlier.{Earlier}
+use Rattle.sides.specs.declared.Earlier.{Earlier}
 use Rattle.pairing.specs.Pairing.{Remains, Throughout, partsFrom}
 
 -- ---- all forms
@@ -88,16 +88,6 @@ backwards (w ∷ ws) before = backwards ws (w ∷ before)
 -- what the form w shares with the first k forms
 abbrev pub EarlierOf : List Word → ℕ → Word → Earlier → Type 0
 EarlierOf ws k w r = (r .shared ≡ most (backwards (take k ws) []) w) × (r .held ≡ has (backwards (take k ws) []) w)
-
--- and with one form more
-abbrev pub MeetsOneMore : Earlier → Word → Word → Earlier → Type 0
-MeetsOneMore a v w b =
-    (before : List Word) → a .shared ≡ most before w → a .held ≡ has before w
-    → (b .shared ≡ most (v ∷ before) w) × (b .held ≡ has (v ∷ before) w)
-
--- k tokens are all of n, and all of m
-unfoldable pub allShared : ℕ → ℕ → ℕ → Bool
-allShared k n m = pick (eqb k n) (eqb n m) false
 
 -- 1 for a form that is lacking and not among those before it
 unfoldable pub oneNew : Bool → Bool → ℕ

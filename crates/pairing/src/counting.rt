@@ -1,7 +1,6 @@
 // What the forms of a join need: the sums over a search of each, which suffice where they fit, and the exact needs.
 use super::Counted;
 use super::Cursor;
-use super::Earlier;
 use super::Match;
 use super::Needs;
 use super::Sides;
@@ -9,18 +8,19 @@ use super::Sums;
 use super::cursors::HANDS;
 use super::cursors::advance;
 use basis::limits::MOST_TOKENS;
+use sides::Earlier;
 use sides::Met;
-use sides::searches::common;
+use sides::searches::meet;
 use sides::searches::search;
 ghost use mathlib.Core.Path.{_≡_};
-ghost use Prim.Native.Nat.{_+_, _^_, _<_, _≤_, min, max};
-ghost use mathlib.Core.Bool.{_&&_, _||_};
+ghost use Prim.Native.Nat.{_+_, _^_, _<_, _≤_, min};
+ghost use mathlib.Core.Bool.{_&&_};
 ghost use lib.ListN.{length};
 ghost use Rattle.basis.specs.Moments.{old};
 ghost use Rattle.trie.specs.Index.{searchIndexed};
 ghost use Rattle.pairing.specs.Counting.{beginning, allForms, oneMore, added};
 ghost use Rattle.pairing.specs.Counting.{JoinReady, CountsForms, ReadyToCount};
-ghost use Rattle.pairing.specs.Counting.{EarlierOf, allShared, MeetsOneMore, oneNew, needsMore, NeedsOf};
+ghost use Rattle.pairing.specs.Counting.{EarlierOf, oneNew, needsMore, NeedsOf};
 
 // Where a join begins: nothing is in hand.
 pub fn begin(x: Sides) -> Cursor
@@ -97,47 +97,6 @@ pub fn count(
             Match::TooLong => return Counted::TooLong,
             Match::End => return Counted::Sums(sums),
         }
-    }
-}
-
-fn either(a: bool, b: bool) -> bool
-    ensures { λ r. ⌜ r ≡ (a || b) ⌝ }
-{
-    if a {
-        return true;
-    }
-    b
-}
-
-fn larger(a: usize, b: usize) -> usize
-    ensures { λ r. ⌜ r ≡ max a b ⌝ }
-{
-    if a <= b {
-        return b;
-    }
-    a
-}
-
-// Are k tokens all of n, and all of m?
-fn all_shared(k: usize, n: usize, m: usize) -> bool
-    ensures { λ r. ⌜ r ≡ allShared k n m ⌝ }
-{
-    if k == n {
-        return n == m;
-    }
-    false
-}
-
-// What the form shares with those before it, with one of them more.
-fn meet(e: Earlier, other: &[u32], form: &[u32]) -> Earlier
-    ensures { λ r. ⌜ MeetsOneMore e (old other) (old form) r ⌝ }
-{
-    let k = common(other, form);
-    let shared = larger(k, e.shared);
-    let held = either(all_shared(k, other.len(), form.len()), e.held);
-    Earlier {
-        shared: shared,
-        held: held,
     }
 }
 

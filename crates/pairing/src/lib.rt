@@ -67,9 +67,3 @@ pub struct Needs {
     pub nodes: u64,
     pub answers: u64,
 }
-
-// The most tokens that a form shares with one before it, and whether it is one of those.
-pub struct Earlier {
-    pub shared: usize,
-    pub held: bool,
-}

@@ -3,3 +3,4 @@ mod Places
 mod NameCases
 mod ChainCases
 mod SearchCases
+pub mod SharedLaws

@@ -24,3 +24,9 @@ pub struct Met {
     pub lacking: bool,
     pub missing: usize,
 }
+
+// The most tokens that a form shares with one before it, and whether it is one of those.
+pub struct Earlier {
+    pub shared: usize,
+    pub held: bool,
+}

@@ -9,7 +9,8 @@ use Rattle.space.specs.declared.Node.{Node}
 use Rattle.space.proofs.HeaderLaws.{bounds-nodes}
 use Rattle.agreement.specs.Whole.{everyBelow}
 use Rattle.carrying.specs.Recoding.{nameFits}
-use Rattle.copying.proofs.TokenCases.{tokenNamed, pass-begin, pass-on, nodes-unnamed, nodes-named}
+use Rattle.sources.proofs.PassLaws.{pass-begin, pass-on}
+use Rattle.copying.proofs.TokenCases.{tokenNamed, nodes-unnamed, nodes-named}
 use Rattle.copying.proofs.tokens.are_named.Statement.{statement}
 use Rattle.copying.proofs.tokens.are_named.Tie as tie
 

@@ -1,8 +1,8 @@
--- `pairing::counting::all_shared` meets its contract.
-use Rattle.pairing.proofs.CountCases.{shared-all, shared-less}
+-- `sides::searches::all_shared` meets its contract.
+use Rattle.sides.proofs.SharedLaws.{shared-all, shared-less}
 use borrow.Author.Needs.{needs}
-use Rattle.pairing.proofs.counting.all_shared.Statement.{statement}
-use Rattle.pairing.proofs.counting.all_shared.Tie as tie
+use Rattle.sides.proofs.searches.all_shared.Statement.{statement}
+use Rattle.sides.proofs.searches.all_shared.Tie as tie
 
 returns : tie.Need-returns
 returns c = shared-all _ _ _ (search needs)

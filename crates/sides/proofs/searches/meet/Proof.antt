@@ -1,12 +1,12 @@
 use Prim.Native.Nat.{ℕ, max}
 use lib.ListN.{length}
-use Rattle.pairing.specs.Counting.{allShared}
--- `pairing::counting::meet` meets its contract.
-use Rattle.pairing.proofs.NeedLaws.{meets}
+use Rattle.sides.specs.Searches.{allShared}
+-- `sides::searches::meet` meets its contract.
+use Rattle.sides.proofs.SharedLaws.{meets}
 use mathlib.Core.Path.{_∙_, ap}
 use borrow.Author.Needs.{needs}
-use Rattle.pairing.proofs.counting.meet.Statement.{statement}
-use Rattle.pairing.proofs.counting.meet.Tie as tie
+use Rattle.sides.proofs.searches.meet.Statement.{statement}
+use Rattle.sides.proofs.searches.meet.Tie as tie
 
 common-requires : tie.Need-common-requires
 common-requires c κs = search needs

@@ -1,8 +1,8 @@
--- `copying::tokens::is_named` meets its contract, one case to each side of its test.
+-- `sources::names::is_named` meets its contract, one case to each side of its test.
 use borrow.Author.Tests.{eq-eqb, ne-eqb}
 use Rattle.carrying.specs.Recoding.{nameFits}
-use Rattle.copying.proofs.tokens.is_named.Statement.{statement}
-use Rattle.copying.proofs.tokens.is_named.Tie as tie
+use Rattle.sources.proofs.names.is_named.Statement.{statement}
+use Rattle.sources.proofs.names.is_named.Tie as tie
 
 returns : tie.Need-returns
 unfolding nameFits
