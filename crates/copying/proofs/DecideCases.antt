@@ -27,7 +27,7 @@ use Rattle.carrying.specs.Quick.{takesNodes, quickReply}
 use Rattle.carrying.proofs.CopyCases.{copy-headless, copy-other, copy-unfresh, slow-holdable}
 use Rattle.carrying.proofs.Quick.{copy-quick}
 use Rattle.carrying.proofs.Theorems.{carry-recodes}
-use Rattle.copying.specs.Contracts.{SourceHead, loadedReply}
+use Rattle.copying.specs.Contracts.{loadedReply}
 
 -- ---- the counts
 

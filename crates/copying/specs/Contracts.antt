@@ -77,10 +77,6 @@ pub record StatesReady (source : List ℕ) (h : Head) (offset cells : ℕ) : Typ
 
 -- ---- deciding
 
--- the header of a source of edition 1
-abbrev pub SourceHead : List ℕ → Head → Type 0
-SourceHead source h = (header.Sound h ≡ spaceHeader source) × (h .edition ≡ 1)
-
 -- 9, 18, 19 or done, by the forms that load
 unfoldable pub loadedReply : ℕ → ℕ → ℕ → View → FreshAnswer
 loadedReply n f a v = pick (sourceLoads (codingOf 1) v) (carrying widening n f a (tableRead v)) (Refused 9)

@@ -26,13 +26,18 @@ answer-in-requires c κs = (c .before .before .before .before .before .pre .0, o
 
 subgoal-in-requires : tie.Need-subgoal-in-requires Inv-loop μ-loop
 subgoal-in-requires c κs =
-    let u = own-used (c .before .before .before .before .before .before .args .source .now) (c .before .before .before .before .before .before .args .h) (c .before .before .before .before .before .before .args .target .now) (c .before .before .before .loop .target) (c .before .before .before .loop .i) _ (c .answer-in .ensures) (c .before .before .before .before .before .before .pre .1 (c .before .before .before .loop .i) (omega arith)) in
-    (c .before .before .before .before .before .before .pre .0, u .0, u .1)
+    let l = c .before .before .before .loop in
+    let o = c .before .before .before .before .before .before in
+    let u = own-used (o .args .source .now) (o .args .h) (o .args .target .now) (l .target) (l .i) _ (c .answer-in .ensures) (o .pre .1 (l .i) (omega arith)) in
+    (o .pre .0, u .0, u .1)
 
 carry-answer-requires : tie.Need-carry-answer-requires Inv-loop μ-loop
 carry-answer-requires c κs =
-    let r = answer-ready (c .before .before .before .before .before .before .before .before .args .source .now) (c .before .before .before .before .before .before .before .before .args .h) (c .before .before .before .before .before .before .before .before .args .target .now) (c .before .before .before .before .before .loop .target) (c .before .before .before .before .before .loop .i) _ (c .before .before .answer-in .ensures) _ (c .before .subgoal-in .ensures) (c .before .before .before .before .before .before .before .before .pre .1 (c .before .before .before .before .before .loop .i) (omega arith)) (c .before .before .before .before .before .loop .inv .1) in
-    (((bounds-nodes _ _ (c .before .before .before .before .before .before .before .before .pre .0), r .0), r .1), (r .2, r .3))
+    let l = c .before .before .before .before .before .loop in
+    let o = c .before .before .before .before .before .before .before .before in
+    let r = answer-ready (o .args .source .now) (o .args .h) (o .args .target .now) (l .target) (l .i) _ (c .before .before .answer-in .ensures) _
+    (c .before .subgoal-in .ensures) (o .pre .1 (l .i) (omega arith)) (l .inv .1) in
+    (((bounds-nodes _ _ (o .pre .0), r .0), r .1), (r .2, r .3))
 
 add-i : tie.Need-add-i Inv-loop μ-loop
 add-i c = omega arith
@@ -41,17 +46,25 @@ loop-less : tie.Need-loop-less Inv-loop μ-loop
 loop-less c = omega arith
 
 loop-again : tie.Need-loop-again Inv-loop μ-loop
-loop-again c = (
-  omega arith,
-  answers-next (c .before .before .before .before .before .before .before .before .before .before .before .args .source .now) (c .before .before .before .before .before .before .before .before .before .before .before .args .h) (c .before .before .before .before .before .before .before .before .before .before .before .args .target .now) (c .before .before .before .before .before .before .before .before .loop .target) (c .before .before .before .before .before .before .before .before .loop .i) _ (c .before .before .before .before .before .answer-in .ensures) _ (c .before .before .before .before .subgoal-in .ensures) _ (c .before .before .before .before .before .before .before .before .loop .inv .1) (c .before .before .carry-answer .ensures),
-  omega (arith, c .before .before .carry-answer .kept, c .before .before .before .before .before .before .before .before .loop .inv .2),
-)
+loop-again c =
+    let p = c .before .before .before .before in
+    let q = p .before in
+    let l = q .before .before .before .loop in
+    let o = q .before .before .before .before .before .before in (
+      omega arith,
+      answers-next (o .args .source .now) (o .args .h) (o .args .target .now) (l .target) (l .i) _ (q .answer-in .ensures) _ (p .subgoal-in .ensures) _ (l .inv .1)
+          (c .before .before .carry-answer .ensures),
+      omega (arith, c .before .before .carry-answer .kept, l .inv .2),
+    )
 
 same-length : tie.Need-same-length Inv-loop μ-loop
 same-length c = c .before .before .loop .inv .2
 
 returns : tie.Need-returns Inv-loop μ-loop
-returns c = answers-ended (c .before .before .before .before .before .args .source .now) (c .before .before .before .before .before .args .h) (c .before .before .before .before .before .args .target .now) (c .before .before .loop .target) (c .before .before .loop .i) (c .before .before .loop .inv .0) (omega arith) (c .before .before .loop .inv .1)
+returns c =
+    let l = c .before .before .loop in
+    let o = c .before .before .before .before .before in
+    answers-ended (o .args .source .now) (o .args .h) (o .args .target .now) (l .target) (l .i) (l .inv .0) (omega arith) (l .inv .1)
 
 pub carry-answers-spec : {M : Type 1} → statement M
 carry-answers-spec =

@@ -28,8 +28,10 @@ subgoal-in-requires c κs = (c .before .before .before .before .before .pre .0, 
 
 carry-subgoal-requires : tie.Need-carry-subgoal-requires Inv-loop μ-loop
 carry-subgoal-requires c κs =
-    let r = ready-at (c .before .before .before .before .before .before .before .args .source .now) (c .before .before .before .before .before .before .before .args .h) (c .before .before .before .before .before .before .before .args .target .now) (c .before .before .before .before .loop .target) (c .before .before .before .before .loop .i) _ (c .before .subgoal-in .ensures) (c .before .before .before .before .before .before .before .pre .1 (c .before .before .before .before .loop .i) (omega arith)) (c .before .before .before .before .loop .inv .1) in
-    (((bounds-nodes _ _ (c .before .before .before .before .before .before .before .pre .0), r .0), r .1), (r .2, r .3))
+    let l = c .before .before .before .before .loop in
+    let o = c .before .before .before .before .before .before .before in
+    let r = ready-at (o .args .source .now) (o .args .h) (o .args .target .now) (l .target) (l .i) _ (c .before .subgoal-in .ensures) (o .pre .1 (l .i) (omega arith)) (l .inv .1) in
+    (((bounds-nodes _ _ (o .pre .0), r .0), r .1), (r .2, r .3))
 
 add-i : tie.Need-add-i Inv-loop μ-loop
 add-i c = omega arith
@@ -38,17 +40,23 @@ loop-less : tie.Need-loop-less Inv-loop μ-loop
 loop-less c = omega arith
 
 loop-again : tie.Need-loop-again Inv-loop μ-loop
-loop-again c = (
-  omega arith,
-  first-next (c .before .before .before .before .before .before .before .before .before .before .args .source .now) (c .before .before .before .before .before .before .before .before .before .before .args .h) (c .before .before .before .before .before .before .before .before .before .before .args .target .now) (c .before .before .before .before .before .before .before .loop .target) (c .before .before .before .before .before .before .before .loop .i) _ (c .before .before .before .before .subgoal-in .ensures) _ (c .before .before .before .before .before .before .before .loop .inv .1) (c .before .before .carry-subgoal .ensures),
-  omega (arith, c .before .before .carry-subgoal .kept, c .before .before .before .before .before .before .before .loop .inv .2),
-)
+loop-again c =
+    let p = c .before .before .before .before in
+    let l = p .before .before .before .loop in
+    let o = p .before .before .before .before .before .before in (
+      omega arith,
+      first-next (o .args .source .now) (o .args .h) (o .args .target .now) (l .target) (l .i) _ (p .subgoal-in .ensures) _ (l .inv .1) (c .before .before .carry-subgoal .ensures),
+      omega (arith, c .before .before .carry-subgoal .kept, l .inv .2),
+    )
 
 same-length : tie.Need-same-length Inv-loop μ-loop
 same-length c = c .before .before .loop .inv .2
 
 returns : tie.Need-returns Inv-loop μ-loop
-returns c = first-ended (c .before .before .before .before .before .args .source .now) (c .before .before .before .before .before .args .h) (c .before .before .before .before .before .args .target .now) (c .before .before .loop .target) (c .before .before .loop .i) (c .before .before .loop .inv .0) (omega arith) (c .before .before .loop .inv .1)
+returns c =
+    let l = c .before .before .loop in
+    let o = c .before .before .before .before .before in
+    first-ended (o .args .source .now) (o .args .h) (o .args .target .now) (l .target) (l .i) (l .inv .0) (omega arith) (l .inv .1)
 
 pub carry-subgoals-spec : {M : Type 1} → statement M
 carry-subgoals-spec =

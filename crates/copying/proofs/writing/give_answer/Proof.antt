@@ -18,22 +18,37 @@ same-length : tie.Need-same-length
 same-length c = search needs
 
 returns : tie.Need-returns
-returns c = form-refused (c .before .before .before .before .before .before .args .target .now) (c .before .before .before .before .before .before .args .form .now) (c .before .before .before .before .before .before .args .s) (c .before .before .before .before .before .before .pre .0) _ (told (c .enum-told .given .1) (c .before .before .read-header .ensures))
+returns c =
+    let o = c .before .before .before .before .before .before in
+    form-refused (o .args .target .now) (o .args .form .now) (o .args .s) (o .pre .0) _ (told (c .enum-told .given .1) (c .before .before .read-header .ensures))
 
 subgoal-in-requires : tie.Need-subgoal-in-requires
-subgoal-in-requires c κs = takes-used _ _ _ (told (c .before .before .header .given .1) (c .before .before .before .before .read-header .ensures)) (c .before .before .before .before .before .before .before .before .pre .1)
+subgoal-in-requires c κs =
+    let p = c .before .before .before .before in
+    let o = p .before .before .before .before in
+    takes-used _ _ _ (told (c .before .before .header .given .1) (p .read-header .ensures)) (o .pre .1)
 
 slice-aggregate-answer-at : tie.Need-slice-aggregate-answer-at
 slice-aggregate-answer-at c = search needs
 
 answer-at-requires : tie.Need-answer-at-requires
-answer-at-requires c κs = takes-held _ _ _ _ (told (c .before .before .before .before .before .header .given .1) (c .before .before .before .before .before .before .before .read-header .ensures)) (c .before .before .before .before .before .before .before .before .before .before .before .pre .1) (c .before .before .subgoal-in .ensures)
+answer-at-requires c κs =
+    let p = c .before .before .before .before .before in
+    let q = p .before .before in
+    let o = q .before .before .before .before in
+    takes-held _ _ _ _ (told (p .header .given .1) (q .read-header .ensures)) (o .pre .1) (c .before .before .subgoal-in .ensures)
 
 same-length-2 : tie.Need-same-length-2
 same-length-2 c = search needs
 
 returns-2 : tie.Need-returns-2
-returns-2 c = form-entered (c .before .before .before .before .before .before .before .before .before .before .before .before .before .before .args .target .now) (c .before .before .before .before .before .before .before .before .before .before .before .before .before .before .args .form .now) (c .before .before .before .before .before .before .before .before .before .before .before .before .before .before .args .s) (c .before .before .before .before .before .before .before .before .before .before .before .before .before .before .pre .0) _ (told (c .before .before .before .before .before .before .before .before .header .given .1) (c .before .before .before .before .before .before .before .before .before .before .read-header .ensures)) _ (c .before .before .before .before .before .subgoal-in .ensures) _ _ (c .before .before .answer-at .ensures)
+returns-2 c =
+    let p = c .before .before .before .before .before in
+    let q = p .before .before .before in
+    let r = q .before .before in
+    let o = r .before .before .before .before in
+    form-entered (o .args .target .now) (o .args .form .now) (o .args .s) (o .pre .0) _ (told (q .header .given .1) (r .read-header .ensures)) _ (p .subgoal-in .ensures) _ _
+    (c .before .before .answer-at .ensures)
 
 pub give-answer-spec : {M : Type 1} → statement M
 give-answer-spec =

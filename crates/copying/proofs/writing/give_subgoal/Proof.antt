@@ -19,19 +19,29 @@ same-length : tie.Need-same-length
 same-length c = search needs
 
 returns : tie.Need-returns
-returns c = given-refused (c .before .before .before .before .before .before .args .target .now) (c .before .before .before .before .before .before .args .form .now) (c .before .before .before .before .before .before .args .m) (c .before .before .before .before .before .before .pre .0) _ (told (c .enum-told .given .1) (c .before .before .read-header .ensures))
+returns c =
+    let o = c .before .before .before .before .before .before in
+    given-refused (o .args .target .now) (o .args .form .now) (o .args .m) (o .pre .0) _ (told (c .enum-told .given .1) (c .before .before .read-header .ensures))
 
 slice-aggregate-call-at : tie.Need-slice-aggregate-call-at
 slice-aggregate-call-at c = search needs
 
 call-at-requires : tie.Need-call-at-requires
-call-at-requires c κs = (header-bounds _ _ (told (c .before .before .before .header .given .1) (c .before .before .before .before .before .read-header .ensures)), c .before .before .before .before .before .before .before .before .before .pre .1)
+call-at-requires c κs =
+    let p = c .before .before .before in
+    let q = p .before .before in
+    let o = q .before .before .before .before in
+    (header-bounds _ _ (told (p .header .given .1) (q .read-header .ensures)), o .pre .1)
 
 same-length-2 : tie.Need-same-length-2
 same-length-2 c = search needs
 
 returns-2 : tie.Need-returns-2
-returns-2 c = given-entered (c .before .before .before .before .before .before .before .before .before .before .before .before .args .target .now) (c .before .before .before .before .before .before .before .before .before .before .before .before .args .form .now) (c .before .before .before .before .before .before .before .before .before .before .before .before .args .m) (c .before .before .before .before .before .before .before .before .before .before .before .before .pre .0) _ (told (c .before .before .before .before .before .before .header .given .1) (c .before .before .before .before .before .before .before .before .read-header .ensures)) _ _ (c .before .before .call-at .ensures)
+returns-2 c =
+    let p = c .before .before .before .before .before .before in
+    let q = p .before .before in
+    let o = q .before .before .before .before in
+    given-entered (o .args .target .now) (o .args .form .now) (o .args .m) (o .pre .0) _ (told (p .header .given .1) (q .read-header .ensures)) _ _ (c .before .before .call-at .ensures)
 
 pub give-subgoal-spec : {M : Type 1} → statement M
 give-subgoal-spec =
