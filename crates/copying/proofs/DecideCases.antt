@@ -3,21 +3,20 @@ use Prim.Native.Nat.{ℕ, _≤_, _<_}
 use mathlib.Core.Path.{_≡_, refl, sym, ap, _∙_, subst}
 use mathlib.Core.Bool.{Bool, true, false, _&&_}
 use mathlib.Core.List.{List}
-use lib.Dec.{eqb, leb}
+use lib.Dec.{leb}
 use borrow.Author.Tests.{le-leb, lt-leb, ne-eqb, eq-eqb}
 use Rattle.basis.specs.Editions.{knownEdition}
 use Rattle.plain.specs.Coding.{codingOf}
 use Rattle.space.specs.Layout.{sizesOf}
 use Rattle.space.specs.Heading.{spaceHeader}
 use Rattle.space.specs.Fresh.{freshFits, freshAnswer, freshAnswerIn}
-use Rattle.space.specs.declared.FreshAnswer.{FreshAnswer}
 use Rattle.space.specs.declared.FreshAnswer.the-variants.{Done, Refused}
 use Rattle.space.specs.declared.Head.{Head}
 use Rattle.space.specs.declared.Header.the-variants as header
 use Rattle.store.specs.Views.{View, viewOf}
 use Rattle.store.specs.Contracts.{viewIn}
 use Rattle.agreement.specs.Whole.{tableRead, wholeSpace}
-use Rattle.agreement.specs.Faults.{Fault, nothing, faultOf}
+use Rattle.agreement.specs.Faults.{nothing, faultOf}
 use Rattle.agreement.proofs.Faults.{fault-told}
 use Rattle.carrying.specs.Recoding.{widening}
 use Rattle.carrying.specs.Carrying.{takesTable, carrying}

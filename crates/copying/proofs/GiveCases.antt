@@ -8,7 +8,6 @@ use native.Mathlib.Nat.{le-of-suc-le-suc}
 use lib.ListN.{length, take, drop, length-drop, length-map}
 use lib.Seq.{length-take-le}
 use borrow.Rule.Slice.PartMut.{putMid, same-len-mid}
-use Rattle.plain.specs.Coding.{accepted}
 use Rattle.plain.specs.Requests.{Reply}
 use Rattle.space.specs.Layout.{sizesOf}
 use Rattle.space.specs.Heading.{headerOf, spaceHeader}

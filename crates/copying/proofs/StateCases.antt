@@ -9,6 +9,7 @@ use Rattle.space.specs.Layout.{sizesOf, subgoalWidth, stateCell}
 use Rattle.space.specs.Sound.{subgoalUnder, SubgoalRoom}
 use Rattle.space.specs.declared.Head.{Head}
 use Rattle.space.specs.declared.Subgoal.{Subgoal}
+use Rattle.space.proofs.JudgingLaws.{SubgoalBounds, subgoal-bounds}
 use Rattle.store.specs.Contracts.{viewIn}
 use Rattle.agreement.specs.Whole.{upTo}
 use Rattle.carrying.specs.Recoding.{widening}
@@ -36,8 +37,11 @@ module _ (source : List ℕ) (h : Head) (offset cells : ℕ) (ready : StatesRead
     record-is : g ≡ viewIn source h .subgoal (suc i)
     record-is = let z : i + 1 ≡ suc i = omega arith in e ∙ ap (λ (s : ℕ). subgoalUnder source h s) z
 
-    pub state-most : g .state ≤ 1
-    state-most = subst (λ (y : Subgoal). y .state ≤ 1) (sym record-is) (ready .state i low)
+    view-bounds : SubgoalBounds (h .nodes) (h .answers) (viewIn source h .subgoal (suc i))
+    view-bounds = subgoal-bounds (h .nodes) (h .answers) (viewIn source h .subgoal (suc i)) (ready .sound i low)
+
+    pub record-bounds : SubgoalBounds (h .nodes) (h .answers) g
+    record-bounds = subst (SubgoalBounds (h .nodes) (h .answers)) (sym record-is) view-bounds
 
     pub states-next : (target now after : List ℕ) → now ≡ withStates source h offset target i
         → after ≡ set now (stateCell (sizesOf 2) offset (i + 1)) (g .state) → after ≡ withStates source h offset target (i + 1)
@@ -46,4 +50,4 @@ module _ (source : List ℕ) (h : Head) (offset cells : ℕ) (ready : StatesRead
         let put : ℕ → ℕ → List ℕ → List ℕ = λ s x l. set l (stateCell (sizesOf 2) offset s) x in
         rw z (a ∙ ap (λ (s : ℕ). put s (g .state) now) z ∙ ap (λ (y : Subgoal). put (suc i) (y .state) now) record-is
         ∙ ap (put (suc i) (viewIn source h .subgoal (suc i) .state)) q
-        ∙ sym (states-more (sizesOf 2) offset target widening (viewIn source h) i (ready .state i low)))
+        ∙ sym (states-more (sizesOf 2) offset target widening (viewIn source h) i (view-bounds .state-most)))

@@ -23,7 +23,7 @@ use Rattle.space.specs.declared.FreshAnswer.the-variants.{Done}
 use Rattle.space.specs.declared.Head.{Head}
 use Rattle.space.specs.declared.Header.the-variants as header
 use Rattle.space.proofs.HeaderLaws.{header-bounds}
-use Rattle.space.proofs.JudgingLaws.{SubgoalBounds, AnswerBounds, subgoal-bounds, answer-bounds}
+use Rattle.space.proofs.JudgingLaws.{AnswerBounds, subgoal-bounds, answer-bounds}
 use Rattle.trie.specs.Paths.{Path, none, tokens}
 use Rattle.store.specs.Views.{View, viewOf}
 use Rattle.store.specs.Contracts.{viewIn}
@@ -152,12 +152,12 @@ module _ (n f a : ℕ) (source target : List ℕ) (h : Head) (x : Accepted n f a
   abbrev A : ℕ → List ℕ
   A = afterAnswers (sizesOf 2) widening (viewIn source h) n f a target
 
-  subgoal-read : (s : ℕ) → 0 < s → s ≤ h .subgoals → SubgoalBounds (h .nodes) (h .answers) (v .subgoal s) × PathCarried (subgoalPath v s)
+  subgoal-read : (s : ℕ) → 0 < s → s ≤ h .subgoals → (soundSubgoal v s ≡ true) × PathCarried (subgoalPath v s)
   unfolding subgoalLoads
   subgoal-read s low high =
       let test : Word → Bool = λ w. codingOf 1 .legal 1 w && eqb (length (met [] w)) (v .subgoal s .variables) in
       let p = and-both (soundSubgoal v s) (pathPasses (subgoalPath v s) test) (subgoal-loads (codingOf 1) v (x .loads) s low high) in (
-        subgoal-bounds (h .nodes) (h .answers) (v .subgoal s) (p .0),
+        p .0,
         (
           wordOf (subgoalPath v s),
           passes-tokens (subgoalPath v s) test (p .1),
@@ -191,8 +191,9 @@ module _ (n f a : ℕ) (source target : List ℕ) (h : Head) (x : Accepted n f a
   subgoals-ready : SubgoalsReady source h (freshSpace (sizesOf 2) n f a target)
   subgoals-ready i low =
       let r = subgoal-read (suc i) (omega arith) low in
+      let b = subgoal-bounds (h .nodes) (h .answers) (v .subgoal (suc i)) (r .0) in
       let k = held-subgoals i (omega arith) in
-      record { leaf-in = r .0 .leaf-below; path = r .1; variables = r .0 .variables-most; two = held-two (x .known) (k .0) (S i) (k .1) }
+      record { leaf-in = b .leaf-below; path = r .1; variables = b .variables-most; two = held-two (x .known) (k .0) (S i) (k .1) }
 
   answers-ready : AnswersReady source h (S (h .subgoals))
   answers-ready i low =
@@ -247,7 +248,7 @@ module _ (n f a : ℕ) (source target : List ℕ) (h : Head) (x : Accepted n f a
                 x .bounds,
                 record {
                   room = held-offset (x .known) (m .0) answered (m .2) to q .1 (h .subgoals) room;
-                  state = λ i low. subgoal-read (suc i) (omega arith) low .0 .state-most;
+                  sound = λ i low. subgoal-read (suc i) (omega arith) low .0;
                 },
               )
 

@@ -16,6 +16,7 @@ use Rattle.space.specs.declared.Header.the-variants as header
 use Rattle.trie.specs.Paths.{Path, tokens}
 use Rattle.store.specs.Contracts.{viewIn}
 use Rattle.store.specs.Views.{View}
+use Rattle.store.specs.Decisions.{soundSubgoal}
 use Rattle.agreement.specs.Whole.{subgoalPath, answerPath, tableRead}
 use Rattle.carrying.specs.Recoding.{widening, takesWord}
 use Rattle.carrying.specs.Carrying.{carrying}
@@ -70,10 +71,10 @@ abbrev pub withStates : List ℕ → Head → ℕ → List ℕ → ℕ → List 
 withStates source h offset target i =
     statesGiven (sizesOf 2) offset target 1 (firstSubgoals widening (viewIn source h) i)
 
--- so many cells have room for the subgoals, and each state is one of the two
+-- so many cells have room for the subgoals, and each record is sound
 pub record StatesReady (source : List ℕ) (h : Head) (offset cells : ℕ) : Type 0 where
   pub room : subgoalsEnd 2 offset (h .subgoals) ≤ cells
-  pub state : (i : ℕ) → i < h .subgoals → viewIn source h .subgoal (suc i) .state ≤ 1
+  pub sound : (i : ℕ) → i < h .subgoals → soundSubgoal (viewIn source h) (suc i) ≡ true
 
 -- ---- deciding
 

@@ -22,7 +22,7 @@ use space::heading::read_header;
 ghost use mathlib.Core.Path.{_≡_};
 ghost use mathlib.Core.Bool.{_&&_};
 ghost use lib.Dec.{leb};
-ghost use Rattle.basis.specs.Moments.{old, new};
+ghost use Rattle.basis.specs.Moments.{old};
 ghost use Rattle.space.specs.Heading.{spaceHeader};
 ghost use Rattle.space.specs.Sound.{Bounds};
 ghost use Rattle.space.specs.declared.Header.the-variants as header;

@@ -4,7 +4,7 @@ use mathlib.Core.Path.{_≡_, refl, sym}
 use native.Mathlib.Omega.{arith}
 use lib.ListN.{length}
 use Rattle.copying.specs.Contracts.{withStates}
-use Rattle.copying.proofs.StateCases.{states-none, states-ended, state-room, state-most, states-next}
+use Rattle.copying.proofs.StateCases.{states-none, states-ended, state-room, record-bounds, states-next}
 use Rattle.copying.proofs.writing.carry_states.Statement.{statement}
 use Rattle.copying.proofs.writing.carry_states.Tie as tie
 
@@ -29,15 +29,17 @@ add-write-state c = omega (arith, c .before .before .before .before .before .bef
 
 cast-write-state : tie.Need-cast-write-state Inv-loop μ-loop
 cast-write-state c =
+    let o = c .before .before .before .before .before .before .before .before in
     let l = c .before .before .before .before .before .loop in
-    let low : l .i < c .before .before .before .before .before .before .before .before .args .h .subgoals = omega arith in
-    omega (arith, state-most _ _ _ _ (c .before .before .before .before .before .before .before .before .pre .1) (l .i) low _ (c .before .before .subgoal-in .ensures))
+    let low : l .i < o .args .h .subgoals = omega arith in
+    omega (arith, o .pre .0, record-bounds _ _ _ _ (o .pre .1) (l .i) low _ (c .before .before .subgoal-in .ensures))
 
 write-state-requires : tie.Need-write-state-requires Inv-loop μ-loop
 write-state-requires c κs =
+    let o = c .before .before .before .before .before .before .before .before in
     let l = c .before .before .before .before .before .loop in
-    let low : l .i < c .before .before .before .before .before .before .before .before .args .h .subgoals = omega arith in
-    state-room _ _ _ _ (c .before .before .before .before .before .before .before .before .pre .1) (l .i) low (l .target) (l .inv .2)
+    let low : l .i < o .args .h .subgoals = omega arith in
+    state-room _ _ _ _ (o .pre .1) (l .i) low (l .target) (l .inv .2)
 
 add-i : tie.Need-add-i Inv-loop μ-loop
 add-i c = omega (arith, c .before .before .before .before .before .before .before .before .before .before .before .pre .0)

@@ -1,10 +1,8 @@
 -- `copying::writing::carry_subgoals` meets its contract.
 use Prim.Native.Nat.{_≤_, _-_}
-use mathlib.Core.Path.{_≡_, refl, sym, ap, _∙_, subst}
-use mathlib.Core.List.{List}
+use mathlib.Core.Path.{_≡_, refl}
 use native.Mathlib.Omega.{arith}
 use lib.ListN.{length}
-use Rattle.space.specs.declared.Subgoal.{Subgoal}
 use Rattle.copying.specs.Contracts.{withFirst}
 use Rattle.copying.proofs.GiveCases.{first-none, ready-at, first-next, first-ended}
 use Rattle.space.proofs.HeaderLaws.{bounds-nodes}
