@@ -36,6 +36,20 @@ use Rattle.carrying.proofs.LoadingLaws.{loads-stored}
 use Rattle.carrying.proofs.Needs.{needs}
 use Rattle.carrying.proofs.Quick.{copy-quick}
 
+-- what loads can be held where the count that writes nothing says so
+pub slow-holdable : (e d : ℕ) (r : Recoding) → Recodes r (arityOf e) (arityOf d) → (n f a : ℕ) (v : View) → sourceLoads (codingOf e) v ≡ true
+    → takesTable r (tableRead v) ≡ true → holdable (carried r n f a (tableRead v)) ≡ slowFits n f a v
+unfolding holdable
+slow-holdable e d r R n f a v load takes =
+    rw (
+      nodes-carried r (arityOf e) (arityOf d) R n f a (tableRead v) takes,
+      needs (tableRead v) (loads-stored (codingOf e) v load .owned),
+      carried-subgoals r n f a (tableRead v),
+      carried-answers r n f a (tableRead v),
+      subgoals-length v,
+      answers-length v,
+    )
+
 module _ (e d : ℕ) (r : Recoding) (n f a : ℕ) (source target : List ℕ) where
   abbrev Leaves : FreshAnswer → List ℕ → Type 0
   Leaves = CopiesInto e d r n f a source target
@@ -78,16 +92,7 @@ module _ (e d : ℕ) (r : Recoding) (n f a : ℕ) (source target : List ℕ) whe
 
           module _ (R : Recodes r (arityOf e) (arityOf d)) (nameFits : takesTable r (tableRead (viewOf (sizesOf e) source h)) ≡ true) where
             slow-same : holdable (carried r n f a (tableRead v)) ≡ slowFits n f a v
-            unfolding holdable
-            slow-same =
-                rw (
-                  nodes-carried r (arityOf e) (arityOf d) R n f a (tableRead v) nameFits,
-                  needs (tableRead v) (loads-stored (codingOf e) v load .owned),
-                  carried-subgoals r n f a (tableRead v),
-                  carried-answers r n f a (tableRead v),
-                  subgoals-length v,
-                  answers-length v,
-                )
+            slow-same = slow-holdable e d r R n f a v load nameFits
 
             pub copy-small : slowFits n f a (viewOf (sizesOf e) source h) ≡ false → CopiesInto e d r n f a source target (Refused 19) target
             copy-small q = refused-leaves 19 (sym (loaded-reply ∙ (unfold carrying in rw (nameFits, slow-same, q))))

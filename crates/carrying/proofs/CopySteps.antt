@@ -81,6 +81,18 @@ state-cell zero h = refl
 state-cell (suc zero) h = refl
 state-cell (suc (suc x)) h = absurd (omega arith)
 
+-- the state of subgoal i + 1, as its cell is recorded, after those before it
+pub states-more : (z : Sizes) (o : ℕ) (cs : List ℕ) (r : Recoding) (v : View) (i : ℕ) → v .subgoal (suc i) .state ≤ 1
+    → statesGiven z o cs 1 (firstSubgoals r v (suc i)) ≡ set (statesGiven z o cs 1 (firstSubgoals r v i)) (stateCell z o (suc i)) (v .subgoal (suc i) .state)
+states-more z o cs r v i h =
+    let before : List ℕ = statesGiven z o cs 1 (firstSubgoals r v i) in
+    let p = upTo-length (λ j. carriedSubgoal r (subgoalRead v (suc j))) i in
+    let q : 1 + length (firstSubgoals r v i) ≡ suc i = omega arith in
+    ap (statesGiven z o cs 1) (upTo-suc (λ j. carriedSubgoal r (subgoalRead v (suc j))) i)
+    ∙ states-snoc z o (firstSubgoals r v i) cs 1 (carriedSubgoal r (subgoalRead v (suc i)))
+    ∙ ap (λ (k : ℕ). set before (stateCell z o k) (stateNumber (stateOf (v .subgoal (suc i) .state)))) q
+    ∙ ap (λ (k : ℕ). set before (stateCell z o (suc i)) k) (state-cell (v .subgoal (suc i) .state) h)
+
 module _ (z : Sizes) (r : Recoding) (v : View) (n f a : ℕ) (target : List ℕ) where
   abbrev S : ℕ → List ℕ
   S = afterSubgoals z r v n f a target
@@ -120,13 +132,7 @@ module _ (z : Sizes) (r : Recoding) (v : View) (n f a : ℕ) (target : List ℕ)
   -- the state of subgoal i + 1, as its cell is recorded
   pub states-next : (i : ℕ) → v .subgoal (suc i) .state ≤ 1
       → afterStates z r v n f a target (suc i) ≡ set (T i) (stateCell z (subgoalOffset z n) (suc i)) (v .subgoal (suc i) .state)
-  states-next i h =
-      let p = upTo-length (λ j. carriedSubgoal r (subgoalRead v (suc j))) i in
-      let q : 1 + length (firstSubgoals r v i) ≡ suc i = omega arith in
-      ap (statesGiven z (subgoalOffset z n) (A (v .answers)) 1) (upTo-suc (λ j. carriedSubgoal r (subgoalRead v (suc j))) i)
-      ∙ states-snoc z (subgoalOffset z n) (firstSubgoals r v i) (A (v .answers)) 1 (carriedSubgoal r (subgoalRead v (suc i)))
-      ∙ ap (λ (k : ℕ). set (T i) (stateCell z (subgoalOffset z n) k) (stateNumber (stateOf (v .subgoal (suc i) .state)))) q
-      ∙ ap (λ (k : ℕ). set (T i) (stateCell z (subgoalOffset z n) (suc i)) k) (state-cell (v .subgoal (suc i) .state) h)
+  states-next i h = states-more z (subgoalOffset z n) (A (v .answers)) r v i h
 
   -- ---- at the end
 

@@ -142,11 +142,11 @@ module _ (c : Coding) (v : View) (e : sourceLoads c v ≡ true) where
       let q = and-both (everyBelow (λ i. subgoalLoads c v (suc i)) (v .subgoals)) (everyBelow (λ i. answerLoads c v (suc i)) (v .answers)) (p .0) in
       (q .0, q .1, p .1)
 
-  subgoal-loads : (s : ℕ) → 0 < s → s ≤ v .subgoals → subgoalLoads c v s ≡ true
+  pub subgoal-loads : (s : ℕ) → 0 < s → s ≤ v .subgoals → subgoalLoads c v s ≡ true
   subgoal-loads zero h k = absurd (omega arith)
   subgoal-loads (suc s) h k = every-below (λ i. subgoalLoads c v (suc i)) (v .subgoals) (three .0) s k
 
-  answer-loads : (a : ℕ) → 0 < a → a ≤ v .answers → answerLoads c v a ≡ true
+  pub answer-loads : (a : ℕ) → 0 < a → a ≤ v .answers → answerLoads c v a ≡ true
   answer-loads zero h k = absurd (omega arith)
   answer-loads (suc a) h k = every-below (λ i. answerLoads c v (suc i)) (v .answers) (three .1) a k
 

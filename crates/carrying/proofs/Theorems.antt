@@ -62,7 +62,7 @@ freshened : (x y : FreshAnswer) → whereFresh x y ≡ Done → (x ≡ Done) × 
 freshened Done y e = (refl, e)
 freshened (Refused k) y e = absurd (not-done e)
 
-carrying-done : (r : Recoding) (n f a : ℕ) (t : Table) → carrying r n f a t ≡ Done → (takesTable r t ≡ true) × (holdable (carried r n f a t) ≡ true)
+pub carrying-done : (r : Recoding) (n f a : ℕ) (t : Table) → carrying r n f a t ≡ Done → (takesTable r t ≡ true) × (holdable (carried r n f a t) ≡ true)
 unfolding carrying
 carrying-done r n f a t e =
     let p = picked (takesTable r t) _ 18 e in
@@ -289,8 +289,11 @@ module _ (e d : ℕ) (r : Recoding) (R : Recodes r (arityOf e) (arityOf d)) (ali
   }
 
 -- Q-8
+pub carry-recodes : Recodes widening (arityOf 1) (arityOf 2)
+carry-recodes = widening-recodes 2 (λ z. omega arith)
+
 pub carries : Carries
-carries = copies 1 2 widening (widening-recodes 2 (λ z. omega arith)) refl
+carries = copies 1 2 widening carry-recodes refl
 
 pub carries-between : CarriesBetween
 carries-between e d h k = copies e d (recodingOf e d) (recoding-recodes e d h) k

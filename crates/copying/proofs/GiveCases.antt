@@ -8,7 +8,6 @@ use native.Mathlib.Nat.{le-of-suc-le-suc}
 use lib.ListN.{length, take, drop, length-drop, length-map}
 use lib.Seq.{length-take-le}
 use borrow.Rule.Slice.PartMut.{putMid, same-len-mid}
-use Rattle.plain.specs.Coding.{accepted}
 use Rattle.plain.specs.Requests.{Reply}
 use Rattle.space.specs.Layout.{sizesOf}
 use Rattle.space.specs.Heading.{headerOf, spaceHeader}
@@ -122,7 +121,8 @@ pub first-on : (source : List ℕ) (h : Head) (target now after : List ℕ) (i l
 first-on source h target now after i leaf m l v e a =
     let z : i + 1 ≡ suc i = omega arith in
     let s = upTo-suc (λ j. carriedSubgoal widening (subgoalRead (viewIn source h) (suc j))) i in
-    rw z (rw (l, v, e) at a ∙ sym (ap (subgoalsGiven (sizesOf 2) target) s ∙ subgoals-snoc (sizesOf 2) (firstSubgoals widening (viewIn source h) i) target (carriedSubgoal widening (subgoalRead (viewIn source h) (suc i)))))
+    let g = carriedSubgoal widening (subgoalRead (viewIn source h) (suc i)) in
+    rw z (rw (l, v, e) at a ∙ sym (ap (subgoalsGiven (sizesOf 2) target) s ∙ subgoals-snoc (sizesOf 2) (firstSubgoals widening (viewIn source h) i) target g))
 
 -- the record of the next one, as it was read
 module _ (source : List ℕ) (h : Head) (target now : List ℕ) (i : ℕ) (g : Subgoal) (e : g ≡ subgoalUnder source h (i + 1)) where
@@ -163,7 +163,8 @@ module _ (cs w : List ℕ) (s : ℕ) (two : spaceHeader cs ≡ headerOf (sizesOf
       let own : g .root ≡ viewOf (sizesOf 2) cs h .subgoal s .root = ap (λ (y : Subgoal). y .root) q ∙ ap (λ (k : ℕ). viewOf (sizesOf k) cs h .subgoal s .root) i in
       rw t (d .1 ∙ ap (λ (k : ℕ). change (sizesOf k) cs h (answeredFrom (searchIndexed [] (h .nodes)) s (g .root) w (viewOf (sizesOf k) cs h))) i
       ∙ ap (λ (k : ℕ). change (sizesOf 2) cs h (answeredFrom (searchIndexed [] (h .nodes)) s k w (viewOf (sizesOf 2) cs h))) own
-      ∙ ap (λ (y : Walk). change (sizesOf 2) cs h (answeredAt (viewOf (sizesOf 2) cs h) s w y)) (walk-none (h .nodes) (answerTrie (viewOf (sizesOf 2) cs h)) (viewOf (sizesOf 2) cs h .subgoal s .root) w)
+      ∙ ap (λ (y : Walk). change (sizesOf 2) cs h (answeredAt (viewOf (sizesOf 2) cs h) s w y))
+      (walk-none (h .nodes) (answerTrie (viewOf (sizesOf 2) cs h)) (viewOf (sizesOf 2) cs h .subgoal s .root) w)
       ∙ given-written searchChildren (sizesOf 2) cs h s w (walkTo (viewOf (sizesOf 2) cs h) s w))
 
 -- what an answer asks of the space

@@ -1,2 +1,5 @@
 pub mod TokenCases
 pub mod GiveCases
+pub mod StateCases
+pub mod WriteCases
+pub mod DecideCases

@@ -1,5 +1,5 @@
-// Fresh, the eight calls, those of them that search with an index, the check and the build of an index as C functions
-// over the machine's own cells, each with one result word.
+// Fresh, the copy into edition 2, the eight calls, those of them that search with an index, the check and the build of
+// an index as C functions over the machine's own cells, each with one result word.
 use basis::refusals::OUT;
 use store::CountsAnswer;
 use words::COUNTS;
@@ -19,7 +19,7 @@ ghost use mathlib.Core.List.{[]};
 ghost use Rattle.basis.specs.Moments.{old, new};
 ghost use Rattle.plain.specs.Requests as request;
 ghost use Rattle.words.specs.Words.{ReturnsFresh, Returns, ReturnsIndexed, ReturnsCounts, ReturnsCheck};
-ghost use Rattle.words.specs.Words.{ReturnsBuild};
+ghost use Rattle.words.specs.Words.{ReturnsBuild, ReturnsCarry};
 
 // ---- fresh, and the calls that write
 
@@ -35,6 +35,21 @@ pub extern "C" fn tables_fresh(
     ensures { λ w. ⌜ ReturnsFresh edition nodes subgoals answers (old space) w (new space) ⌝ }
 {
     fresh_word(space::fresh::fresh(space, nodes, subgoals, answers, edition))
+}
+
+// Copies a space of edition 1 into one of edition 2 with these capacities: the same subgoals, answers and states by
+// number. Refused, the target stays as it was.
+#[no_mangle]
+pub extern "C" fn tables_carry(
+    source: &[u32],
+    target: &mut [u32],
+    nodes: u32,
+    subgoals: u32,
+    answers: u32,
+) -> u64
+    ensures { λ w. ⌜ ReturnsCarry nodes subgoals answers (old source) (old target) w (new target) ⌝ }
+{
+    fresh_word(copying::carry(source, target, nodes, subgoals, answers))
 }
 
 // Finds or enters the subgoal that a term calls, given in pair form.

@@ -21,9 +21,12 @@ use Rattle.agreement.specs.Whole.{tableOf, editionOf}
 use Rattle.agreement.specs.Faults.{Fault, nothing, heading, node, subgoal, answer, faultOf}
 use Rattle.agreement.proofs.Faults.{fault-told}
 use Rattle.agreement.proofs.Histories.{histories, whole-histories}
+use Rattle.carrying.specs.Recoding.{widening}
+use Rattle.carrying.specs.Carrying.{carried}
+use Rattle.carrying.proofs.Theorems.{carries}
 use Rattle.words.specs.Words.{word, saidFresh, countsReply, countsOut, wordCheck}
 use Rattle.words.specs.Exports.{Export, callOf, countsInto, requestOf, ExportMade, MeetsExport, Exports, exportsOf, requestsOf, SeenWord, seenExport, seenAs}
-use Rattle.words.specs.Exports.{ExportHistories, WholeExportHistories, ExportsLived, FreshZero, CheckZero}
+use Rattle.words.specs.Exports.{ExportHistories, WholeExportHistories, CarriedExportHistories, ExportsLived, FreshZero, CheckZero, CarryZero}
 
 -- ---- word 0
 
@@ -52,6 +55,9 @@ pub check-zero : CheckZero
 check-zero space w r =
     let k = fault-said (faultOf space) w r in
     (λ z. fault-told space .0 (k .0 z), λ p. k .1 (fault-told space .1 p))
+
+pub carry-zero : CarryZero
+carry-zero n f a source before w after r = fresh-said _ w (r .0)
 
 -- ---- exports one after another
 
@@ -108,6 +114,12 @@ whole-export-histories space xs r h =
     let k = calls-made space xs h in
     sym (k .3) ∙ ap (inWords xs) (whole-histories space (k .0) (check-zero space 0 r .0 refl) (k .1))
     ∙ ap (λ (qs : List Request). inWords xs (tableTrace (codingOf (editionOf space)) (tableOf space) qs)) (k .2)
+
+pub carried-export-histories : CarriedExportHistories
+carried-export-histories n f a source before space xs r h =
+    let k = calls-made _ xs (subst (λ (cs : List ℕ). Exports cs xs) (r .1) h) in
+    sym (k .3) ∙ ap (inWords xs) (carries .histories n f a source before (k .0) (carry-zero n f a source before 0 space r .0 refl) (k .1))
+    ∙ ap (λ (qs : List Request). inWords xs (tableTrace (codingOf 2) (carried widening n f a (tableOf source)) qs)) (k .2)
 
 -- the exports of the library itself
 

@@ -1,6 +1,6 @@
 -- What the contracts of the C exports come to together: exports called one after another, each meeting its contract,
 -- with an index of any cells or without, show what the plain table shows, in result words. And what word 0 of
--- `tables_fresh` and of `tables_check` means.
+-- `tables_fresh`, of `tables_check` and of `tables_carry` means.
 use Prim.Native.Nat.{ℕ}
 use mathlib.Core.Bool.{true}
 use mathlib.Core.List.{List, [], _∷_, map, zipWith}
@@ -13,7 +13,11 @@ use Rattle.space.specs.declared.FreshAnswer.the-variants.{Done}
 use Rattle.store.specs.Calls.{countedCells}
 use Rattle.agreement.specs.History.{Beside, wayOf}
 use Rattle.agreement.specs.Whole.{wholeSpace, tableOf, editionOf}
+use Rattle.carrying.specs.Recoding.{widening}
+use Rattle.carrying.specs.Carrying.{carried}
+use Rattle.carrying.specs.Copying.{carryReply}
 use Rattle.words.specs.Words.{word, countsReply, countsOut, ReturnsBy, ReturnsCounts, ReturnsFresh, ReturnsCheck}
+use Rattle.words.specs.Words.{ReturnsCarry}
 
 -- ---- exports one after another
 
@@ -79,6 +83,16 @@ WholeExportHistories =
     → map seenExport xs
     ≡ zipWith seenAs (exportsOf xs) (tableTrace (codingOf (editionOf space)) (tableOf space) (requestsOf xs))
 
+-- and on every target for which `tables_carry` returned 0: the table is the one that loads from the source, with the
+-- new payloads and capacities
+abbrev pub CarriedExportHistories : Type 0
+CarriedExportHistories =
+    (n f a : ℕ) (source before space : List ℕ) (xs : List ExportMade) → ReturnsCarry n f a source before 0 space
+    → Exports space xs
+    → map seenExport xs
+    ≡ zipWith seenAs (exportsOf xs)
+    (tableTrace (codingOf 2) (carried widening n f a (tableOf source)) (requestsOf xs))
+
 -- every list of exports has one
 abbrev pub ExportsLived : Type 0
 ExportsLived = (before : List ℕ) (xs : List Export) → (ms : List ExportMade) × Exports before ms × (exportsOf ms ≡ xs)
@@ -96,3 +110,9 @@ abbrev pub CheckZero : Type 0
 CheckZero =
     (space : List ℕ) (w : ℕ) → ReturnsCheck space w
     → (w ≡ 0 → wholeSpace space ≡ true) × (wholeSpace space ≡ true → w ≡ 0)
+
+-- the copy answered done
+abbrev pub CarryZero : Type 0
+CarryZero =
+    (n f a : ℕ) (source before : List ℕ) (w : ℕ) (after : List ℕ) → ReturnsCarry n f a source before w after
+    → (w ≡ 0 → carryReply n f a source before ≡ Done) × (carryReply n f a source before ≡ Done → w ≡ 0)

@@ -1,10 +1,10 @@
--- `widened` meets its contract, one case to each side of its test.
+-- `copying::tokens::widened` meets its contract, one case to each side of its test.
 use borrow.Author.Needs.{needs}
 use native.Mathlib.Omega.{arith}
 use mathlib.Core.Path.{sym}
 use Rattle.carrying.proofs.RecodingLaws.{named-small, wider-functor, wider-other}
-use Rattle.copying.proofs.widened.Statement.{statement}
-use Rattle.copying.proofs.widened.Tie as tie
+use Rattle.copying.proofs.tokens.widened.Statement.{statement}
+use Rattle.copying.proofs.tokens.widened.Tie as tie
 
 mul-result : tie.Need-mul-result
 mul-result c = search needs

@@ -1,13 +1,12 @@
--- `recode` meets its contract.
+-- `copying::tokens::recode` meets its contract.
 use Prim.Native.Nat.{_≤_, _-_}
-use mathlib.Core.Path.{_≡_, refl, sym, ap, _∙_}
-use mathlib.Core.Bool.{true}
+use mathlib.Core.Path.{_≡_, refl, ap, _∙_}
 use lib.ListN.{length, length-set}
 use native.Mathlib.Omega.{arith}
 use Rattle.carrying.specs.Recoding.{wider, nameFits}
 use Rattle.copying.proofs.TokenCases.{Turned, turned-begin, turned-at, turned-on, turned-ended, taken-at}
-use Rattle.copying.proofs.recode.Statement.{statement}
-use Rattle.copying.proofs.recode.Tie as tie
+use Rattle.copying.proofs.tokens.recode.Statement.{statement}
+use Rattle.copying.proofs.tokens.recode.Tie as tie
 
 abbrev Inv-loop : tie.InvT-loop
 Inv-loop form₀ n i₀ form i = (n ≡ length form₀) × (i ≤ n) × Turned form₀ i form × (length form ≡ length form₀)
@@ -42,14 +41,16 @@ loop-less : tie.Need-loop-less Inv-loop μ-loop
 loop-less c = omega arith
 
 loop-again : tie.Need-loop-again Inv-loop μ-loop
-loop-again c = (
-  c .before .before .before .loop .inv .0,
-  omega arith,
-  turned-on (c .before .before .before .before .before .args .form .now) (c .before .before .before .loop .form) (c .before .before .before .loop .i) _ (omega arith)
-      (c .widened .ensures ∙ ap wider (turned-at (c .before .before .before .before .before .args .form .now) (c .before .before .before .loop .form) (c .before .before .before .loop .i) (c .before .before .before .loop .inv .2)))
-      (c .before .before .before .loop .inv .2),
-  simp length-set (c .before .before .before .loop .inv .3),
-)
+loop-again c =
+    let l = c .before .before .before .loop in
+    let o = c .before .before .before .before .before in (
+      l .inv .0,
+      omega arith,
+      turned-on (o .args .form .now) (l .form) (l .i) _ (omega arith)
+          (c .widened .ensures ∙ ap wider (turned-at (o .args .form .now) (l .form) (l .i) (l .inv .2)))
+          (l .inv .2),
+      simp length-set (l .inv .3),
+    )
 
 same-length : tie.Need-same-length Inv-loop μ-loop
 same-length c = omega arith

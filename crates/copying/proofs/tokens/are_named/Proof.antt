@@ -1,6 +1,6 @@
--- `are_named` meets its contract.
+-- `copying::tokens::are_named` meets its contract.
 use Prim.Native.Nat.{_≤_, _-_}
-use mathlib.Core.Path.{_≡_, refl, sym, ap, _∙_}
+use mathlib.Core.Path.{_≡_, sym, ap, _∙_}
 use mathlib.Core.Bool.{true}
 use native.Mathlib.Omega.{arith}
 use borrow.Author.Tests.{not-true, not-false}
@@ -11,8 +11,8 @@ use Rattle.agreement.specs.Whole.{everyBelow}
 use Rattle.carrying.specs.Recoding.{nameFits}
 use Rattle.sources.proofs.PassLaws.{pass-begin, pass-on}
 use Rattle.copying.proofs.TokenCases.{tokenNamed, nodes-unnamed, nodes-named}
-use Rattle.copying.proofs.are_named.Statement.{statement}
-use Rattle.copying.proofs.are_named.Tie as tie
+use Rattle.copying.proofs.tokens.are_named.Statement.{statement}
+use Rattle.copying.proofs.tokens.are_named.Tie as tie
 
 abbrev Inv-loop : tie.InvT-loop
 Inv-loop space h i₀ i = (i ≤ h .nodes) × (everyBelow (tokenNamed space h) i ≡ true)
@@ -30,7 +30,10 @@ is-named-requires : tie.Need-is-named-requires Inv-loop μ-loop
 is-named-requires c κs = tt
 
 returns : tie.Need-returns Inv-loop μ-loop
-returns c = nodes-unnamed (c .before .before .before .before .before .before .before .args .space .now) (c .before .before .before .before .before .before .before .args .h) (c .before .before .before .before .before .loop .i) (omega arith)
+returns c =
+    let l = c .before .before .before .before .before .loop in
+    let o = c .before .before .before .before .before .before .before in
+    nodes-unnamed (o .args .space .now) (o .args .h) (l .i) (omega arith)
     (ap (λ (y : Node). nameFits (y .token)) (sym (c .before .before .node-in .ensures)) ∙ told (c .before .is-named .ensures) (not-true _ (c .if2 .taken)))
 
 add-i : tie.Need-add-i Inv-loop μ-loop
@@ -40,14 +43,19 @@ loop-less : tie.Need-loop-less Inv-loop μ-loop
 loop-less c = omega arith
 
 loop-again : tie.Need-loop-again Inv-loop μ-loop
-loop-again c = (
-  omega arith,
-  pass-on (tokenNamed (c .before .before .before .before .before .before .before .args .space .now) (c .before .before .before .before .before .before .before .args .h)) (c .before .before .before .before .before .loop .i) (c .before .before .before .before .before .loop .inv .1)
-      (ap (λ (y : Node). nameFits (y .token)) (sym (c .before .before .node-in .ensures)) ∙ told (c .before .is-named .ensures) (not-false _ (c .if2 .left))),
-)
+loop-again c =
+    let l = c .before .before .before .before .before .loop in
+    let o = c .before .before .before .before .before .before .before in (
+      omega arith,
+      pass-on (tokenNamed (o .args .space .now) (o .args .h)) (l .i) (l .inv .1)
+          (ap (λ (y : Node). nameFits (y .token)) (sym (c .before .before .node-in .ensures)) ∙ told (c .before .is-named .ensures) (not-false _ (c .if2 .left))),
+    )
 
 returns-2 : tie.Need-returns-2 Inv-loop μ-loop
-returns-2 c = nodes-named (c .before .before .before .before .args .space .now) (c .before .before .before .before .args .h) (c .before .before .loop .i) (c .before .before .loop .inv .0) (omega arith) (c .before .before .loop .inv .1)
+returns-2 c =
+    let l = c .before .before .loop in
+    let o = c .before .before .before .before in
+    nodes-named (o .args .space .now) (o .args .h) (l .i) (l .inv .0) (omega arith) (l .inv .1)
 
 pub are-named-spec : {M : Type 1} → statement M
 are-named-spec =
