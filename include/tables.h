@@ -16,7 +16,7 @@ extern "C" {
  * 1.2.3.
  */
 #define TABLES_VERSION_MAJOR 4
-#define TABLES_VERSION_MINOR 1
+#define TABLES_VERSION_MINOR 2
 #define TABLES_VERSION_PATCH 0
 #define TABLES_VERSION \
     (TABLES_VERSION_MAJOR * 10000 + TABLES_VERSION_MINOR * 100 + TABLES_VERSION_PATCH)
@@ -153,7 +153,7 @@ static inline uint32_t tables_functor_cell(uint64_t edition, uint64_t name, uint
  * (14, 15) and names (16), length (4), term (3), variables (5), predicate (6), the
  * other records (9), an answer that a finished subgoal lacks (8), nodes (10),
  * records left (11), slots (17), what a list is of (23), a term of it (24), form
- * (13), out (12).
+ * (13), out (12). tables_carry checks 1, 2, 9, 18, 19.
  */
 enum tables_refusal {
     TABLES_REFUSED_HEADER = 1,     /* the space has no sound header, or is cut short; from a
@@ -181,6 +181,8 @@ enum tables_refusal {
                                             of either are odd in number */
     TABLES_REFUSED_SLOTS = 17,           /* an index is to be built whose cells are no power of
                                             two, or fewer than twice the children to enter */
+    TABLES_REFUSED_NAME = 18,    /* a functor's name is too large for edition 2 */
+    TABLES_REFUSED_CAPACITY = 19, /* a new capacity is too small for what the table holds */
     TABLES_REFUSED_LISTING = 23, /* there is no list of this edition, size and symbols */
     TABLES_REFUSED_LISTED = 24   /* the term given is not in the list */
 };
@@ -223,6 +225,10 @@ static inline const char *tables_refusal_text(uint32_t refusal)
         return "The pairs or copies of the join do not fit its subgoals.";
     case TABLES_REFUSED_SLOTS:
         return "The cells of the index are no power of two, or too few for the table.";
+    case TABLES_REFUSED_NAME:
+        return "The name of a functor is too large for edition 2.";
+    case TABLES_REFUSED_CAPACITY:
+        return "A new capacity is too small for what the table holds.";
     case TABLES_REFUSED_LISTING:
         return "There is no list of terms for this edition, size and symbols.";
     case TABLES_REFUSED_LISTED:
@@ -275,11 +281,11 @@ static inline uint32_t tables_edition(const uint32_t *space, size_t space_cells)
  *
  * Threads: there is no state beside the space. Calls on different spaces may
  * run at once. Calls that only read (the space is const: tables_next,
- * tables_load, tables_instance, tables_counts, tables_check, tables_build) may run at
- * once on one space.
+ * tables_load, tables_instance, tables_counts, tables_check, tables_build, and
+ * tables_carry on its source) may run at once on one space.
  * While a call that writes (tables_fresh, tables_call, tables_answer,
- * tables_finish, tables_join, and those with an index) runs, no other call on the
- * same space may run: the caller serialises them. The lists and the converters
+ * tables_finish, tables_join, those with an index, and tables_carry on its target)
+ * runs, no other call on the same space may run: the caller serialises them. The lists and the converters
  * have no space: any number of them may run at once, beside any other call.
  *
  * The use of the stack is bounded, whatever is lent: see below.
@@ -306,20 +312,21 @@ static inline uint32_t tables_edition(const uint32_t *space, size_t space_cells)
  */
 enum tables_stack {
     TABLES_STACK_FRESH = 4096,     /* 3,240 */
-    TABLES_STACK_CALL = 92160,     /* 69,016; the same bound with an index */
-    TABLES_STACK_ANSWER = 92160,   /* 68,952; so too */
+    TABLES_STACK_CALL = 92160,     /* 56,512; the same bound with an index */
+    TABLES_STACK_ANSWER = 92160,   /* 56,608; so too */
     TABLES_STACK_FINISH = 4096,    /* 16 */
     TABLES_STACK_NEXT = 4096,      /* 48 */
-    TABLES_STACK_LOAD = 58368,     /* 46,800 */
-    TABLES_STACK_INSTANCE = 62464, /* 50,304 */
+    TABLES_STACK_LOAD = 58368,     /* 46,880 */
+    TABLES_STACK_INSTANCE = 62464, /* 50,432 */
     TABLES_STACK_COUNTS = 4096,    /* 16 */
-    TABLES_STACK_JOIN = 72704,     /* 57,632; so too */
+    TABLES_STACK_JOIN = 72704,     /* 57,808; so too */
     TABLES_STACK_BUILD = 4096,     /* 3,288 */
-    TABLES_STACK_CHECK = 58368,    /* 46,960 */
+    TABLES_STACK_CHECK = 58368,    /* 47,088 */
+    TABLES_STACK_CARRY = 72704,    /* 49,216 */
     TABLES_STACK_FIRST_TERM = 4096, /* 3,400 */
     TABLES_STACK_TERM_AFTER = 4096, /* 3,368 */
-    TABLES_STACK_COMPACT = 92160,  /* 69,544 */
-    TABLES_STACK_EXPAND = 57344    /* 45,744 */
+    TABLES_STACK_COMPACT = 92160,  /* 57,120 */
+    TABLES_STACK_EXPAND = 57344    /* 45,824 */
 };
 
 /*
@@ -661,6 +668,37 @@ uint64_t tables_join_indexed(uint32_t *space, size_t space_cells, const uint32_t
  */
 TABLES_MUST_CHECK
 uint64_t tables_check(const uint32_t *space, size_t space_cells);
+
+/*
+ * Carries a running table over: copies a space of edition 1 into the target, which
+ * becomes one of edition 2 with these capacities, whatever it held; cells past its end
+ * stay. The source is only read. TABLES_DONE.
+ *
+ * What a reader keeps: subgoal numbers, answer numbers, states, and the order of
+ * answers. What an engine changes: its functor cells, which it makes for edition 2 from
+ * then on; a functor keeps its name and its arity. Afterwards every call on the target
+ * answers as a table of edition 2 does that holds the same subgoals and answers.
+ *
+ * Refused, the first that applies, with every cell of the target as it was: by 1 if the
+ * source has no sound header, or is of another edition than 1; by 2 as tables_fresh is,
+ * for the capacities and the target; by 9 if a subgoal or an answer of the source does
+ * not load, or two are alike (two subgoals of one form, or two answers of one subgoal);
+ * by 18 if the name of a functor in a subgoal or an answer is 1,048,576 or more; by 19 if
+ * a capacity is too small for what is copied.
+ *
+ * What is asked of the source is that its subgoals and answers load: their records and
+ * the paths of their leaves. Chains of answers are not followed, since the numbers give
+ * the order; so a source that tables_check refuses may be carried over all the same, and
+ * the target is a table that answers as it should. For a source made by calls, or one
+ * that tables_check finds whole, the time is about that of the check and of entering the
+ * terms again. For any other each subgoal is compared with those before it, and each
+ * answer with the subgoal's answers before it: the time grows with their square.
+ *
+ * Source and target must not overlap.
+ */
+TABLES_MUST_CHECK
+uint64_t tables_carry(const uint32_t *source, size_t source_cells, uint32_t *target,
+                      size_t target_cells, uint32_t nodes, uint32_t subgoals, uint32_t answers);
 
 /*
  * Lists of small terms

@@ -4,8 +4,8 @@
 #include <stdio.h>
 #include <string.h>
 
-#if TABLES_VERSION < 40100
-#error "the version is 4.1.0 or later"
+#if TABLES_VERSION < 40200
+#error "the version is 4.2.0 or later"
 #endif
 
 enum { MOST_REFUSAL = 24 };
@@ -28,9 +28,9 @@ static const uint32_t constant[] = {
 
 static void test_constants(void)
 {
-    check(TABLES_VERSION_MAJOR == 4 && TABLES_VERSION_MINOR == 1 && TABLES_VERSION_PATCH == 0 &&
-              TABLES_VERSION == 40100,
-          "the version is 4.1.0");
+    check(TABLES_VERSION_MAJOR == 4 && TABLES_VERSION_MINOR == 2 && TABLES_VERSION_PATCH == 0 &&
+              TABLES_VERSION == 40200,
+          "the version is 4.2.0");
     check(PAIR == 0x50000000, "a pair");
     check(constant[0] == 0x40000128 && constant[1] == 0x20000007, "constants in range");
     check(constant[2] == 0x20000000, "the empty list");
@@ -142,6 +142,13 @@ static void test_list_numbers(void)
     check(TABLES_STACK_FIRST_TERM > 0 && TABLES_STACK_TERM_AFTER > 0, "bounds for the lists");
 }
 
+/* Carrying over brought two refusals and a bound. */
+static void test_carry_numbers(void)
+{
+    check(TABLES_REFUSED_NAME == 18 && TABLES_REFUSED_CAPACITY == 19, "the numbers of the refusals");
+    check(TABLES_STACK_CARRY > 0, "a bound for carrying over");
+}
+
 static void test_words(void)
 {
     check(tables_value(word(TABLES_CELLS, 5)) == 5, "a value");
@@ -168,7 +175,7 @@ static void test_words(void)
 /* Is there a refusal of this number? */
 static int is_refusal(uint32_t number)
 {
-    return (number >= 1 && number <= TABLES_REFUSED_SLOTS) ||
+    return (number >= 1 && number <= TABLES_REFUSED_CAPACITY) ||
            (number >= TABLES_REFUSED_LISTING && number <= TABLES_REFUSED_LISTED);
 }
 
@@ -271,6 +278,29 @@ static void test_list(void)
           "a term not in the list");
 }
 
+/* p(X) with an answer of edition 1, carried over into edition 2; too small a target, and a name that is too large. */
+static void test_carry(void)
+{
+    enum { CELLS = TABLES_SPACE_CELLS(9, 2, 2) };
+    static uint32_t narrow[CELLS], wide[CELLS];
+    uint32_t goal[] = {tables_functor_cell(TABLES_EDITION_1, 5, 1), tables_cell(TABLES_VARIABLE, 3)};
+    const uint32_t large[] = {tables_functor_cell(TABLES_EDITION_1, 1048576, 1), tables_cell(TABLES_ATOM, 1)};
+    const uint32_t a = tables_cell(TABLES_ATOM, 7);
+    uint32_t out[2];
+    check(tables_fresh(narrow, CELLS, 9, 2, 2, TABLES_EDITION_1) == 0, "a table of edition 1");
+    check(tables_call(narrow, CELLS, goal, 2) == word(TABLES_NEW, 1), "its subgoal");
+    check(tables_answer(narrow, CELLS, 1, &a, 1) == word(TABLES_NEW, 1), "its answer");
+    check(tables_refused_by(tables_carry(narrow, CELLS, wide, CELLS, 4, 2, 2)) == TABLES_REFUSED_CAPACITY, "too few nodes");
+    check(tables_refused_by(tables_carry(narrow, CELLS, wide, CELLS, 0, 2, 2)) == TABLES_REFUSED_FRESH, "no node");
+    check(tables_carry(narrow, CELLS, wide, CELLS, 5, 2, 2) == word(TABLES_DONE, 0), "carried over");
+    check(tables_refused_by(tables_carry(wide, CELLS, narrow, CELLS, 5, 2, 2)) == TABLES_REFUSED_HEADER, "not edition 1");
+    goal[0] = tables_functor_cell(TABLES_EDITION_2, 5, 1);
+    check(tables_call(wide, CELLS, goal, 2) == word(TABLES_OLD_OPEN, 1), "the subgoal keeps its number");
+    check(tables_load(wide, CELLS, 1, out, 2) == word(TABLES_CELLS, 1) && out[0] == a, "the answer keeps its number");
+    check(tables_call(narrow, CELLS, large, 2) == word(TABLES_NEW, 2), "a name of edition 1 alone");
+    check(tables_refused_by(tables_carry(narrow, CELLS, wide, CELLS, 9, 2, 2)) == TABLES_REFUSED_NAME, "it is too large");
+}
+
 int main(void)
 {
     test_constants();
@@ -280,11 +310,13 @@ int main(void)
     test_ends();
     test_index_numbers();
     test_list_numbers();
+    test_carry_numbers();
     test_words();
     test_texts();
     test_space();
     test_index();
     test_list();
+    test_carry();
     printf("header_test: %d checks, %d failed\n", checks, failures);
     return failures != 0;
 }

@@ -29,13 +29,14 @@ ARGUMENTS = {
     "check": SPACE,
     "first_term": SPACE + [SIZE] + SPACE + [CELL],
     "term_after": SPACE + [SIZE] + SPACE + SPACE + [CELL],
+    "carry": SPACE + SPACE + [CELL] * 3,
     "compact": BYTES + BYTES + [CELL],
     "expand": BYTES + BYTES + [CELL],
 }
 
 
 def exports(path):
-    """The eighteen exports by their names."""
+    """The nineteen exports by their names."""
     library = ctypes.CDLL(path)
     found = {}
     for name, arguments in ARGUMENTS.items():
@@ -165,6 +166,26 @@ def try_list(call):
     expect("12", divmod(call["first_term"](*symbols, 3, *cells([]), EDITION_2), 2**32), (REFUSED + 12, 3))
 
 
+def try_carry(call):
+    """p(X) with an answer, from edition 1 into edition 2; then no node, and too few."""
+    narrow, wide, out = cells([0] * 42), cells([7] * 43), cells([0] * 2)
+
+    def carried(*capacities):
+        return divmod(call["carry"](*narrow, *wide, *capacities), 2**32)
+
+    expect("fresh", call["fresh"](*narrow, 5, 1, 1, 1), 0)
+    expect("call", divmod(call["call"](*narrow, *cells([0x40000031, X])), 2**32), (NEW, 1))
+    expect("answer", divmod(call["answer"](*narrow, 1, *cells([A])), 2**32), (NEW, 1))
+    expect("no node", carried(0, 1, 1), (REFUSED + 2, 0))
+    expect("too few nodes", carried(4, 1, 1), (REFUSED + 19, 0))
+    expect("a refused copy", list(wide[0]), [7] * 43)
+    expect("carried", carried(5, 1, 1), (0, 0))
+    expect("beyond it", wide[0][42], 7)
+    expect("old", divmod(call["call"](*wide, *cells([0x40000301, Y])), 2**32), (OLD_OPEN, 1))
+    expect("load", divmod(call["load"](*wide, 1, *out), 2**32), (CELLS, 1))
+    expect("loaded", out[0][0], A)
+
+
 def try_converters(call):
     """[A, B] to its compact form and back."""
     term, form, out = [PAIR, A, PAIR, B, EMPTY], [BLIST, A, ELIST, B], data([0] * 8)
@@ -182,6 +203,7 @@ def main():
     try_join(call)
     try_index(call)
     try_list(call)
+    try_carry(call)
     try_converters(call)
     print("shared_test: as expected")
 

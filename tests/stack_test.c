@@ -52,6 +52,7 @@ enum export {
     ANSWER_INDEXED,
     JOIN_INDEXED,
     CHECK,
+    CARRY,
     FIRST_TERM,
     TERM_AFTER,
     COMPACT,
@@ -70,7 +71,8 @@ static const struct {
     {"tables_join", TABLES_STACK_JOIN},         {"tables_build", TABLES_STACK_BUILD},
     {"tables_call_indexed", TABLES_STACK_CALL}, {"tables_answer_indexed", TABLES_STACK_ANSWER},
     {"tables_join_indexed", TABLES_STACK_JOIN}, {"tables_check", TABLES_STACK_CHECK},
-    {"tables_first_term", TABLES_STACK_FIRST_TERM}, {"tables_term_after", TABLES_STACK_TERM_AFTER},
+    {"tables_carry", TABLES_STACK_CARRY},       {"tables_first_term", TABLES_STACK_FIRST_TERM},
+    {"tables_term_after", TABLES_STACK_TERM_AFTER},
     {"tables_compact", TABLES_STACK_COMPACT},   {"tables_expand", TABLES_STACK_EXPAND},
 };
 
@@ -80,6 +82,7 @@ static size_t cell_count;
 static uint32_t space[8 + 5 * 2000 + 6 * 4 + 3 * 4];
 static size_t space_cells = sizeof space / sizeof space[0];
 static uint32_t nodes = 2000;
+static uint32_t target[sizeof space / sizeof space[0]];
 static const uint32_t pairs[2] = {0, 0}, copies[2] = {0, 0};
 static size_t pair_cells;
 static uint32_t slots[4096];
@@ -151,6 +154,9 @@ static void make(enum export export)
         break;
     case CHECK:
         word = tables_check(space, space_cells);
+        break;
+    case CARRY:
+        word = tables_carry(space, space_cells, target, space_cells, nodes, 4, 4);
         break;
     case FIRST_TERM:
     case TERM_AFTER:
@@ -551,14 +557,18 @@ static void measure_check(void)
     }
 }
 
-/* Any path as that of a subgoal, and of an answer. */
+/* Any path as that of a subgoal, and of an answer; such a space carried over, and one that the check refuses. */
 static void measure_checks(void)
 {
     any_subgoal();
     measure_check();
+    measure(CARRY, input_name);
     begin_join(2000);
     source_answer(1, cells, cell_count);
     measure_check();
+    measure(CARRY, input_name);
+    node(0)[4] = 1; /* a link at the root of the subgoals: no call minds, and the slow way is taken */
+    measure(CARRY, input_name);
 }
 
 static void measure_form(void)
