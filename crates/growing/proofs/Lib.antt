@@ -1,0 +1,4 @@
+pub mod MovingLaws
+pub mod GrowingCases
+pub mod Regions
+pub mod Rearranging

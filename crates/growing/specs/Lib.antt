@@ -1,0 +1,4 @@
+pub mod Moving
+pub mod Growing
+pub mod Contracts
+pub mod Examples
