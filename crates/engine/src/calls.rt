@@ -19,7 +19,7 @@ ghost use mathlib.Core.List.{[]};
 ghost use Rattle.basis.specs.Moments.{old, new};
 ghost use Rattle.plain.specs.Requests as request;
 ghost use Rattle.words.specs.Words.{ReturnsFresh, Returns, ReturnsIndexed, ReturnsCounts, ReturnsCheck};
-ghost use Rattle.words.specs.Words.{ReturnsBuild};
+ghost use Rattle.words.specs.Words.{ReturnsBuild, ReturnsGrow};
 
 // ---- fresh, and the calls that write
 
@@ -35,6 +35,14 @@ pub extern "C" fn tables_fresh(
     ensures { λ w. ⌜ ReturnsFresh edition nodes subgoals answers (old space) w (new space) ⌝ }
 {
     fresh_word(space::fresh::fresh(space, nodes, subgoals, answers, edition))
+}
+
+// Gives a table these capacities in its place; refused, it stays as it was.
+#[no_mangle]
+pub extern "C" fn tables_grow(space: &mut [u32], nodes: u32, subgoals: u32, answers: u32) -> u64
+    ensures { λ w. ⌜ ReturnsGrow nodes subgoals answers (old space) w (new space) ⌝ }
+{
+    fresh_word(growing::grow(space, nodes, subgoals, answers))
 }
 
 // Finds or enters the subgoal that a term calls, given in pair form.
