@@ -95,15 +95,15 @@ fn move_up(space: &mut [u32], from: usize, to: usize, count: usize)
     ones_up(space, from, to, left);
 }
 
-fn move_block(space: &mut [u32], b: Block)
-    requires { ⌜ BlockIn b (now space) ⌝ }
-    ensures { λ r. ⌜ new space ≡ movedBlock b (old space) ⌝ }
+fn move_block(space: &mut [u32], block: Block)
+    requires { ⌜ BlockIn block (now space) ⌝ }
+    ensures { λ r. ⌜ new space ≡ movedBlock block (old space) ⌝ }
 {
-    if b.from < b.to {
-        move_up(space, b.from, b.to, b.count);
+    if block.from < block.to {
+        move_up(space, block.from, block.to, block.count);
     } else {
-        if b.to < b.from {
-            move_down(space, b.from, b.to, b.count);
+        if block.to < block.from {
+            move_down(space, block.from, block.to, block.count);
         }
     }
 }
