@@ -37,7 +37,7 @@ pub const NAMES: u32 = 16;
 pub const SLOTS: u32 = 17;
 // A copy: the name of a functor that edition 2 has no room for.
 pub const FUNCTOR: u32 = 18;
-// A copy: a capacity of the target is too small for what it stores.
+// A new capacity is too small for what is stored.
 pub const CAPACITY: u32 = 19;
 // A listing whose edition, size or symbols are not as they may be given.
 pub const LISTING: u32 = 23;

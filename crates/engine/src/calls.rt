@@ -19,7 +19,7 @@ ghost use mathlib.Core.List.{[]};
 ghost use Rattle.basis.specs.Moments.{old, new};
 ghost use Rattle.plain.specs.Requests as request;
 ghost use Rattle.words.specs.Words.{ReturnsFresh, Returns, ReturnsIndexed, ReturnsCounts, ReturnsCheck};
-ghost use Rattle.words.specs.Words.{ReturnsBuild, ReturnsCarry};
+ghost use Rattle.words.specs.Words.{ReturnsBuild, ReturnsCarry, ReturnsGrow};
 
 // ---- fresh, and the calls that write
 
@@ -50,6 +50,14 @@ pub extern "C" fn tables_carry(
     ensures { λ w. ⌜ ReturnsCarry nodes subgoals answers (old source) (old target) w (new target) ⌝ }
 {
     fresh_word(copying::carry(source, target, nodes, subgoals, answers))
+}
+
+// Gives a table these capacities in its place; refused, it stays as it was.
+#[no_mangle]
+pub extern "C" fn tables_grow(space: &mut [u32], nodes: u32, subgoals: u32, answers: u32) -> u64
+    ensures { λ w. ⌜ ReturnsGrow nodes subgoals answers (old space) w (new space) ⌝ }
+{
+    fresh_word(growing::grow(space, nodes, subgoals, answers))
 }
 
 // Finds or enters the subgoal that a term calls, given in pair form.

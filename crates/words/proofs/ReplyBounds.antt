@@ -41,6 +41,7 @@ use Rattle.trie.specs.Paths as path
 use Rattle.store.specs.Views.{View, viewOf, subgoalTrie, answerTrie}
 use Rattle.store.specs.Decisions.{Decision, says, gives, entersSubgoal, entersAnswer, entersEmpty, finishes, entersAnswers, refuses, soundSubgoal, soundAnswer, soundAnswerOf, sound, known, stateOf, soundLast, whileOpen, calledOld, calledNew, calledAt, calledBy, answeredNew, answeredOld, answeredAt, answeredBy, starting, handed, onward, onPath, loaded, instanced, soundPair, Chain, broken, unbroken, chainOf, onChains, sideIn, allSoundBy, nodesNeededBy, answersNeededBy, joiningBy, Way, astray, leads, firstsFrom, namedBy, newAt, reasonedAt, reasonedBy, Goals, unsound, goals, goalsIn, detoursIn, soundTarget, decideBy}
 use Rattle.store.specs.Calls.{reply, underBy, underAnyBy, spaceStepBy}
+use Rattle.growing.specs.Growing.{enough, growUnder, growReply}
 use Rattle.words.specs.Words.{saidFresh}
 use Rattle.words.specs.Bounded.{Bounded}
 use Rattle.plain.proofs.Naming.{naming-cases}
@@ -370,3 +371,14 @@ unfolding freshAnswerIn freshAnswer
 fresh-bounded e n f a s = by-cases (knownEdition e)
     (λ k. by-cases (freshFits (sizesOf e) n f a s) (λ q. rw (k, q) tt) (λ q. rw (k, q) (omega arith)))
     (λ k. rw k (omega arith))
+
+grow-small : (n f a : ℕ) (s : List ℕ) (x : Header) → SmallHeader x → Bounded (saidFresh (growUnder n f a s x))
+unfolding growUnder
+grow-small n f a s (header.Sound h) k = by-cases (freshFits (sizesOf (h .edition)) n f a s)
+    (λ q. by-cases (enough n f a h) (λ e. rw (q, e) tt) (λ e. rw (q, e) (omega arith)))
+    (λ q. rw q (omega arith))
+grow-small n f a s (header.Refused r) k = k
+
+pub grow-bounded : (n f a : ℕ) (s : List ℕ) → Bounded (saidFresh (growReply n f a s))
+unfolding growReply
+grow-bounded n f a s = grow-small n f a s (spaceHeader s) (any-small s)

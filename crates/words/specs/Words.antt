@@ -18,6 +18,7 @@ use Rattle.store.specs.Building.{BuildReply, buildIndex}
 use Rattle.store.specs.Building as build
 use Rattle.agreement.specs.Faults.{Fault, nothing, heading, node, subgoal, answer, faultOf}
 use Rattle.carrying.specs.Copying.{carryReply, carrySpace}
+use Rattle.growing.specs.Growing.{growReply, growSpace}
 
 -- what was answered in the upper half, its value in the lower
 abbrev pub worded : ℕ → ℕ → ℕ
@@ -59,6 +60,12 @@ abbrev pub ReturnsCarry : (nodes subgoals answers : ℕ) → List ℕ → List �
 ReturnsCarry nodes subgoals answers source before w after =
     (w ≡ word (saidFresh (carryReply nodes subgoals answers source before)))
     × (after ≡ carrySpace nodes subgoals answers source before)
+
+-- `tables_grow` returns w and leaves these cells.
+abbrev pub ReturnsGrow : (nodes subgoals answers : ℕ) → List ℕ → ℕ → List ℕ → Type 0
+ReturnsGrow nodes subgoals answers before w after =
+    (w ≡ word (saidFresh (growReply nodes subgoals answers before)))
+    × (after ≡ growSpace nodes subgoals answers before)
 
 -- An export returns w: the word of what the call answers. The contract of every exported call but `tables_counts`.
 abbrev pub ReturnsBy : Finding → List ℕ → Request → ℕ → List ℕ → List ℕ → Type 0

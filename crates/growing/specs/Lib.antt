@@ -1,0 +1,5 @@
+pub mod Moving
+pub mod Growing
+pub mod Contracts
+pub mod Promises
+pub mod Examples
