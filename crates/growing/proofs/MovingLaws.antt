@@ -1,11 +1,11 @@
 -- What stands where after cells were moved, and moves one after another.
-use Prim.Native.Nat.{ℕ, _+_, _-_, _≤_, _<_}
+use Prim.Native.Nat.{ℕ, suc, _+_, _-_, _≤_, _<_}
 use mathlib.Core.Path.{_≡_, refl, sym, ap, _∙_}
-use mathlib.Core.List.{List, _++_}
+use mathlib.Core.List.{List, [], _∷_, _++_}
 use native.Mathlib.Omega.{arith}
 use lib.Dec.{eqb, ltb}
 use lib.ListN.{length, getD, take, drop, set, replicate, length-append, length-drop, length-replicate, length-set, getD-replicate, List·getD-append}
-use lib.Seq.{length-take-le, getD-append-add, getD-take, getD-drop, getD-set-same, getD-set-other, ext-getD}
+use lib.Seq.{paste, paste-suc, take-suc, take-suc-set, take-all, length-take-le, getD-append-add, getD-take, getD-drop, getD-set-same, getD-set-other, ext-getD}
 use borrow.Author.Tests.{ltb-true, ltb-false, lt-ltb, le-ltb, eqb-true, eqb-false}
 use Rattle.basis.proofs.Cases.{by-cases}
 use Rattle.space.specs.Fresh.{cleared}
@@ -336,3 +336,43 @@ module _ (low high : ℕ) (s : List ℕ) (l : low ≤ high) (h : high ≤ length
       append-right (take low s ++ replicate (high - low) 0) (drop high s) j (omega (arith, front))
       ∙ getD-drop high s (j - length (take low s ++ replicate (high - low) 0)) 0
       ∙ at-place s (let e : high + (j - length (take low s ++ replicate (high - low) 0)) ≡ j = omega (arith, front) in e)
+
+-- ---- runs
+
+-- one cell more is loaded
+pub loaded-more : (from i : ℕ) (s run : List ℕ) → i < length run → from + i < length s → take i run ≡ take i (drop from s)
+    → take (i + 1) (set run i (getD s (from + i) 0)) ≡ take (i + 1) (drop from s)
+loaded-more from i s run h l e =
+    let n : i + 1 ≡ suc i = omega arith in
+    let at : i < length (drop from s) = omega (arith, length-drop from s) in
+    ap (λ (k : ℕ). take k (set run i (getD s (from + i) 0))) n
+    ∙ take-suc-set run i (getD s (from + i) 0) h
+    ∙ ap (λ (x : List ℕ). x ++ (getD s (from + i) 0 ∷ [])) e
+    ∙ ap (λ (x : ℕ). take i (drop from s) ++ (x ∷ [])) (sym (getD-drop from s i 0))
+    ∙ sym (take-suc (drop from s) i 0 at)
+    ∙ ap (λ (k : ℕ). take k (drop from s)) (sym n)
+
+pub loaded-full : (from i count : ℕ) (s run : List ℕ) → length run ≡ count → count ≤ i → i ≤ count → take i run ≡ take i (drop from s) → run ≡ take count (drop from s)
+loaded-full from i count s run h l m e =
+    let z : i ≡ count = omega arith in
+    sym (take-all i run (omega arith)) ∙ e ∙ ap (λ (k : ℕ). take k (drop from s)) z
+
+-- one cell more is stored
+pub stored-more : (to i : ℕ) (s run x : List ℕ) → to + i < length s → i < length run → x ≡ paste s to run i → set x (to + i) (getD run i 0) ≡ paste s to run (i + 1)
+stored-more to i s run x h l e =
+    let n : suc i ≡ i + 1 = omega arith in
+    ap (λ (y : List ℕ). set y (to + i) (getD run i 0)) e ∙ paste-suc s to run i 0 h l ∙ ap (λ (k : ℕ). paste s to run k) n
+
+pub stored-full : (to i count : ℕ) (s run x : List ℕ) → x ≡ paste s to run i → count ≤ i → i ≤ count → x ≡ paste s to run count
+stored-full to i count s run x e l m = let z : i ≡ count = omega arith in e ∙ ap (λ (k : ℕ). paste s to run k) z
+
+pub run-length : (from count : ℕ) (s run : List ℕ) → from + count ≤ length s → run ≡ take count (drop from s) → length run ≡ count
+run-length from count s run h e = ap length e ∙ length-take-le count (drop from s) (omega (arith, length-drop from s))
+
+-- loaded and stored
+pub moved-run : (from to count : ℕ) (s run x : List ℕ) → from + count ≤ length s → run ≡ take count (drop from s) → x ≡ paste s to run count → x ≡ moved from to count s
+unfolding moved
+moved-run from to count s run x h e g =
+    let l : length (take count (drop from s)) ≤ count = omega (arith, length-take-le count (drop from s) (omega (arith, length-drop from s))) in
+    g ∙ ap (λ (y : List ℕ). take to s ++ take count y ++ drop (to + count) s) e
+    ∙ ap (λ (y : List ℕ). take to s ++ y ++ drop (to + count) s) (take-all count (take count (drop from s)) l)

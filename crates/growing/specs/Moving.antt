@@ -7,6 +7,10 @@ use lib.ListN.{length, take, drop}
 use Rattle.basis.specs.Choice.{pick}
 use Rattle.growing.specs.declared.Block.{Block}
 
+-- the cells of a run
+abbrev pub runCells : ℕ
+runCells = 256
+
 -- the cells from `from` on, so many, stand from `to` on; all others stay
 unfoldable pub moved : (from to count : ℕ) → List ℕ → List ℕ
 moved from to count s = take to s ++ take count (drop from s) ++ drop (to + count) s
