@@ -208,13 +208,13 @@ module _ (n f a : ℕ) (h : Head) (cs : List ℕ) (R : Room n f a h cs) where
   rest = drop (endOffset (sizesOf (h .edition)) n f a) cs
 
   abbrev third : List ℕ
-  third = block n f a (w .answer) (h .answers) a answers-from ++ rest
+  third = block (w .answer) (h .answers) a answers-from ++ rest
 
   abbrev second : List ℕ
-  second = block n f a (w .subgoal) (h .subgoals) f subgoals-from ++ third
+  second = block (w .subgoal) (h .subgoals) f subgoals-from ++ third
 
   abbrev first : List ℕ
-  first = block n f a (w .node) (h .nodes) n nodes-from ++ second
+  first = block (w .node) (h .nodes) n nodes-from ++ second
 
   n-fits : w .node * h .nodes ≤ w .node * n
   n-fits = omega (arith, R .nodes-used)
@@ -253,11 +253,11 @@ module _ (n f a : ℕ) (h : Head) (cs : List ℕ) (R : Room n f a h cs) where
       length-append (grownHeader n f a w h) first
       ∙ omega (
         arith,
-        length-append (block n f a (w .node) (h .nodes) n nodes-from) second,
+        length-append (block (w .node) (h .nodes) n nodes-from) second,
         block-size (w .node) (h .nodes) n nodes-from second n-fits n-held,
-        length-append (block n f a (w .subgoal) (h .subgoals) f subgoals-from) third,
+        length-append (block (w .subgoal) (h .subgoals) f subgoals-from) third,
         block-size (w .subgoal) (h .subgoals) f subgoals-from third (R .new-subgoals) s-held,
-        length-append (block n f a (w .answer) (h .answers) a answers-from) rest,
+        length-append (block (w .answer) (h .answers) a answers-from) rest,
         block-size (w .answer) (h .answers) a answers-from rest (R .new-answers) a-held,
         length-drop end cs,
         R .new-end,

@@ -17,6 +17,10 @@ use Rattle.space.specs.declared.Header.{Header}
 use Rattle.space.specs.declared.Header.the-variants as header
 use Rattle.carrying.specs.Copying.{whereDone}
 
+-- room for so many records of `width` cells: the used ones, which begin these cells, and zeros for the free ones
+abbrev pub block : (width used room : ℕ) → List ℕ → List ℕ
+block width used room cells = take (width * used) cells ++ replicate (width * room - width * used) 0
+
 module _ (n f a : ℕ) where
   -- none of the capacities is below what is used
   unfoldable pub enough : Head → Bool
@@ -26,10 +30,6 @@ module _ (n f a : ℕ) where
   grownHeader z h =
       h .edition ∷ h .nodes ∷ h .subgoals ∷ h .answers
       ∷ headerCells ∷ subgoalOffset z n ∷ answerOffset z n f ∷ endOffset z n f a ∷ []
-
-  -- the used cells of a block of so many records, then zeros for the free ones
-  abbrev pub block : (width used room : ℕ) → List ℕ → List ℕ
-  block width used room cs = take (width * used) cs ++ replicate (width * room - width * used) 0
 
   unfoldable pub grownCells : Sizes → Head → List ℕ → List ℕ
   grownCells z h cs =

@@ -5,6 +5,7 @@ use mathlib.Core.Path.{_≡_}
 use mathlib.Core.Bool.{true}
 use mathlib.Core.List.{List, [], _∷_, map}
 use lib.ListN.{length, getD}
+use Rattle.basis.specs.Choice.{pick}
 use Rattle.plain.specs.Coding.{Coding, codingOf}
 use Rattle.plain.specs.Requests.{Request, Reply, Result, Seen, trace, left}
 use Rattle.plain.specs.Consequences.{RefusedBy}
@@ -20,6 +21,8 @@ use Rattle.store.specs.Calls.{spaceStep, countedCells}
 use Rattle.agreement.specs.Records.{Alike, freshView}
 use Rattle.agreement.specs.Whole.{wholeSpace, tableOf, editionOf}
 use Rattle.agreement.specs.History.{Made, History, asked, seenOf}
+use Rattle.carrying.specs.Carrying.{holdable}
+use Rattle.carrying.specs.Copying.{whereFresh}
 use Rattle.carrying.specs.Promises.{Says}
 use Rattle.growing.specs.Growing.{growReply, growSpace}
 
@@ -81,6 +84,13 @@ GrowRefused = (n f a k : ℕ) (cs : List ℕ) → growReply n f a cs ≡ Refused
 
 -- ---- a space that passes the check
 
+-- it is refused by 2 and 19 alone, as the plain rule says
+abbrev pub GrowAnswers : Type 0
+GrowAnswers = (n f a : ℕ) (cs : List ℕ) → wholeSpace cs ≡ true
+    → growReply n f a cs
+    ≡ whereFresh (freshAnswerIn (editionOf cs) n f a cs)
+    (pick (holdable (resized n f a (tableOf cs))) Done (Refused 19))
+
 -- it passes afterwards, and says its table with the new capacities
 abbrev pub GrowPasses : Type 0
 GrowPasses = (n f a : ℕ) (cs : List ℕ) → wholeSpace cs ≡ true → Grown n f a cs
@@ -111,6 +121,7 @@ pub record GrowPromises : Type 0 where
   pub free : GrownFree
   pub frame : GrownFrame
   pub refuses : GrowRefused
+  pub answers : GrowAnswers
   pub passes : GrowPasses
   pub goes-on : GrowGoesOn
   pub histories : GrowHistories
