@@ -1,4 +1,4 @@
-/* Times tables_carry against the same in plain C, and against entering the terms, in one run. */
+/* Times tables_carry and tables_grow against the same in plain C, and a copy against entering its terms, in one run. */
 #define _POSIX_C_SOURCE 200809L
 
 #include "plain_store.h"
@@ -19,7 +19,7 @@ static const double nanoseconds_per_row = 4e9;
 
 enum side { OURS, PLAIN, ENTERING, SIDES };
 
-/* A table as it stands, and the space into which it is carried. */
+/* A table as it stands, and the space into which it is carried, or in which it grows. */
 struct table {
     const struct workload *workload;
     uint32_t *space, *other;
@@ -101,39 +101,55 @@ static double time_carry(enum side side, const struct table *table)
     return now() - start;
 }
 
-/* The best time of each side, in turn. */
-static void time_sides(const struct table *table, double best[SIDES])
+/* One growing by a side, of the table as it was entered. */
+static double time_grow(enum side side, const struct table *table)
+{
+    memcpy(table->other, table->space, table->workload->space_cells * sizeof *table->other);
+    double start = now();
+    must_be(table->workload, TABLES_DONE,
+            (side == OURS ? tables_grow : plain_grow)(table->other, table->other_cells,
+                                                      table->nodes, table->subgoals,
+                                                      table->answers));
+    return now() - start;
+}
+
+/* The best time of each of the first `sides` sides, in turn. */
+static void time_sides(double (*timed)(enum side, const struct table *), int sides,
+                       const struct table *table, double best[SIDES])
 {
     double begun = now();
     for (int side = 0; side < SIDES; side++)
         best[side] = DBL_MAX;
     for (int round = 0; round < LEAST_ROUNDS || now() - begun < nanoseconds_per_row; round++)
-        for (int side = 0; side < SIDES; side++) {
-            double elapsed = time_carry(side, table);
+        for (int side = 0; side < sides; side++) {
+            double elapsed = timed(side, table);
             if (elapsed < best[side])
                 best[side] = elapsed;
         }
 }
 
 /* Both sides leave the same cells. */
-static void compare_sides(const struct table *table)
+static void compare_sides(double (*timed)(enum side, const struct table *),
+                          const struct table *table)
 {
     uint32_t *ours = allocate(table->other_cells, sizeof *ours);
-    time_carry(OURS, table);
+    timed(OURS, table);
     memcpy(ours, table->other, table->other_cells * sizeof *ours);
-    time_carry(PLAIN, table);
+    timed(PLAIN, table);
     if (memcmp(ours, table->other, table->other_cells * sizeof *ours) != 0)
         stop(table->workload, "the sides leave different cells");
     free(ours);
 }
 
-static void print_row(FILE *tsv, const struct table *table, const double best[SIDES])
+static void print_row(FILE *tsv, const char *what, const struct table *table,
+                      const double best[SIDES])
 {
-    double ratio = best[OURS] / best[PLAIN], entering = best[OURS] / best[ENTERING];
-    printf("%-36s  %8u  %9.3f  %9.3f  %5.2f  %5.2f\n", table->workload->name,
+    double ratio = best[OURS] / best[PLAIN];
+    double entering = best[ENTERING] == DBL_MAX ? 0 : best[OURS] / best[ENTERING];
+    printf("%-6s %-36s  %8u  %9.3f  %9.3f  %5.2f  %5.2f\n", what, table->workload->name,
            (unsigned)table->workload->nodes, best[OURS] / 1e6, best[PLAIN] / 1e6, ratio, entering);
     if (tsv != NULL)
-        fprintf(tsv, "%s\t%u\t%.3f\t%.3f\t%.2f\t%.2f\n", table->workload->name,
+        fprintf(tsv, "%s\t%s\t%u\t%.3f\t%.3f\t%.2f\t%.2f\n", what, table->workload->name,
                 (unsigned)table->workload->nodes, best[OURS] / 1e6, best[PLAIN] / 1e6, ratio,
                 entering);
 }
@@ -142,9 +158,12 @@ static void time_table(FILE *tsv, const struct workload *workload)
 {
     struct table table = make_table(workload);
     double best[SIDES];
-    compare_sides(&table);
-    time_sides(&table, best);
-    print_row(tsv, &table, best);
+    compare_sides(time_carry, &table);
+    compare_sides(time_grow, &table);
+    time_sides(time_carry, SIDES, &table, best);
+    print_row(tsv, "carry", &table, best);
+    time_sides(time_grow, ENTERING, &table, best);
+    print_row(tsv, "grow", &table, best);
     free_table(&table);
 }
 
@@ -162,9 +181,10 @@ int main(int argc, char **argv)
         perror(argv[1]);
         return 1;
     }
-    printf("%-36s  %8s  %9s  %9s  ratio  to entering\n", "", "nodes", "ours, ms", "plain, ms");
+    printf("%-6s %-36s  %8s  %9s  %9s  ratio  to entering\n", "", "", "nodes", "ours, ms",
+           "plain, ms");
     if (tsv != NULL)
-        fprintf(tsv, "table\tnodes\tours ms\tplain ms\tratio\tto entering\n");
+        fprintf(tsv, "call\ttable\tnodes\tours ms\tplain ms\tratio\tto entering\n");
     for (size_t i = 0; i < sizeof workloads / sizeof *workloads; i++)
         time_table(tsv, &workloads[i]);
     if (tsv != NULL && fclose(tsv) != 0) {

@@ -1,4 +1,4 @@
-/* Carrying a space over in plain C: as the export does it, on top of the plain check and store. */
+/* Carrying a space over and growing one in plain C: as the exports do it, on top of the plain check and store. */
 
 /* One unit with the check and the store, so that the compiler sees all that a copy is made of. */
 #include "plain_check.c"
@@ -115,5 +115,45 @@ uint64_t plain_carry(const uint32_t *source, size_t source_cells, uint32_t *targ
     for (size_t subgoal = 1; subgoal <= head.subgoals; subgoal++)
         target[copied.subgoal_offset + SUBGOAL_CELLS * (subgoal - 1) + STATE] =
             subgoal_at(source, &head, subgoal)[STATE];
+    return say(SAID_DONE, 0);
+}
+
+/* Growing */
+
+static void move_cells(uint32_t *space, size_t to, size_t from, size_t count)
+{
+    memmove(space + to, space + from, count * sizeof *space);
+}
+
+static void clear_cells(uint32_t *space, size_t from, size_t to)
+{
+    memset(space + from, 0, (to - from) * sizeof *space);
+}
+
+uint64_t plain_grow(uint32_t *space, size_t space_cells, uint32_t nodes, uint32_t subgoals,
+                    uint32_t answers)
+{
+    struct head head;
+    if (!read_head(space, space_cells, &head))
+        return refuse(BAD_HEADER);
+    if (!can_be_fresh(space_cells, nodes, subgoals, answers))
+        return refuse(BAD_FRESH);
+    if (nodes < head.nodes || subgoals < head.subgoals || answers < head.answers)
+        return refuse_copy(CAPACITY_TOO_SMALL);
+    size_t subgoals_at = HEADER_CELLS + (size_t)NODE_CELLS * nodes;
+    size_t answers_at = subgoals_at + (size_t)SUBGOAL_CELLS * subgoals;
+    size_t end = answers_at + (size_t)ANSWER_CELLS * answers;
+    size_t subgoal_cells = SUBGOAL_CELLS * head.subgoals, answer_cells = ANSWER_CELLS * head.answers;
+    if (subgoals_at > head.subgoal_offset)
+        move_cells(space, answers_at, head.answer_offset, answer_cells);
+    move_cells(space, subgoals_at, head.subgoal_offset, subgoal_cells);
+    if (subgoals_at <= head.subgoal_offset)
+        move_cells(space, answers_at, head.answer_offset, answer_cells);
+    clear_cells(space, HEADER_CELLS + NODE_CELLS * head.nodes, subgoals_at);
+    clear_cells(space, subgoals_at + subgoal_cells, answers_at);
+    clear_cells(space, answers_at + answer_cells, end);
+    space[SUBGOAL_OFFSET] = (uint32_t)subgoals_at;
+    space[ANSWER_OFFSET] = (uint32_t)answers_at;
+    space[END] = (uint32_t)end;
     return say(SAID_DONE, 0);
 }

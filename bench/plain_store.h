@@ -47,5 +47,7 @@ uint64_t plain_check(const uint32_t *space, size_t space_cells);
 /* In plain_copies.c, which contains the check and the store. */
 uint64_t plain_carry(const uint32_t *source, size_t source_cells, uint32_t *target,
                      size_t target_cells, uint32_t nodes, uint32_t subgoals, uint32_t answers);
+uint64_t plain_grow(uint32_t *space, size_t space_cells, uint32_t nodes, uint32_t subgoals,
+                    uint32_t answers);
 
 #endif

@@ -57,7 +57,7 @@ struct table {
 static struct table table = {.nodes = 40, .subgoals = 4, .answers = 10};
 
 /* A term that is called: a functor and three arguments, each an atom or a variable. */
-enum { GOAL_CELLS = 4, MOST_SUBGOALS = PLACES };
+enum { GOAL_CELLS = 4 };
 
 struct goal {
     uint32_t cells[GOAL_CELLS];
@@ -65,10 +65,6 @@ struct goal {
 
 /* The subgoal reach(P, X, S) of each place P that was called, 0 for the others. */
 static uint32_t subgoal_of[PLACES];
-
-/* Every subgoal's term, by number, and how many there are. */
-static struct goal goals[MOST_SUBGOALS + 1];
-static uint32_t subgoals;
 
 static void stop(const char *what, const char *why)
 {
@@ -111,7 +107,7 @@ static uint32_t next_answer(const struct table *read, uint32_t subgoal, uint32_t
     return tables_what(word);
 }
 
-/* When the table is full: a larger one, into which all that stands is entered again */
+/* When the table is full: the same table in a longer array */
 
 static void make(struct table *made)
 {
@@ -123,73 +119,24 @@ static void make(struct table *made)
                                          made->answers, EDITION));
 }
 
-/* The store gives no subgoal back: the engine keeps its term to call it again. */
-static uint64_t call_goal(struct table *called, const struct goal *goal)
+/* Makes the array longer and the table larger. Every subgoal and answer keeps its number. */
+static void grow(struct table *grown)
 {
-    return tables_call(called->space, called->cells, goal->cells, GOAL_CELLS);
-}
-
-/* Numbers go in order of entry: entered in the same order, everything keeps its number. */
-static void must_be_new(const char *call, uint64_t word, uint32_t number)
-{
-    if (tables_what(checked(call, word)) != TABLES_NEW || tables_value(word) != number)
-        stop(call, "a copy has another number than what was copied");
-}
-
-/* Copies one answer to the same subgoal. */
-static void copy_answer(const struct table *from, struct table *to, uint32_t subgoal,
-                        uint32_t answer)
-{
-    uint32_t terms[TABLES_TERM_CELLS];
-    uint64_t word = tables_load(from->space, from->cells, answer, terms, TABLES_TERM_CELLS);
-    size_t cells = tables_value(checked("tables_load", word));
-    word = tables_answer(to->space, to->cells, subgoal, terms, cells);
-    must_be_new("tables_answer", word, answer);
-}
-
-/* How far the answers of a subgoal have been copied: the next to copy if TABLES_AT was said. */
-struct reading {
-    uint32_t answer, said;
-};
-
-static void read_on(const struct table *from, uint32_t subgoal, struct reading *reading)
-{
-    reading->said = next_answer(from, subgoal, &reading->answer);
-}
-
-/* Copies all answers by their numbers: each one is the next of just one of the subgoals. */
-static void copy_answers(const struct table *from, struct table *to, struct reading *readings)
-{
-    uint32_t counts[3];
-    checked("tables_counts", tables_counts(from->space, from->cells, counts, 3));
-    for (uint32_t subgoal = 1; subgoal <= subgoals; subgoal++)
-        read_on(from, subgoal, &readings[subgoal]);
-    for (uint32_t answer = 1; answer <= counts[2]; answer++)
-        for (uint32_t subgoal = 1; subgoal <= subgoals; subgoal++)
-            if (readings[subgoal].said == TABLES_AT && readings[subgoal].answer == answer) {
-                copy_answer(from, to, subgoal, answer);
-                read_on(from, subgoal, &readings[subgoal]);
-            }
+    grown->nodes *= 2;
+    grown->subgoals *= 2;
+    grown->answers *= 2;
+    grown->cells = TABLES_SPACE_CELLS(grown->nodes, grown->subgoals, grown->answers);
+    uint32_t *longer = realloc(grown->space, grown->cells * sizeof *longer);
+    if (longer == NULL)
+        stop("a table", "there is no memory for a larger one");
+    grown->space = longer;
+    checked("tables_grow", tables_grow(grown->space, grown->cells, grown->nodes, grown->subgoals,
+                                       grown->answers));
 }
 
 /*
- * Subgoals, then answers, then who is finished, since a finished subgoal takes no new
- * answer. At the end of its answers a finished subgoal says no more, an open one none yet.
- */
-static void copy(const struct table *from, struct table *to)
-{
-    struct reading readings[MOST_SUBGOALS + 1] = {{0, 0}};
-    for (uint32_t subgoal = 1; subgoal <= subgoals; subgoal++)
-        must_be_new("tables_call", call_goal(to, &goals[subgoal]), subgoal);
-    copy_answers(from, to, readings);
-    for (uint32_t subgoal = 1; subgoal <= subgoals; subgoal++)
-        if (readings[subgoal].said == TABLES_NO_MORE)
-            checked("tables_finish", tables_finish(to->space, to->cells, subgoal));
-}
-
-/*
- * Was the call refused since the table is full? Then the table is now one of
- * twice the capacities with all that stood in it, and the call is made again.
+ * Was the call refused since the table is full? Then the table has twice the
+ * capacities now, and the call is made again.
  */
 static bool grown(uint64_t word)
 {
@@ -198,12 +145,7 @@ static bool grown(uint64_t word)
         return false;
     if (table.nodes > TABLES_MOST_RECORDS / 2)
         stop("the table", tables_refusal_text(refusal));
-    struct table larger = {
-        .nodes = 2 * table.nodes, .subgoals = 2 * table.subgoals, .answers = 2 * table.answers};
-    make(&larger);
-    copy(&table, &larger);
-    free(table.space);
-    table = larger;
+    grow(&table);
     printf("%s Now %u nodes, %u subgoals, %u answers.\n", tables_refusal_text(refusal),
            (unsigned)table.nodes, (unsigned)table.subgoals, (unsigned)table.answers);
     return true;
@@ -211,21 +153,15 @@ static bool grown(uint64_t word)
 
 /* Calling: the subgoals */
 
-/* Calls a goal, keeps its term if it is new, and sets the subgoal's number. Was it new? */
-static bool call_new(struct goal goal, uint32_t *subgoal)
+/* Calls a goal and sets the subgoal's number. Was it new? */
+static bool call_new(const struct goal *goal, uint32_t *subgoal)
 {
     uint64_t word;
     do
-        word = call_goal(&table, &goal);
+        word = tables_call(table.space, table.cells, goal->cells, GOAL_CELLS);
     while (grown(word));
     *subgoal = tables_value(checked("tables_call", word));
-    if (tables_what(word) != TABLES_NEW)
-        return false;
-    if (*subgoal > MOST_SUBGOALS)
-        stop("tables_call", "there are more subgoals than the rules have");
-    subgoals = *subgoal;
-    goals[subgoals] = goal;
-    return true;
+    return tables_what(word) == TABLES_NEW;
 }
 
 /* Calls reach(P, X, S), and if that is new, the subgoals that its second rule needs. */
@@ -233,7 +169,7 @@ static void call_reach(enum place place)
 {
     const struct goal goal = {{TABLES_FUNCTOR_CELL(EDITION, REACH, 3), atom(place),
                                TABLES_CELL(TABLES_VARIABLE, 0), TABLES_CELL(TABLES_VARIABLE, 1)}};
-    if (!call_new(goal, &subgoal_of[place]))
+    if (!call_new(&goal, &subgoal_of[place]))
         return;
     for (size_t i = 0; i < BELTS; i++)
         if (belts[i].from == place && !belts[i].closed)
@@ -327,7 +263,7 @@ static uint32_t join_meet(enum place one, enum place other)
                                TABLES_CELL(TABLES_VARIABLE, 2)}};
     uint32_t meet;
     uint64_t word;
-    call_new(goal, &meet);
+    call_new(&goal, &meet);
     do
         word = tables_join(table.space, table.cells, subgoal_of[one], subgoal_of[other], pairs, 2,
                            meet, copies, 6);
@@ -337,9 +273,12 @@ static uint32_t join_meet(enum place one, enum place other)
     return meet;
 }
 
+/* Subgoals are numbered from 1, so how many there are names them all. */
 static void finish_all(void)
 {
-    for (uint32_t subgoal = 1; subgoal <= subgoals; subgoal++)
+    uint32_t counts[3];
+    checked("tables_counts", tables_counts(table.space, table.cells, counts, 3));
+    for (uint32_t subgoal = 1; subgoal <= counts[1]; subgoal++)
         checked("tables_finish", tables_finish(table.space, table.cells, subgoal));
 }
 

@@ -16,7 +16,7 @@ extern "C" {
  * 1.2.3.
  */
 #define TABLES_VERSION_MAJOR 4
-#define TABLES_VERSION_MINOR 2
+#define TABLES_VERSION_MINOR 3
 #define TABLES_VERSION_PATCH 0
 #define TABLES_VERSION \
     (TABLES_VERSION_MAJOR * 10000 + TABLES_VERSION_MINOR * 100 + TABLES_VERSION_PATCH)
@@ -153,7 +153,7 @@ static inline uint32_t tables_functor_cell(uint64_t edition, uint64_t name, uint
  * (14, 15) and names (16), length (4), term (3), variables (5), predicate (6), the
  * other records (9), an answer that a finished subgoal lacks (8), nodes (10),
  * records left (11), slots (17), what a list is of (23), a term of it (24), form
- * (13), out (12). tables_carry checks 1, 2, 9, 18, 19.
+ * (13), out (12). tables_carry checks 1, 2, 9, 18, 19, and tables_grow 1, 2, 19.
  */
 enum tables_refusal {
     TABLES_REFUSED_HEADER = 1,     /* the space has no sound header, or is cut short; from a
@@ -243,7 +243,7 @@ static inline const char *tables_refusal_text(uint32_t refusal)
  *
  * A table lives in one array of cells that the caller owns, of any storage:
  * static, on the heap, or mapped from a file. The caller says at the start how
- * many records of each sort it may hold; nothing grows later.
+ * many records of each sort it may hold; tables_grow makes room for more later.
  *
  *     static uint32_t space[TABLES_SPACE_CELLS(1000, 50, 100)];
  *     uint64_t word = tables_fresh(space, TABLES_SPACE_CELLS(1000, 50, 100), 1000, 50, 100,
@@ -254,7 +254,7 @@ static inline const char *tables_refusal_text(uint32_t refusal)
  * The space may be longer than needed; the cells past its end are left alone.
  *
  * A table that is full refuses new entries (10, 11) and goes on answering all
- * else. To go on entering, make a larger space and enter everything again;
+ * else. To go on entering, make the array longer and call tables_grow;
  * examples/engine.c does so.
  */
 #define TABLES_MOST_RECORDS 1048576 /* of each sort; at least 1 node, and 0 of the others */
@@ -284,8 +284,9 @@ static inline uint32_t tables_edition(const uint32_t *space, size_t space_cells)
  * tables_load, tables_instance, tables_counts, tables_check, tables_build, and
  * tables_carry on its source) may run at once on one space.
  * While a call that writes (tables_fresh, tables_call, tables_answer,
- * tables_finish, tables_join, those with an index, and tables_carry on its target)
- * runs, no other call on the same space may run: the caller serialises them. The lists and the converters
+ * tables_finish, tables_join, those with an index, tables_grow, and tables_carry
+ * on its target) runs, no other call on the same space may run: the caller
+ * serialises them. The lists and the converters
  * have no space: any number of them may run at once, beside any other call.
  *
  * The use of the stack is bounded, whatever is lent: see below.
@@ -303,8 +304,8 @@ static inline uint32_t tables_edition(const uint32_t *space, size_t space_cells)
  *
  * What is measured is all that lies below the caller's frame, in a program that is
  * linked to a shared C library and has called nothing of it before. There tables_fresh
- * and tables_build call memset for the first time, and the two calls that list terms
- * memcpy: the dynamic linker looks it up (lazy binding) and keeps the vector registers
+ * and tables_build call memset for the first time, tables_grow memmove, and the two calls
+ * that list terms memcpy: the dynamic linker looks it up (lazy binding) and keeps the vector registers
  * on the same stack, which takes some 3,100 bytes with glibc 2.36 on a processor with
  * AVX-512. Once it has been called, or where all is bound at the start, these four use
  * 56, 104, 264 and 2,128 bytes. Where the exports stand in a shared object, the first
@@ -323,6 +324,7 @@ enum tables_stack {
     TABLES_STACK_BUILD = 4096,     /* 3,288 */
     TABLES_STACK_CHECK = 58368,    /* 47,088 */
     TABLES_STACK_CARRY = 72704,    /* 49,216 */
+    TABLES_STACK_GROW = 4096,      /* 3,384 */
     TABLES_STACK_FIRST_TERM = 4096, /* 3,400 */
     TABLES_STACK_TERM_AFTER = 4096, /* 3,368 */
     TABLES_STACK_COMPACT = 92160,  /* 57,120 */
@@ -668,6 +670,41 @@ uint64_t tables_join_indexed(uint32_t *space, size_t space_cells, const uint32_t
  */
 TABLES_MUST_CHECK
 uint64_t tables_check(const uint32_t *space, size_t space_cells);
+
+/*
+ * Other capacities, another edition
+ *
+ * A table need not be entered again to get more room, or to leave edition 1: each
+ * subgoal and each answer keeps its number, its state and its place in the order, so
+ * whoever reads answers goes on from the last one that was read.
+ *
+ *     tables_grow    other capacities, in the same array
+ *     tables_carry   from edition 1 into a space of edition 2, with its own capacities
+ *
+ * An index of the old space is of no use for a carried one; after growing it serves on,
+ * since every node keeps its number.
+ */
+
+/*
+ * Gives the table other capacities, in the same array, which the caller has made long
+ * enough before (with realloc, say); space_cells is its length now. Each capacity may be
+ * larger or smaller than it was, but not below what is used. Every record keeps its
+ * number, in every edition; what was not used is 0 afterwards; cells past the new end
+ * stay. TABLES_DONE. Refused by 1; by 2 as tables_fresh is, for the new capacities and the
+ * length; by 19 where a capacity is below what is used. Refused, no cell changes.
+ *
+ * Afterwards a table made by calls, or one that tables_check finds whole, answers every
+ * call as before, with the new capacities: only 10 and 11 come later (or earlier, with
+ * smaller ones). A damaged space keeps its damage. The time is that of moving the
+ * subgoals and answers that are used, and of writing zeros.
+ *
+ *     uint32_t *longer = realloc(space, TABLES_SPACE_CELLS(2 * n, f, a) * sizeof *space);
+ *     if (longer != NULL)
+ *         word = tables_grow(space = longer, TABLES_SPACE_CELLS(2 * n, f, a), 2 * n, f, a);
+ */
+TABLES_MUST_CHECK
+uint64_t tables_grow(uint32_t *space, size_t space_cells, uint32_t nodes, uint32_t subgoals,
+                     uint32_t answers);
 
 /*
  * Carries a running table over: copies a space of edition 1 into the target, which

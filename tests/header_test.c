@@ -4,8 +4,8 @@
 #include <stdio.h>
 #include <string.h>
 
-#if TABLES_VERSION < 40200
-#error "the version is 4.2.0 or later"
+#if TABLES_VERSION < 40300
+#error "the version is 4.3.0 or later"
 #endif
 
 enum { MOST_REFUSAL = 24 };
@@ -28,9 +28,9 @@ static const uint32_t constant[] = {
 
 static void test_constants(void)
 {
-    check(TABLES_VERSION_MAJOR == 4 && TABLES_VERSION_MINOR == 2 && TABLES_VERSION_PATCH == 0 &&
-              TABLES_VERSION == 40200,
-          "the version is 4.2.0");
+    check(TABLES_VERSION_MAJOR == 4 && TABLES_VERSION_MINOR == 3 && TABLES_VERSION_PATCH == 0 &&
+              TABLES_VERSION == 40300,
+          "the version is 4.3.0");
     check(PAIR == 0x50000000, "a pair");
     check(constant[0] == 0x40000128 && constant[1] == 0x20000007, "constants in range");
     check(constant[2] == 0x20000000, "the empty list");
@@ -142,11 +142,11 @@ static void test_list_numbers(void)
     check(TABLES_STACK_FIRST_TERM > 0 && TABLES_STACK_TERM_AFTER > 0, "bounds for the lists");
 }
 
-/* Carrying over brought two refusals and a bound. */
+/* Carrying over and growing brought two refusals and two bounds. */
 static void test_carry_numbers(void)
 {
     check(TABLES_REFUSED_NAME == 18 && TABLES_REFUSED_CAPACITY == 19, "the numbers of the refusals");
-    check(TABLES_STACK_CARRY > 0, "a bound for carrying over");
+    check(TABLES_STACK_CARRY > 0 && TABLES_STACK_GROW > 0, "bounds for carrying over and growing");
 }
 
 static void test_words(void)
@@ -301,6 +301,23 @@ static void test_carry(void)
     check(tables_refused_by(tables_carry(narrow, CELLS, wide, CELLS, 9, 2, 2)) == TABLES_REFUSED_NAME, "it is too large");
 }
 
+/* q enters a table that was full, once it has grown; p(X) keeps its number. */
+static void test_grow(void)
+{
+    enum { CELLS = TABLES_SPACE_CELLS(6, 2, 1) };
+    static uint32_t space[CELLS];
+    const uint32_t p[] = {tables_functor_cell(TABLES_EDITION_1, 5, 1), tables_cell(TABLES_VARIABLE, 3)};
+    const uint32_t q = tables_cell(TABLES_ATOM, 7);
+    check(tables_fresh(space, CELLS, 4, 2, 1, TABLES_EDITION_1) == 0, "a small table");
+    check(tables_call(space, CELLS, p, 2) == word(TABLES_NEW, 1), "a subgoal");
+    check(tables_refused_by(tables_call(space, CELLS, &q, 1)) == TABLES_REFUSED_NO_NODE, "it is full");
+    check(tables_refused_by(tables_grow(space, CELLS, 3, 2, 1)) == TABLES_REFUSED_CAPACITY, "too few nodes");
+    check(tables_refused_by(tables_grow(space, CELLS, 7, 2, 1)) == TABLES_REFUSED_FRESH, "too few cells");
+    check(tables_grow(space, CELLS, 6, 2, 1) == word(TABLES_DONE, 0), "grown");
+    check(tables_call(space, CELLS, &q, 1) == word(TABLES_NEW, 2), "room");
+    check(tables_call(space, CELLS, p, 2) == word(TABLES_OLD_OPEN, 1), "the subgoal keeps its number");
+}
+
 int main(void)
 {
     test_constants();
@@ -317,6 +334,7 @@ int main(void)
     test_index();
     test_list();
     test_carry();
+    test_grow();
     printf("header_test: %d checks, %d failed\n", checks, failures);
     return failures != 0;
 }

@@ -30,13 +30,14 @@ ARGUMENTS = {
     "first_term": SPACE + [SIZE] + SPACE + [CELL],
     "term_after": SPACE + [SIZE] + SPACE + SPACE + [CELL],
     "carry": SPACE + SPACE + [CELL] * 3,
+    "grow": SPACE + [CELL] * 3,
     "compact": BYTES + BYTES + [CELL],
     "expand": BYTES + BYTES + [CELL],
 }
 
 
 def exports(path):
-    """The nineteen exports by their names."""
+    """The twenty exports by their names."""
     library = ctypes.CDLL(path)
     found = {}
     for name, arguments in ARGUMENTS.items():
@@ -186,6 +187,27 @@ def try_carry(call):
     expect("loaded", out[0][0], A)
 
 
+def try_grow(call):
+    """p(X) in a table that is full, then in the same array with room for two nodes more."""
+    space = cells([0] * 50 + [7])
+
+    def said(what, name, value, *arguments):
+        expect(name, divmod(call[name](*space, *arguments), 2**32), (what, value))
+
+    said(0, "fresh", 0, 4, 2, 0, EDITION_2)
+    said(NEW, "call", 1, *cells([0x40000301, X]))
+    said(REFUSED + 10, "call", 0, *cells([A]))
+    before = list(space[0])
+    said(REFUSED + 19, "grow", 0, 3, 2, 0)
+    said(REFUSED + 2, "grow", 0, 7, 2, 0)
+    expect("a refused growing", list(space[0]), before)
+    said(0, "grow", 0, 6, 2, 0)
+    said(OLD_OPEN, "call", 1, *cells([0x40000301, Y]))
+    said(NEW, "call", 2, *cells([A]))
+    said(0, "check", 0)
+    expect("beyond it", space[0][50], 7)
+
+
 def try_converters(call):
     """[A, B] to its compact form and back."""
     term, form, out = [PAIR, A, PAIR, B, EMPTY], [BLIST, A, ELIST, B], data([0] * 8)
@@ -204,6 +226,7 @@ def main():
     try_index(call)
     try_list(call)
     try_carry(call)
+    try_grow(call)
     try_converters(call)
     print("shared_test: as expected")
 

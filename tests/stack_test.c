@@ -53,6 +53,7 @@ enum export {
     JOIN_INDEXED,
     CHECK,
     CARRY,
+    GROW,
     FIRST_TERM,
     TERM_AFTER,
     COMPACT,
@@ -71,8 +72,8 @@ static const struct {
     {"tables_join", TABLES_STACK_JOIN},         {"tables_build", TABLES_STACK_BUILD},
     {"tables_call_indexed", TABLES_STACK_CALL}, {"tables_answer_indexed", TABLES_STACK_ANSWER},
     {"tables_join_indexed", TABLES_STACK_JOIN}, {"tables_check", TABLES_STACK_CHECK},
-    {"tables_carry", TABLES_STACK_CARRY},       {"tables_first_term", TABLES_STACK_FIRST_TERM},
-    {"tables_term_after", TABLES_STACK_TERM_AFTER},
+    {"tables_carry", TABLES_STACK_CARRY},       {"tables_grow", TABLES_STACK_GROW},
+    {"tables_first_term", TABLES_STACK_FIRST_TERM}, {"tables_term_after", TABLES_STACK_TERM_AFTER},
     {"tables_compact", TABLES_STACK_COMPACT},   {"tables_expand", TABLES_STACK_EXPAND},
 };
 
@@ -157,6 +158,9 @@ static void make(enum export export)
         break;
     case CARRY:
         word = tables_carry(space, space_cells, target, space_cells, nodes, 4, 4);
+        break;
+    case GROW:
+        word = tables_grow(space, space_cells, nodes, 4, 4);
         break;
     case FIRST_TERM:
     case TERM_AFTER:
@@ -642,6 +646,20 @@ static void measure_build(const char *input, uint32_t what, uint32_t value)
     }
 }
 
+/* Blocks that move down, and back up. */
+static void measure_growing(void)
+{
+    make(FRESH);
+    for (uint32_t round = 0; round < 2; round++) {
+        nodes = round == 0 ? 20 : 2000;
+        measure(GROW, "capacities that change");
+        if (word != 0) {
+            printf("stack: growing gave %" PRIx64 "\n", word);
+            exit(1);
+        }
+    }
+}
+
 /* A parent as long a way off as there are nodes; and all nodes under one, with slots enough and with too few. */
 static void measure_builds(void)
 {
@@ -686,6 +704,7 @@ static void measure_lists(void)
 
 static void measure_all(void)
 {
+    measure_growing();
     measure_builds();
     measure_lists();
     for (unsigned unit = 0; repeat_unit(unit, 1, false); unit++)
