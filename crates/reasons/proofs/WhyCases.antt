@@ -213,7 +213,8 @@ module _ (find : Finding) (v : View) (w : List ℕ) (m : ℕ) where
   unfolding reasonedAt
   reasons-whole leaf r e k = (λ vs. rw e (k .0 vs), k .1)
 
-  pub reasons-stopped : (parent last : ℕ) (left : List ℕ) (r : Reason) (n : ℕ) → Walks (stopped parent last left) → n ≡ length w - length left → Reasons m (newBelow v parent n) r → Reasons m (reasonedFrom find v w m) r
+  pub reasons-stopped : (parent last : ℕ) (left : List ℕ) (r : Reason) (n : ℕ) → Walks (stopped parent last left) → n ≡ length w - length left
+      → Reasons m (newBelow v parent n) r → Reasons m (reasonedFrom find v w m) r
   unfolding reasonedAt
   reasons-stopped parent last left r n e l k = (λ vs. rw (e, ← l) (k .0 vs), k .1)
 

@@ -60,8 +60,8 @@ unfolding linesFrom session saidOf means wordMeans fields valueFrom numeral hexC
     cellTexts lent inRange capacity counted knownEdition headerOf spaceHeader subgoalWidth answerWidth freshCells
     freshFits freshSpace freshSpaceIn follows nodeSound bothOrNeither subgoalSound searchSiblings searchChildren
     walkFromBy walkBy leadCell appendNode appendPath calledOld calledNew calledAt calledBy firstsFrom namedBy newAt
-    reasonedAt reasonedBy decideBy subgoalEntered changeBy reply outAfter underBy underAnyBy spaceStepBy judged
-    naming handedOn reading callable predicate taken storedOf compactForm areTerms pairForm formTerms front symbolic tokenOf items
-    entered filled lastOf tailOf into inside collected reads begun applied paired shapeOf arityOf every compact
+    reasonedAt reasonedBy decideBy subgoalEntered changeBy reply outAfter underBy underAnyBy spaceStepBy judged naming
+    handedOn reading callable predicate taken storedOf compactForm areTerms pairForm formTerms front symbolic tokenOf
+    items entered filled lastOf tailOf into inside collected reads begun applied paired shapeOf arityOf every compact
     elements pairs numbered renamed met seen rank same whole
 asked-why = refl

@@ -33,7 +33,8 @@ unfolding reasonCells
 new-cells k s [] h = absurd (omega arith)
 new-cells k s (x ∷ xs) h = refl
 
-pub old-cells : (n m : ℕ) (vars out out′ : List ℕ) → m ≤ length vars → GivesVariables vars m out out′ → out′ ≡ reasonCells (oldAs n (take m vars)) ++ drop (length (reasonCells (oldAs n (take m vars)))) out
+pub old-cells : (n m : ℕ) (vars out out′ : List ℕ) → m ≤ length vars → GivesVariables vars m out out′
+    → out′ ≡ reasonCells (oldAs n (take m vars)) ++ drop (length (reasonCells (oldAs n (take m vars)))) out
 unfolding reasonCells
 old-cells n m vars out out′ h e =
     let a = length-take m vars in
@@ -55,7 +56,8 @@ after-first x m n front xs e =
     let b : drop n xs ≡ [] = drop-all xs n (omega arith) in
     ap {B = List ℕ} (λ (l : List ℕ). m ∷ l) (ap (λ (l : List ℕ). (front ++ drop m (take n xs)) ++ l) b ∙ append-nil (front ++ drop m (take n xs)) ∙ ap (λ (l : List ℕ). front ++ drop m l) a)
 
-pub gives-variables : (vars out q : List ℕ) (m : ℕ) → whyRoom ≤ length out → q ≡ take m vars ++ drop m (midOf 1 (length out - 1) out) → GivesVariables vars m out (set (putMid 1 (length out - 1) out q) 0 m)
+pub gives-variables : (vars out q : List ℕ) (m : ℕ) → whyRoom ≤ length out
+    → q ≡ take m vars ++ drop m (midOf 1 (length out - 1) out) → GivesVariables vars m out (set (putMid 1 (length out - 1) out q) 0 m)
 gives-variables vars [] q m h e = absurd (omega arith)
 gives-variables vars (x ∷ xs) q m h e =
     let n : length (x ∷ xs) - 1 ≡ length xs = omega arith in

@@ -30,8 +30,10 @@ same-length c = search needs
 
 returns : tie.Need-returns
 returns c =
-    let fs = restAt (c .before .before .before .before .before .before .before .before .before .before .before .before .args .line .now) (c .before .before .before .before .before .before .before .before .before .before .before .before .args .at) in
-    λ out. bad-leaves (c .before .before .before .before .before .before .before .before .before .before .before .before .args .space .now) out _ _ _ (withCells (hexCells fs) request.why) (cells-bad fs request.why (rw (c .before .before .before .before .enum-told .given .1) at (c .before .before .before .before .before .before .before .read-cells .ensures))) (c .before .before .print-bad .ensures)
+    let a = c .before .before .before .before .before .before .before .before .before .before .before .before .args in
+    let fs = restAt (a .line .now) (a .at) in
+    let r = c .before .before .before .before .before .before .before .read-cells .ensures in
+    λ out. bad-leaves (a .space .now) out _ _ _ (withCells (hexCells fs) request.why) (cells-bad fs request.why (rw (c .before .before .before .before .enum-told .given .1) at r)) (c .before .before .print-bad .ensures)
 
 array-share-prefix-cells : tie.Need-array-share-prefix-cells
 array-share-prefix-cells c = (rw (c .before .n .given .1) at (c .before .before .before .before .read-cells .ensures)) .1
@@ -50,9 +52,12 @@ same-length-2 c = search needs
 
 returns-2 : tie.Need-returns-2
 returns-2 c =
-    let fs = restAt (c .before .before .before .before .before .before .before .before .before .before .before .before .before .before .before .args .line .now) (c .before .before .before .before .before .before .before .before .before .before .before .before .before .before .before .args .at) in
+    let a = c .before .before .before .before .before .before .before .before .before .before .before .before .before .before .before .args in
+    let fs = restAt (a .line .now) (a .at) in
+    let r = c .before .before .before .before .before .before .before .before .before .before .read-cells .ensures in
     let w = c .before .before .before .before .why .ensures .0 in
-    λ out. asks-leaves (c .before .before .before .before .before .before .before .before .before .before .before .before .before .before .before .args .space .now) out _ _ _ (withCells (hexCells fs) request.why) _ _ _ (cells-ask fs request.why _ ((rw (c .before .before .before .before .before .before .before .n .given .1) at (c .before .before .before .before .before .before .before .before .before .before .read-cells .ensures)) .0)) (w .0) (w .2) (c .before .before .print-why .ensures _)
+    λ out. asks-leaves (a .space .now) out _ _ _ (withCells (hexCells fs) request.why) _ _ _
+    (cells-ask fs request.why _ ((rw (c .before .before .before .before .before .before .before .n .given .1) at r) .0)) (w .0) (w .2) (c .before .before .print-why .ensures _)
 
 pub ask-why-spec : {M : Type 1} → statement M
 ask-why-spec =

@@ -21,7 +21,9 @@ loop-holds : tie.Need-loop-holds Inv-loop μ-loop
 loop-holds c = descending-begin (c .before .before .args .space .now) (c .before .before .args .h) (c .before .before .args .from) (c .before .before .pre .1) _ (c .node-in .ensures)
 
 read-node-requires : tie.Need-read-node-requires Inv-loop μ-loop
-read-node-requires c κs = (bounds-nodes _ _ (c .before .before .before .before .pre .0), child-inside (c .before .before .before .before .args .space .now) (c .before .before .before .before .args .h) (c .before .before .before .before .args .from) (c .before .loop .inv))
+read-node-requires c κs =
+    let b4 = c .before .before .before .before in
+    (bounds-nodes _ _ (b4 .pre .0), child-inside (b4 .args .space .now) (b4 .args .h) (b4 .args .from) (c .before .loop .inv))
 
 enum-known-x : tie.Need-enum-known-x Inv-loop μ-loop
 enum-known-x c = search needs
@@ -30,19 +32,41 @@ enum-told : tie.Need-enum-told Inv-loop μ-loop
 enum-told c = search needs
 
 returns : tie.Need-returns Inv-loop μ-loop
-returns c = descending-lost (c .before .before .before .before .before .before .before .args .space .now) (c .before .before .before .before .before .before .before .args .h) (c .before .before .before .before .before .before .before .args .from) (c .before .before .before .before .loop .inv) (c .before .before .before .loop-test .taken) (told (c .enum-told .given .1) (c .before .before .read-node .ensures))
+returns c =
+    let b4 = c .before .before .before .before in
+    let b7 = b4 .before .before .before in
+    descending-lost (b7 .args .space .now) (b7 .args .h) (b7 .args .from) (b4 .loop .inv) (c .before .before .before .loop-test .taken) (told (c .enum-told .given .1) (c .before .before .read-node
+    .ensures))
 
 returns-2 : tie.Need-returns-2 Inv-loop μ-loop
-returns-2 c = descending-stray (c .before .before .before .before .before .before .before .before .before .before .args .space .now) (c .before .before .before .before .before .before .before .before .before .before .args .h) (c .before .before .before .before .before .before .before .before .before .before .args .from) (c .before .before .before .before .before .before .before .loop .inv) (c .before .before .before .before .before .before .loop-test .taken) _ (told (c .before .before .before .x .given .1) (c .before .before .before .before .before .read-node .ensures)) (search needs)
+returns-2 c =
+    let b5 = c .before .before .before .before .before in
+    let b6 = b5 .before in
+    let b7 = b6 .before in
+    let b10 = b7 .before .before .before in
+    descending-stray (b10 .args .space .now) (b10 .args .h) (b10 .args .from) (b7 .loop .inv) (b6 .loop-test .taken) _ (told (c .before .before .before .x .given .1) (b5 .read-node .ensures)) (search
+    needs)
 
 loop-less : tie.Need-loop-less Inv-loop μ-loop
-loop-less c = omega (arith, c .before .before .before .before .before .before .before .loop .inv .inside, child-rises (c .before .before .before .before .before .before .before .before .before .before .args .space .now) (c .before .before .before .before .before .before .before .before .before .before .args .h) (c .before .before .before .before .before .before .before .before .before .before .args .from) (c .before .before .before .before .before .before .before .loop .inv) (c .before .before .before .before .before .before .loop-test .taken))
+loop-less c =
+    let b6 = c .before .before .before .before .before .before in
+    let b7 = b6 .before in
+    let b10 = b7 .before .before .before in
+    omega (arith, b7 .loop .inv .inside, child-rises (b10 .args .space .now) (b10 .args .h) (b10 .args .from) (b7 .loop .inv) (b6 .loop-test .taken))
 
 loop-again : tie.Need-loop-again Inv-loop μ-loop
-loop-again c = descending-on (c .before .before .before .before .before .before .before .before .before .before .args .space .now) (c .before .before .before .before .before .before .before .before .before .before .args .h) (c .before .before .before .before .before .before .before .before .before .before .args .from) (c .before .before .before .before .before .before .before .loop .inv) (c .before .before .before .before .before .before .loop-test .taken) _ (told (c .before .before .before .x .given .1) (c .before .before .before .before .before .read-node .ensures)) (search needs)
+loop-again c =
+    let b5 = c .before .before .before .before .before in
+    let b6 = b5 .before in
+    let b7 = b6 .before in
+    let b10 = b7 .before .before .before in
+    descending-on (b10 .args .space .now) (b10 .args .h) (b10 .args .from) (b7 .loop .inv) (b6 .loop-test .taken) _ (told (c .before .before .before .x .given .1) (b5 .read-node .ensures)) (search
+    needs)
 
 returns-3 : tie.Need-returns-3 Inv-loop μ-loop
-returns-3 c = descending-end (c .before .before .before .before .args .space .now) (c .before .before .before .before .args .h) (c .before .before .before .before .args .from) (c .before .loop .inv) (search needs)
+returns-3 c =
+    let b4 = c .before .before .before .before in
+    descending-end (b4 .args .space .now) (b4 .args .h) (b4 .args .from) (c .before .loop .inv) (search needs)
 
 pub descend-spec : {M : Type 1} → statement M
 descend-spec =

@@ -15,19 +15,28 @@ enum-known-found : tie.Need-enum-known-found
 enum-known-found c = search needs
 
 returns : tie.Need-returns
-returns c = leaf-named (c .before .before .before .before .before .before .args .space .now) (c .before .before .before .before .before .before .args .h) (c .before .before .before .before .before .before .args .leaf) _ (c .before .before .before .before .node-in .ensures) _ _ (rw (c .before .found .given .1) at (c .before .before .before .call-old .ensures))
+returns c =
+    let b4 = c .before .before .before .before in
+    let b6 = b4 .before .before in
+    leaf-named (b6 .args .space .now) (b6 .args .h) (b6 .args .leaf) _ (b4 .node-in .ensures) _ _ (rw (c .before .found .given .1) at (c .before .before .before .call-old .ensures))
 
 enum-told : tie.Need-enum-told
 enum-told c = search needs
 
 returns-2 : tie.Need-returns-2
-returns-2 c = leaf-unnamed (c .before .before .before .before .before .args .space .now) (c .before .before .before .before .before .args .h) (c .before .before .before .before .before .args .leaf) _ (c .before .before .before .node-in .ensures) _ (rw (c .enum-told .given .1) at (c .before .before .call-old .ensures)) (new-other _)
+returns-2 c =
+    let b5 = c .before .before .before .before .before in
+    leaf-unnamed (b5 .args .space .now) (b5 .args .h) (b5 .args .leaf) _ (c .before .before .before .node-in .ensures) _ (rw (c .enum-told .given .1) at (c .before .before .call-old .ensures))
+    (new-other _)
 
 enum-told-2 : tie.Need-enum-told-2
 enum-told-2 c = search needs
 
 returns-3 : tie.Need-returns-3
-returns-3 c = leaf-unnamed (c .before .before .before .before .before .args .space .now) (c .before .before .before .before .before .args .h) (c .before .before .before .before .before .args .leaf) _ (c .before .before .before .node-in .ensures) _ (rw (c .enum-told2 .given .1) at (c .before .before .call-old .ensures)) (refused-other _)
+returns-3 c =
+    let b5 = c .before .before .before .before .before in
+    leaf-unnamed (b5 .args .space .now) (b5 .args .h) (b5 .args .leaf) _ (c .before .before .before .node-in .ensures) _ (rw (c .enum-told2 .given .1) at (c .before .before .call-old .ensures))
+    (refused-other _)
 
 pub subgoal-of-spec : {M : Type 1} → statement M
 subgoal-of-spec =

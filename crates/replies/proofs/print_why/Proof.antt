@@ -36,8 +36,10 @@ returns : tie.Need-returns
 unfolding replyText reasonText
 returns c = λ out.
     let a = c .before .before .before .before .before .before .before .before .before .before .before .before .before .reason .given in
+    let g = c .before .before .before .before .before .before .before .before .before .before .before .before .before .before .before .before .args in
     rw (a .1)
-    (puts-append (wordAndNumber textOld (a .0 .0)) (cellTexts (take (a .0 .1 .0) (c .before .before .before .before .before .before .before .before .before .before .before .before .before .before .before .before .args .t1 .variables))) (c .before .before .before .before .before .before .before .before .before .before .before .before .before .before .before .before .args .text .now) _ _ _ _ _ (c .before .before .before .before .before .before .before .before .before .put-numbered .ensures) (c .before .before .put-cells .ensures))
+    (puts-append (wordAndNumber textOld (a .0 .0)) (cellTexts (take (a .0 .1 .0) (g .t1 .variables))) (g .text .now) _ _ _ _ _
+    (c .before .before .before .before .before .before .before .before .before .put-numbered .ensures) (c .before .before .put-cells .ensures))
 
 enum-known-reason-2 : tie.Need-enum-known-reason-2
 enum-known-reason-2 c = search needs
@@ -58,8 +60,10 @@ returns-2 : tie.Need-returns-2
 unfolding replyText reasonText
 returns-2 c = λ out.
     let a = c .before .before .before .before .before .before .before .before .before .before .reason2 .given in
+    let g = c .before .before .before .before .before .before .before .before .before .before .before .before .before .args in
     rw (a .1)
-    (puts-append (wordAndNumber textNew (a .0 .0)) (32 ∷ decimalText (a .0 .1 .0)) (c .before .before .before .before .before .before .before .before .before .before .before .before .before .args .text .now) _ _ _ _ _ (c .before .before .before .before .before .before .put-numbered2 .ensures) (c .before .before .put-field .ensures))
+    (puts-append (wordAndNumber textNew (a .0 .0)) (32 ∷ decimalText (a .0 .1 .0)) (g .text .now) _ _ _ _ _
+    (c .before .before .before .before .before .before .put-numbered2 .ensures) (c .before .before .put-field .ensures))
 
 enum-known-reason-3 : tie.Need-enum-known-reason-3
 enum-known-reason-3 c = search needs

@@ -14,7 +14,8 @@ use Rattle.words.proofs.reasons.give_reason.Statement.{statement}
 use Rattle.words.proofs.reasons.give_reason.Tie as tie
 
 -- what is said where the reason is that of an arm
-old-said : (x : tie.After-reason) → because (oldAs (x .reason .given .0 .0) (take (x .reason .given .0 .1 .0) (x .before .before .before .args .t1 .variables))) ≡ saidWhy (x .before .before .before .args .t1)
+old-said : (x : tie.After-reason)
+    → because (oldAs (x .reason .given .0 .0) (take (x .reason .given .0 .1 .0) (x .before .before .before .args .t1 .variables))) ≡ saidWhy (x .before .before .before .args .t1)
 old-said x = sym (ap (λ (r : Reason). saidReason r (x .before .before .before .args .t1 .variables)) (x .reason .given .1))
 
 new-said : (x : tie.After-reason2) → because (newPast (x .reason2 .given .0 .0) (x .reason2 .given .0 .1 .0)) ≡ saidWhy (x .before .before .before .args .t1)
@@ -54,7 +55,9 @@ same-length c = search needs
 
 returns-2 : tie.Need-returns-2
 unfolding word
-returns-2 c = why-given _ _ _ _ (old-said (c .before .before .before .before .before .before .before .before .before .before)) _ (omega arith) (c .result-word2 .ensures) (old-cells _ _ _ _ _ (held (c .before .before .before .before .before .before .before .before .before .before) .0) (c .before .before .before .give-variables .ensures))
+returns-2 c =
+    let b10 = c .before .before .before .before .before .before .before .before .before .before in
+    why-given _ _ _ _ (old-said (b10)) _ (omega arith) (c .result-word2 .ensures) (old-cells _ _ _ _ _ (held (b10) .0) (c .before .before .before .give-variables .ensures))
 
 enum-known-reason-2 : tie.Need-enum-known-reason-2
 enum-known-reason-2 c = search needs

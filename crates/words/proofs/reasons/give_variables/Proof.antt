@@ -26,7 +26,9 @@ same-length : tie.Need-same-length
 same-length c = search needs
 
 returns : tie.Need-returns
-returns c = gives-variables (c .before .before .before .before .before .before .args .variables .now) (c .before .before .before .before .before .before .args .out .now) _ (c .before .before .before .before .before .before .args .m) (c .before .before .before .before .before .before .pre .2) (c .before .before .copy .ensures)
+returns c =
+    let b6 = c .before .before .before .before .before .before in
+    gives-variables (b6 .args .variables .now) (b6 .args .out .now) _ (b6 .args .m) (b6 .pre .2) (c .before .before .copy .ensures)
 
 pub give-variables-spec : {M : Type 1} → statement M
 give-variables-spec =
