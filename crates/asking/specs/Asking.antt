@@ -8,7 +8,7 @@ use Rattle.text.specs.Digits.{Puts}
 use Rattle.text.specs.Places.{FieldEnds, restAt}
 use Rattle.replies.specs.Texts.{replyBytes, textRoom}
 use Rattle.asking.specs.Lines.{Meaning, meansCall, meansAnswer, meansFinish, meansNext, meansLoad}
-use Rattle.asking.specs.Lines.{meansInstance, meansCounts, longestLine}
+use Rattle.asking.specs.Lines.{meansInstance, meansCounts, meansWhy, longestLine}
 use Rattle.asking.specs.Saying.{Said, saidOf}
 
 -- what is asked behind a word of a line can be printed: its fields begin behind a place, and the text has room for a
@@ -50,6 +50,9 @@ nextMeant line at = meansNext (restAt line at)
 
 abbrev pub countsMeant : List ℕ → ℕ → Meaning
 countsMeant line at = meansCounts (restAt line at)
+
+abbrev pub whyMeant : List ℕ → ℕ → Meaning
+whyMeant line at = meansWhy (restAt line at)
 
 -- load and instance are lent out besides: what is said and what is left, on a space and an out
 abbrev pub loadSaid : List ℕ → ℕ → List ℕ → List ℕ → Said (List ℕ)

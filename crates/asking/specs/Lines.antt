@@ -1,16 +1,16 @@
--- What a line of a session means: one of the seven calls with its fields, or nothing (bad).
+-- What a line of a session means: one of the eight calls with its fields, or nothing (bad).
 use Prim.Native.Nat.{ℕ}
 use mathlib.Core.List.{List, [], _∷_}
 use lib.Dec.{leb}
 use lib.ListN.{length}
 use Rattle.basis.specs.Choice.{pick}
 use Rattle.forms.specs.Compact.{same}
-use Rattle.plain.specs.Requests.{Request, call, answer, finish, next, load, instance, counts}
+use Rattle.plain.specs.Requests.{Request, call, answer, finish, next, load, instance, counts, why}
 use Rattle.text.specs.Letters.{letters}
 use Rattle.text.specs.Fields.{Number, noNumber, someNumber, Cells, noCells, someCells}
 use Rattle.text.specs.Fields.{Fields, fields, firstNumber, behind, hexCells, onlyNumber}
 
--- the seven words
+-- the eight words
 abbrev pub wordCall : List ℕ
 wordCall = letters "call"
 
@@ -31,6 +31,9 @@ wordInstance = letters "instance"
 
 abbrev pub wordCounts : List ℕ
 wordCounts = letters "counts"
+
+abbrev pub wordWhy : List ℕ
+wordWhy = letters "why"
 
 -- a line has at most so many bytes, its newline not counted
 abbrev pub longestLine : ℕ
@@ -88,6 +91,9 @@ meansInstance fs out = oneNumber fs (λ a. instance a out)
 abbrev pub meansCounts : List (List ℕ) → Meaning
 meansCounts fs = noField fs counts
 
+abbrev pub meansWhy : List (List ℕ) → Meaning
+meansWhy fs = withCells (hexCells fs) why
+
 -- by the first word
 unfoldable pub wordMeans : Fields → List ℕ → Meaning
 wordMeans r out =
@@ -97,7 +103,8 @@ wordMeans r out =
     (pick (same (r .first) wordNext) (meansNext (r .others))
     (pick (same (r .first) wordLoad) (meansLoad (r .others) out)
     (pick (same (r .first) wordInstance) (meansInstance (r .others) out)
-    (pick (same (r .first) wordCounts) (meansCounts (r .others)) bad))))))
+    (pick (same (r .first) wordCounts) (meansCounts (r .others))
+    (pick (same (r .first) wordWhy) (meansWhy (r .others)) bad)))))))
 
 -- a line that is too long means nothing, however long it is
 unfoldable pub means : List ℕ → List ℕ → Meaning

@@ -6,6 +6,7 @@ use reads::counts;
 use reads::instance;
 use reads::load;
 use reads::next;
+use reasons::why;
 use replies::CELL_BYTES;
 use replies::print_answer;
 use replies::print_bad;
@@ -14,6 +15,7 @@ use replies::print_cells;
 use replies::print_counts;
 use replies::print_finish;
 use replies::print_next;
+use replies::print_why;
 use text::CellsRead;
 use text::Numeral;
 use text::fields::first_number;
@@ -23,7 +25,7 @@ ghost use mathlib.Core.Path.{_≡_};
 ghost use Rattle.basis.specs.Moments.{old, new};
 ghost use Rattle.asking.specs.Asking.{Askable, AskableCells, AskableOut};
 ghost use Rattle.asking.specs.Asking.{Asks, AsksReading};
-ghost use Rattle.asking.specs.Asking.{callMeant, answerMeant, finishMeant, nextMeant, countsMeant};
+ghost use Rattle.asking.specs.Asking.{callMeant, answerMeant, finishMeant, nextMeant, countsMeant, whyMeant};
 ghost use Rattle.asking.specs.Asking.{loadSaid, instanceSaid, LoadPrints, InstancePrints};
 
 // A line that means something has at most so many bytes, its newline not counted.
@@ -118,6 +120,19 @@ pub fn ask_instance(
     };
     let made = instance(space, number, out);
     print_cells(made, out, text)
+}
+
+// why, with cells.
+pub fn ask_why(line: &[u8], at: usize, space: &[u32], text: &mut [u8]) -> usize
+    requires { ⌜ AskableCells (now line) at (now text) ⌝ }
+    ensures { λ r. ⌜ AsksReading (whyMeant (old line) at) (old space) (old text) r (new text) ⌝ }
+{
+    let mut cells = [0u32; LINE_CELLS];
+    let CellsRead::Cells(n) = read_cells(line, at, &mut cells) else {
+        return print_bad(text);
+    };
+    let told = why(space, &cells[..n]);
+    print_why(told, text)
 }
 
 // counts, with no field: the line ends behind the word.

@@ -63,7 +63,7 @@ fn state_of(x: usize) -> State
 }
 
 // The path was found whole at a leaf whose link is s.
-fn call_old(space: &[u32], h: Head, leaf: usize, s: usize) -> CallAnswer
+pub fn call_old(space: &[u32], h: Head, leaf: usize, s: usize) -> CallAnswer
     requires { ⌜ Bounds (now space) h × (s ≤ h .subgoals) ⌝ }
     ensures { λ r. ⌜ says (saidCall r) ≡ calledOld (viewIn (old space) h) leaf s ⌝ }
 {

@@ -24,7 +24,7 @@ use Rattle.forms.proofs.FormLaws.{met-every, every-pairs-least}
 use Rattle.forms.proofs.ExactLaws.{terms-pairs}
 use Rattle.forms.proofs.RoundTrip.{form-numbered, form-size}
 use Rattle.pair_reader.specs.Storing.{numberedFrom, Stored, termsAt, TermsRan}
-use Rattle.convert.specs.Holds.{HoldsForm}
+use Rattle.convert.specs.Holds.{HoldsForm, HoldsVariables}
 use Rattle.pair_reader.proofs.StoringLaws.{numbered-length}
 use Rattle.pair_reader.proofs.PairSteps.{at-after, at-end}
 
@@ -146,8 +146,11 @@ module _ (arity : ℕ → ℕ) (m : ℕ) (s : List ℕ) where
         the-form : compactForm arity s ≡ numberedFrom [] (every compact (reads (shapeOf arity) s))
         the-form = form-numbered arity m s are-terms short ∙ numbered-whole (every compact (reads (shapeOf arity) s))
 
+        met-same : met [] (every compact (reads (shapeOf arity) s)) ≡ met [] s
+        met-same = met-every (reads (shapeOf arity) s) [] ∙ ap (met []) (sym (terms-pairs arity m s are-terms .1))
+
         variables : known ≡ length (met [] s)
-        variables = is-stored .count-at ∙ ap length (met-every (reads (shapeOf arity) s) [] ∙ ap (met []) (sym (terms-pairs arity m s are-terms .1)))
+        variables = is-stored .count-at ∙ ap length met-same
 
         form-end : length (compactForm arity s) ≡ end
         form-end = ap length the-form ∙ numbered-length (every compact (reads (shapeOf arity) s)) [] ∙ (omega (arith, is-stored .end-at))
@@ -158,10 +161,11 @@ module _ (arity : ℕ → ℕ) (m : ℕ) (s : List ℕ) where
             let g : 32 < length (met [] s) = omega (arith, variables) in
             rw (le-ltb 256 (length s) short, are-terms, lt-ltb 32 (length (met [] s)) g)
 
-        pub reading-form : known ≤ 32 → 3 * length s ≤ 2 * length form₀ → (Form end known ≡ reading arity (compactStored arity) m s) × HoldsForm (compactStored arity) s form (Form end known)
+        pub reading-form : known ≤ 32 → 3 * length s ≤ 2 * length form₀ → (Form end known ≡ reading arity (compactStored arity) m s) × HoldsForm (compactStored arity) s form (Form end known) × HoldsVariables s vars′ (Form end known)
         unfolding reading
         reading-form h k =
             let g : length (met [] s) ≤ 32 = omega (arith, variables) in (
               rw (le-ltb 256 (length s) short, are-terms, le-ltb 32 (length (met [] s)) g, form-end, variables),
               sets-taken form form₀ (compactForm arity s) end (is-stored .cells ∙ ap (sets form₀ 0) (sym the-form)) form-end (omega (arith, form-end, form-size arity m s are-terms short .0)),
+              is-stored .known ∙ met-same,
             )

@@ -33,7 +33,7 @@ use Rattle.pair_reader.proofs.StoringLaws.{stored-none, stored-append}
 use Rattle.form_reader.specs.Loading.{inOrder, metAfter, ordered, metIn}
 use Rattle.form_reader.proofs.FormSteps.{ordered-append, met-in-append, met-in-most}
 use Rattle.convert.specs.Scans.{duePast, Scanned}
-use Rattle.convert.specs.Holds.{HoldsForm, HoldsTerms}
+use Rattle.convert.specs.Holds.{HoldsForm, HoldsVariables, HoldsTerms}
 use Rattle.convert.proofs.ReadingLaws.{numbered-whole, sets-taken, malformed, crowded, accepted}
 use Rattle.convert.proofs.LoadingLaws.{ordered-numbered, unordered-numbered}
 use Rattle.convert.proofs.CopyLaws.{take-grow, copy-step}
@@ -125,11 +125,12 @@ module _ (arity : ℕ → ℕ) (m : ℕ) (s : List ℕ) (short : length s ≤ 25
     pub cells-crowded : 32 < known → Refusal 5 ≡ reading arity (pairStored arity) m s
     cells-crowded h = crowded arity (pairStored arity) m s short terms (omega (arith, known-is))
 
-    pub cells-form : known ≤ 32 → length s ≤ length form₀ → (n : ℕ) → n ≡ length s → (Form n known ≡ reading arity (pairStored arity) m s) × HoldsForm (pairStored arity) s form (Form n known)
+    pub cells-form : known ≤ 32 → length s ≤ length form₀ → (n : ℕ) → n ≡ length s → (Form n known ≡ reading arity (pairStored arity) m s) × HoldsForm (pairStored arity) s form (Form n known) × HoldsVariables s vars′ (Form n known)
     cells-form h room n e =
         let l : length (numbered s) ≡ n = numbered-length s ∙ sym e in (
           ap (λ (k : ℕ). Form k known) (sym l) ∙ ap (Form (length (numbered s))) known-is ∙ accepted arity (pairStored arity) m s short terms (omega (arith, known-is)),
           sets-taken form form₀ (numbered s) n (v .cells ∙ ap (λ (x : List ℕ). sets form₀ 0 (numberedFrom [] x)) all-cells ∙ ap (sets form₀ 0) (sym (numbered-whole s))) l (omega (arith, e)),
+          v .known ∙ ap (met []) all-cells,
         )
 
 -- the variables are no more than the cells
@@ -242,11 +243,11 @@ module _ (arity : ℕ → ℕ) (m : ℕ) (s vars₀ form₀ : List ℕ) (n : ℕ
     short-cells : length s ≤ 256
     short-cells = omega (arith, turn .whole, turn .short)
 
-    pub read-over : at < n → due ≡ 0 → (Refusal 3 ≡ reading arity (pairStored arity) m s) × HoldsForm (pairStored arity) s form (Refusal 3)
-    read-over h z = (cells-refused arity m s short-cells (scan-over arity m s at due (turn .scan) (omega (arith, turn .whole)) z), tt)
+    pub read-over : at < n → due ≡ 0 → (Refusal 3 ≡ reading arity (pairStored arity) m s) × HoldsForm (pairStored arity) s form (Refusal 3) × HoldsVariables s vars (Refusal 3)
+    read-over h z = (cells-refused arity m s short-cells (scan-over arity m s at due (turn .scan) (omega (arith, turn .whole)) z), tt, tt)
 
-    pub read-illegal : at < n → (more : ℕ) → more ≡ duePast due (shapeOf arity (getD s at 0)) → more ≡ 0 → (Refusal 3 ≡ reading arity (pairStored arity) m s) × HoldsForm (pairStored arity) s form (Refusal 3)
-    read-illegal h more e z = (cells-refused arity m s short-cells (scan-illegal arity m s at due (turn .scan) (omega (arith, turn .whole)) (sym e ∙ z)), tt)
+    pub read-illegal : at < n → (more : ℕ) → more ≡ duePast due (shapeOf arity (getD s at 0)) → more ≡ 0 → (Refusal 3 ≡ reading arity (pairStored arity) m s) × HoldsForm (pairStored arity) s form (Refusal 3) × HoldsVariables s vars (Refusal 3)
+    read-illegal h more e z = (cells-refused arity m s short-cells (scan-illegal arity m s at due (turn .scan) (omega (arith, turn .whole)) (sym e ∙ z)), tt, tt)
 
     pub read-next : at < n → 0 < due → (more : ℕ) → more ≡ duePast due (shapeOf arity (getD s at 0)) → (more ≡ 0 → ⊥) → more ≤ due + 255 → m ≤ n
         → (vars′ : List ℕ) (count′ : ℕ) (form′ : List ℕ) → Stored (getD s at 0 ∷ []) vars count form at vars′ count′ form′ (at + 1) → length form′ ≡ length form
@@ -275,14 +276,14 @@ module _ (arity : ℕ → ℕ) (m : ℕ) (s vars₀ form₀ : List ℕ) (n : ℕ
       ended : at ≡ length s
       ended = omega (arith, turn .whole, turn .within)
 
-      pub read-short : 0 < due → (Refusal 3 ≡ reading arity (pairStored arity) m s) × HoldsForm (pairStored arity) s form (Refusal 3)
-      read-short l = (cells-refused arity m s short-cells (scan-short arity m s at due (turn .scan) (omega (arith, ended)) l), tt)
+      pub read-short : 0 < due → (Refusal 3 ≡ reading arity (pairStored arity) m s) × HoldsForm (pairStored arity) s form (Refusal 3) × HoldsVariables s vars (Refusal 3)
+      read-short l = (cells-refused arity m s short-cells (scan-short arity m s at due (turn .scan) (omega (arith, ended)) l), tt, tt)
 
-      pub read-crowded : due ≤ 0 → 32 < count → (Refusal 5 ≡ reading arity (pairStored arity) m s) × HoldsForm (pairStored arity) s form (Refusal 5)
+      pub read-crowded : due ≤ 0 → 32 < count → (Refusal 5 ≡ reading arity (pairStored arity) m s) × HoldsForm (pairStored arity) s form (Refusal 5) × HoldsVariables s vars (Refusal 5)
       read-crowded z h =
-          (cells-crowded arity m s short-cells vars₀ form₀ vars form at count ended (turn .stored) (scan-whole arity m s at due (turn .scan) (omega (arith, ended)) (omega arith)) h, tt)
+          (cells-crowded arity m s short-cells vars₀ form₀ vars form at count ended (turn .stored) (scan-whole arity m s at due (turn .scan) (omega (arith, ended)) (omega arith)) h, tt, tt)
 
-      pub read-form : due ≤ 0 → count ≤ 32 → (Form n count ≡ reading arity (pairStored arity) m s) × HoldsForm (pairStored arity) s form (Form n count)
+      pub read-form : due ≤ 0 → count ≤ 32 → (Form n count ≡ reading arity (pairStored arity) m s) × HoldsForm (pairStored arity) s form (Form n count) × HoldsVariables s vars (Form n count)
       read-form z h =
           cells-form arity m s short-cells vars₀ form₀ vars form at count ended (turn .stored) (scan-whole arity m s at due (turn .scan) (omega (arith, ended)) (omega arith)) h
           (omega (arith, turn .whole, turn .form-room, turn .form-kept)) n (turn .whole)

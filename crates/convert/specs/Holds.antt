@@ -21,6 +21,11 @@ abbrev pub HoldsForm : StoredForm → List ℕ → List ℕ → Reading → Type
 HoldsForm s cs buffer (Form n v) = take n buffer ≡ s .form cs
 HoldsForm s cs buffer (Refusal r) = Unit {0}
 
+-- the variables of the cells stand in order of rank at the start of the buffer, if the cells were read
+abbrev pub HoldsVariables : List ℕ → List ℕ → Reading → Type 0
+HoldsVariables cs buffer (Form n v) = take v buffer ≡ met [] cs
+HoldsVariables cs buffer (Refusal r) = Unit {0}
+
 -- the pair form of the form's terms stands at the start of the buffer, if it was loaded
 abbrev pub HoldsTerms : StoredForm → List ℕ → List ℕ → Loading → Type 0
 HoldsTerms s fs buffer (Terms n) = take n buffer ≡ s .cells fs
@@ -36,18 +41,18 @@ RoomForForm cs vars form = length cs ≤ 256 → (length cs ≤ length vars) × 
 abbrev pub RoomForTerms : (form cells : List ℕ) → Type 0
 RoomForTerms form cells = length cells < 256 → 2 * length form ≤ length cells
 
--- m terms were read as they are defined to be, and the buffer holds their form
-abbrev pub ReadsAs : (ℕ → ℕ) → StoredForm → (m : ℕ) (cs buffer : List ℕ) → Reading → Type 0
-ReadsAs arity s m cs buffer r = (r ≡ reading arity s m cs) × HoldsForm s cs buffer r
+-- m terms were read as they are defined to be, and the buffers hold their variables and their form
+abbrev pub ReadsAs : (ℕ → ℕ) → StoredForm → (m : ℕ) (cs vars form : List ℕ) → Reading → Type 0
+ReadsAs arity s m cs vars form r = (r ≡ reading arity s m cs) × HoldsForm s cs form r × HoldsVariables cs vars r
 
 -- in the form of an edition, in compact form, in numbered pair form
-abbrev pub Reads : (e m : ℕ) (cs buffer : List ℕ) → Reading → Type 0
+abbrev pub Reads : (e m : ℕ) (cs vars form : List ℕ) → Reading → Type 0
 Reads e = ReadsAs (arityOf e) (storedOf e)
 
-abbrev pub ReadsLists : (e m : ℕ) (cs buffer : List ℕ) → Reading → Type 0
+abbrev pub ReadsLists : (e m : ℕ) (cs vars form : List ℕ) → Reading → Type 0
 ReadsLists e = ReadsAs (arityOf e) (compactStored (arityOf e))
 
-abbrev pub ReadsPairs : (e m : ℕ) (cs buffer : List ℕ) → Reading → Type 0
+abbrev pub ReadsPairs : (e m : ℕ) (cs vars form : List ℕ) → Reading → Type 0
 ReadsPairs e = ReadsAs (arityOf e) (pairStored (arityOf e))
 
 -- a form was loaded as it is defined to be, and the buffer holds its terms

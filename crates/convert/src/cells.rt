@@ -41,7 +41,7 @@ fn in_order(c: u32, count: usize) -> bool
 // Reads the m terms in s, and leaves them numbered at the start of form.
 pub fn read_cells(s: &[u32], m: usize, vars: &mut [u32], form: &mut [u32], edition: u32) -> Reading
     requires { ⌜ RoomForForm (now s) (now vars) (now form) ⌝ }
-    ensures { λ r. ⌜ ReadsPairs edition m (old s) (new form) r ⌝ }
+    ensures { λ r. ⌜ ReadsPairs edition m (old s) (new vars) (new form) r ⌝ }
 {
     let n = s.len();
     if MOST_CELLS < n {

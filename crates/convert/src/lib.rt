@@ -39,11 +39,11 @@ pub enum Loaded {
     Nothing,
 }
 
-// Reads the m terms in s, and leaves the form of them that the edition stores at the start of form. vars is for the
-// variables that are met.
+// Reads the m terms in s, and leaves the form of them that the edition stores at the start of form, and their variables
+// in order of rank at the start of vars.
 pub fn read_terms(s: &[u32], m: usize, vars: &mut [u32], form: &mut [u32], edition: u32) -> Reading
     requires { ⌜ RoomForForm (now s) (now vars) (now form) ⌝ }
-    ensures { λ r. ⌜ Reads edition m (old s) (new form) r ⌝ }
+    ensures { λ r. ⌜ Reads edition m (old s) (new vars) (new form) r ⌝ }
 {
     if forms::stores_pairs(edition) {
         return cells::read_cells(s, m, vars, form, edition);
@@ -54,7 +54,7 @@ pub fn read_terms(s: &[u32], m: usize, vars: &mut [u32], form: &mut [u32], editi
 // The same in compact form.
 fn read_compact(s: &[u32], m: usize, vars: &mut [u32], form: &mut [u32], edition: u32) -> Reading
     requires { ⌜ RoomForForm (now s) (now vars) (now form) ⌝ }
-    ensures { λ r. ⌜ ReadsLists edition m (old s) (new form) r ⌝ }
+    ensures { λ r. ⌜ ReadsLists edition m (old s) (new vars) (new form) r ⌝ }
 {
     let n = s.len();
     if MOST_CELLS < n {

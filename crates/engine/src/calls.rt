@@ -1,5 +1,5 @@
-// Fresh, the copy into edition 2, the eight calls, those of them that search with an index, the check and the build of
-// an index as C functions over the machine's own cells, each with one result word.
+// Fresh, carrying over and growing, the calls, those of them that search with an index, the check and the build of an
+// index as C functions over the machine's own cells, each with one result word.
 use basis::refusals::OUT;
 use store::CountsAnswer;
 use words::COUNTS;
@@ -13,6 +13,7 @@ use words::finish_word;
 use words::fresh_word;
 use words::join_word;
 use words::next_word;
+use words::reasons::give_reason;
 use words::refusal_word;
 use words::result_word;
 ghost use mathlib.Core.List.{[]};
@@ -20,6 +21,7 @@ ghost use Rattle.basis.specs.Moments.{old, new};
 ghost use Rattle.plain.specs.Requests as request;
 ghost use Rattle.words.specs.Words.{ReturnsFresh, Returns, ReturnsIndexed, ReturnsCounts, ReturnsCheck};
 ghost use Rattle.words.specs.Words.{ReturnsBuild, ReturnsCarry, ReturnsGrow};
+ghost use Rattle.words.specs.Why.{ReturnsWhy, ReturnsWhyIndexed};
 
 // ---- fresh, and the calls that write
 
@@ -186,6 +188,28 @@ pub extern "C" fn tables_counts(space: &[u32], out: &mut [u32]) -> u64
         }
         CountsAnswer::Refused(r) => return refusal_word(r),
     }
+}
+
+// Tells why a term is old or new. For old writes the number of its variables and the variables to the start of out, for
+// new how many of its leading tokens are shared; all else is judged before the room.
+#[no_mangle]
+pub extern "C" fn tables_why(space: &[u32], term: &[u32], out: &mut [u32]) -> u64
+    ensures { λ w. ⌜ ReturnsWhy (old space) (old term) w (old out) (new out) ⌝ }
+{
+    give_reason(reasons::why(space, term), out)
+}
+
+// The same, with an index.
+#[no_mangle]
+pub extern "C" fn tables_why_indexed(
+    space: &[u32],
+    index: &[u32],
+    term: &[u32],
+    out: &mut [u32],
+) -> u64
+    ensures { λ w. ⌜ ReturnsWhyIndexed (old index) (old space) (old term) w (old out) (new out) ⌝ }
+{
+    give_reason(reasons::why_indexed(space, term, index), out)
 }
 
 // Checks the whole space: refused by 9 where a record is broken, with the first that is as its value.

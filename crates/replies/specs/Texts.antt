@@ -85,13 +85,14 @@ replyText (detoured d) out = wordAndNumber textTried (d .tried)
 replyText (refused r) out = wordAndNumber textRefused r
 replyText (short n) out = wordAndNumber textRefused refusedShort
 
--- the room for any reply and its newline: a space and 8 digits for each cell of out, and so many bytes besides
+-- the room for any reply and its newline: a space and 8 digits for each cell of out, and so many bytes besides, which
+-- hold a reply of numbers and the variables of a reason, 32 at most
 abbrev pub replyBytes : ℕ
-replyBytes = 64
+replyBytes = 64 + (1 + cellDigits) * 32
 
 abbrev pub textRoom : ℕ → ℕ
 textRoom n = (1 + cellDigits) * n + replyBytes
 
--- a reply that prints no cells is printed at the start of a text, whatever out holds
+-- a reply that prints no cells of out is printed at the start of a text, whatever out holds
 abbrev pub PrintsReply : Reply → List ℕ → ℕ → List ℕ → Type 0
 PrintsReply q text end text′ = (out : List ℕ) → Puts 0 (replyText q out) text end text′

@@ -1,4 +1,5 @@
 // The line printed for what each call answers, put at the start of a text, without its newline.
+use basis::limits::MOST_VARIABLES;
 use basis::refusals::OUT;
 use forms::Answer;
 use store::AnswerAnswer;
@@ -7,7 +8,9 @@ use store::Counts;
 use store::CountsAnswer;
 use store::FinishAnswer;
 use store::NextAnswer;
+use store::Reason;
 use store::State;
+use store::WhyAnswer;
 use text::CELL_DIGITS;
 use text::DECIMAL;
 use text::digits::put;
@@ -21,6 +24,7 @@ ghost use lib.ListN.{length};
 ghost use Rattle.basis.specs.Moments.{old, new};
 ghost use Rattle.plain.specs.Requests.{cells, lacksNext};
 ghost use Rattle.store.specs.Replies.{saidState, saidCall, saidAnswer, saidFinish, saidNext, saidCells, saidCounts};
+ghost use Rattle.store.specs.Replies.{saidWhy, NamesHeld};
 ghost use Rattle.text.specs.Fields.{space};
 ghost use Rattle.text.specs.Digits.{wordAndNumber, Puts};
 ghost use Rattle.replies.specs.Texts.{textBad, textRefused, stateText, countsText};
@@ -29,8 +33,8 @@ ghost use Rattle.replies.specs.Texts.{replyText, replyBytes, textRoom, P
 // A cell is printed with a space before it.
 pub const CELL_BYTES: usize = 1 + CELL_DIGITS;
 
-// Besides its cells a reply has fewer bytes than this.
-pub const REPLY_BYTES: usize = 64;
+// Besides the cells of out a reply has fewer bytes than this: numbers, and the variables of a reason.
+pub const REPLY_BYTES: usize = 64 + CELL_BYTES * MOST_VARIABLES;
 
 // For a line that means nothing.
 pub fn print_bad(text: &mut [u8]) -> usize
@@ -138,6 +142,25 @@ pub fn print_counts(answer: CountsAnswer, text: &mut [u8]) -> usize
     match answer {
         CountsAnswer::Used(used) => return print_used(used, text),
         CountsAnswer::Refused(r) => return print_refused(r, text),
+    }
+}
+
+// Old with the variables as cells, or new with how many leading tokens are shared and by which subgoal.
+pub fn print_why(answer: WhyAnswer, text: &mut [u8]) -> usize
+    requires { ⌜ NamesHeld answer × (replyBytes ≤ length (now text)) ⌝ }
+    ensures { λ r. ⌜ PrintsReply (saidWhy answer) (old text) r (new text) ⌝ }
+{
+    let reason = answer.reason;
+    match reason {
+        Reason::Old(n, m) => {
+            let end = put_numbered(b"old", n, text, 0);
+            return put_cells(&answer.variables, m, text, end);
+        }
+        Reason::New(k, s) => {
+            let end = put_numbered(b"new", k, text, 0);
+            return put_field(s, DECIMAL, 1, text, end);
+        }
+        Reason::Refused(r) => return print_refused(r, text),
     }
 }
 

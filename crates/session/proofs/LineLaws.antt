@@ -14,11 +14,11 @@ use Rattle.text.specs.Fields.{Fields, fields, Number, noNumber, someNumber, Cel
 use Rattle.text.specs.Digits.{Puts}
 use Rattle.text.specs.Places.{restAt, EndsFirst}
 use Rattle.basis.proofs.SetsLaws.{sets-append}
-use Rattle.plain.specs.Requests.{Request, call, answer, finish, next, counts}
+use Rattle.plain.specs.Requests.{Request, call, answer, finish, next, counts, why}
 use Rattle.store.specs.Calls.{spaceStep}
-use Rattle.asking.specs.Lines.{Meaning, bad, asks, withCells, withNumber, oneNumber, twoNumbers, numberAndCells, noField, wordCall, wordAnswer, wordFinish, wordNext, wordLoad, wordInstance, wordCounts, wordMeans, means, meansCall, meansAnswer, meansFinish, meansNext, meansLoad, meansInstance, meansCounts}
+use Rattle.asking.specs.Lines.{Meaning, bad, asks, withCells, withNumber, oneNumber, twoNumbers, numberAndCells, noField, wordCall, wordAnswer, wordFinish, wordNext, wordLoad, wordInstance, wordCounts, wordWhy, wordMeans, means, meansCall, meansAnswer, meansFinish, meansNext, meansLoad, meansInstance, meansCounts, meansWhy}
 use Rattle.text.specs.Cutting.{newline}
-use Rattle.replies.specs.Texts.{textRoom}
+use Rattle.replies.specs.Texts.{replyBytes, textRoom}
 use Rattle.asking.specs.Saying.{Said, outLeft, saidOf}
 use Rattle.asking.specs.Asking.{Prints}
 use Rattle.asking.proofs.AskingLaws.{bad-out, asks-out}
@@ -54,6 +54,9 @@ module _ (space out : List ℕ) where
   call-keeps : (fs : List (List ℕ)) → Keeps (withCells (hexCells fs) call)
   call-keeps fs = cells-keep call (λ ks o. refl) (hexCells fs)
 
+  why-keeps : (fs : List (List ℕ)) → Keeps (withCells (hexCells fs) why)
+  why-keeps fs = cells-keep why (λ ks o. refl) (hexCells fs)
+
   answer-keeps : (fs : List (List ℕ)) → Keeps (numberAndCells fs answer)
   answer-keeps fs = number-keeps (λ n. withCells (hexCells (behind fs)) (answer n)) (λ n. cells-keep (answer n) (λ ks o. refl) (hexCells (behind fs))) (firstNumber fs)
 
@@ -81,6 +84,7 @@ meansBy keyword.Next fs out = meansNext fs
 meansBy keyword.Load fs out = meansLoad fs out
 meansBy keyword.Instance fs out = meansInstance fs out
 meansBy keyword.Counts fs out = meansCounts fs
+meansBy keyword.Why fs out = meansWhy fs
 meansBy keyword.Other fs out = bad
 
 keyword-means : (r : Fields) (out : List ℕ) → wordMeans r out ≡ meansBy (keywordOf (r .first)) (r .others) out
@@ -92,7 +96,8 @@ keyword-means r out =
     by-cases (same (r .first) wordNext) (λ d. simp (a, b, c, d)) (λ d.
     by-cases (same (r .first) wordLoad) (λ e. simp (a, b, c, d, e)) (λ e.
     by-cases (same (r .first) wordInstance) (λ f. simp (a, b, c, d, e, f)) (λ f.
-    by-cases (same (r .first) wordCounts) (λ g. simp (a, b, c, d, e, f, g)) (λ g. simp (a, b, c, d, e, f, g))))))))
+    by-cases (same (r .first) wordCounts) (λ g. simp (a, b, c, d, e, f, g)) (λ g.
+    by-cases (same (r .first) wordWhy) (λ h. simp (a, b, c, d, e, f, g, h)) (λ h. simp (a, b, c, d, e, f, g, h)))))))))
 
 -- each keyword by its own test and those before it
 module _ (w : List ℕ) where
@@ -129,8 +134,12 @@ module _ (w : List ℕ) where
               pub is-counts : Is wordCounts → keyword.Counts ≡ keywordOf w
               is-counts t = simp (n1, n2, n3, n4, n5, n6, t)
 
-              pub is-other : Isnt wordCounts → keyword.Other ≡ keywordOf w
-              is-other t = simp (n1, n2, n3, n4, n5, n6, t)
+              module _ (n7 : Isnt wordCounts) where
+                pub is-why : Is wordWhy → keyword.Why ≡ keywordOf w
+                is-why t = simp (n1, n2, n3, n4, n5, n6, n7, t)
+
+                pub is-other : Isnt wordWhy → keyword.Other ≡ keywordOf w
+                is-other t = simp (n1, n2, n3, n4, n5, n6, n7, t)
 
 -- a line whose first word, up to a place, is this keyword
 pub line-means : (line out : List ℕ) (at : ℕ) (k : Keyword) → EndsFirst line at → k ≡ keywordOf (take at line)
@@ -150,6 +159,7 @@ Silent keyword.Next = Unit
 Silent keyword.Load = ⊥
 Silent keyword.Instance = ⊥
 Silent keyword.Counts = Unit
+Silent keyword.Why = Unit
 Silent keyword.Other = Unit
 
 silent-keeps : (space out : List ℕ) (fs : List (List ℕ)) (k : Keyword) → Silent k → Keeps space out (meansBy k fs out)
@@ -160,6 +170,7 @@ silent-keeps space out fs keyword.Next u = next-keeps space out fs
 silent-keeps space out fs keyword.Load u = absurd u
 silent-keeps space out fs keyword.Instance u = absurd u
 silent-keeps space out fs keyword.Counts u = counts-keeps space out fs
+silent-keeps space out fs keyword.Why u = why-keeps space out fs
 silent-keeps space out fs keyword.Other u = bad-keeps space out
 
 -- what the call of its keyword prints and leaves is what the line asks for
@@ -217,14 +228,14 @@ response-parts n text space out r e =
 
 -- ---- room
 
-pub room-short : (cells bytes : ℕ) → bytes < 64 → false ≡ leb (textRoom cells) bytes
+pub room-short : (cells bytes : ℕ) → bytes < replyBytes → false ≡ leb (textRoom cells) bytes
 room-short cells bytes h = sym (lt-leb (textRoom cells) bytes (omega arith))
 
-pub room-left : (cells bytes : ℕ) → 64 ≤ bytes → leb cells ((bytes - 64) / 9) ≡ leb (textRoom cells) bytes
+pub room-left : (cells bytes : ℕ) → replyBytes ≤ bytes → leb cells ((bytes - replyBytes) / 9) ≡ leb (textRoom cells) bytes
 room-left cells bytes h =
-    by-cases (leb cells ((bytes - 64) / 9))
-    (λ t. t ∙ sym (le-leb (textRoom cells) bytes (omega (arith, leb-true cells ((bytes - 64) / 9) t))))
-    (λ t. t ∙ sym (lt-leb (textRoom cells) bytes (omega (arith, leb-false cells ((bytes - 64) / 9) t))))
+    by-cases (leb cells ((bytes - replyBytes) / 9))
+    (λ t. t ∙ sym (le-leb (textRoom cells) bytes (omega (arith, leb-true cells ((bytes - replyBytes) / 9) t))))
+    (λ t. t ∙ sym (lt-leb (textRoom cells) bytes (omega (arith, leb-false cells ((bytes - replyBytes) / 9) t))))
 
 pub line-within : (bytes text after : List ℕ) (end : ℕ) → Puts 0 bytes text end after → end + 1 ≤ length (set after end newline)
 line-within bytes text after end p = omega (arith, p .2, length-set after end newline, ap length (p .1) ∙ length-sets text 0 bytes)

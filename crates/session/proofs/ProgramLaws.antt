@@ -28,7 +28,7 @@ use Rattle.text.specs.Cutting.{newline, Lines, linesFrom, lastLine, linesOf, co
 use Rattle.text.specs.declared.Taking.{Taking}
 use Rattle.text.specs.declared.Taking.the-variants.{Line, More}
 use Rattle.text.proofs.CuttingLaws.{keeps-more, lines-end, lines-on, taking-end, taking-on, rest-behind}
-use Rattle.asking.specs.Lines.{Meaning, bad, asks, withCells, withNumber, longestLine, meansCounts, wordMeans, means, wordCall, wordAnswer, wordFinish, wordNext, wordLoad, wordInstance, wordCounts}
+use Rattle.asking.specs.Lines.{Meaning, bad, asks, withCells, withNumber, longestLine, meansCounts, wordMeans, means, wordCall, wordAnswer, wordFinish, wordNext, wordLoad, wordInstance, wordCounts, wordWhy}
 use Rattle.replies.specs.Texts.{textRoom}
 use Rattle.session.specs.Numbers.{sessionNodes, sessionSubgoals, sessionAnswers, startSpace}
 use Rattle.asking.specs.Saying.{Said, outLeft, saidOf}
@@ -114,7 +114,8 @@ module _ (out : List ℕ) where
       (number-lends (λ n. withNumber (onlyNumber (behind fs)) (λ k. asks (next n k))) (λ n. number-lends (λ k. asks (next n k)) (λ k. refl) (onlyNumber (behind fs))) (firstNumber fs))
       (picks-lend (same (r .first) wordLoad) _ _ (number-lends (λ a. asks (load a out)) (λ a. refl) (onlyNumber fs))
       (picks-lend (same (r .first) wordInstance) _ _ (number-lends (λ a. asks (instance a out)) (λ a. refl) (onlyNumber fs))
-      (picks-lend (same (r .first) wordCounts) _ _ (counts-lend fs) tt))))))
+      (picks-lend (same (r .first) wordCounts) _ _ (counts-lend fs)
+      (picks-lend (same (r .first) wordWhy) _ _ (cells-lend why (λ ks. refl) (hexCells fs)) tt)))))))
 
   line-lends : (line : List ℕ) → Lends out (means line out)
   unfolding means

@@ -69,8 +69,8 @@ cut = (refl, refl, refl)
 -- the program's numbers: its table takes all its space, and its text has room for any reply
 pub numbers :
     (endOffset (sizesOf sessionEdition) sessionNodes sessionSubgoals sessionAnswers ≡ spaceCells)
-    × (textRoom outCells ≡ 73792)
-    × (textBytes ≡ 73792)
+    × (textRoom outCells ≡ 74080)
+    × (textBytes ≡ 74080)
 unfolding subgoalWidth answerWidth
 numbers = (refl, refl, refl)
 
@@ -78,10 +78,11 @@ numbers = (refl, refl, refl)
 pub keywords :
     (keywordOf (letters "load") ≡ keyword.Load)
     × (keywordOf (letters "counts") ≡ keyword.Counts)
+    × (keywordOf (letters "why") ≡ keyword.Why)
     × (keywordOf (letters "loads") ≡ keyword.Other)
     × (keywordOf [] ≡ keyword.Other)
 unfolding same
-keywords = (refl, refl, refl, refl)
+keywords = (refl, refl, refl, refl, refl)
 
 -- the worked session
 abbrev sessionInput : List ℕ

@@ -7,7 +7,7 @@ use Rattle.store.specs.Calls.{spaceStep}
 use Rattle.text.specs.Digits.{Puts}
 use Rattle.text.specs.Fields.{fields}
 use Rattle.asking.specs.Lines.{wordMeans, means}
-use Rattle.asking.specs.Lines.{wordCall, wordAnswer, wordFinish, wordNext, wordLoad, wordInstance, wordCounts}
+use Rattle.asking.specs.Lines.{wordCall, wordAnswer, wordFinish, wordNext, wordLoad, wordInstance, wordCounts, wordWhy}
 use Rattle.asking.specs.Saying.{Said, saidOf}
 use Rattle.session.specs.declared.Keyword.{Keyword}
 use Rattle.session.specs.declared.Keyword.the-variants as keyword
@@ -21,7 +21,8 @@ keywordOf w =
     (pick (same w wordNext) keyword.Next
     (pick (same w wordLoad) keyword.Load
     (pick (same w wordInstance) keyword.Instance
-    (pick (same w wordCounts) keyword.Counts keyword.Other))))))
+    (pick (same w wordCounts) keyword.Counts
+    (pick (same w wordWhy) keyword.Why keyword.Other)))))))
 
 -- what is said of a line by its first word, and of a line of any length; and that it is put at the start of the text
 abbrev pub wordSaid : List ℕ → List ℕ → List ℕ → Said (List ℕ)

@@ -3,3 +3,4 @@ pub mod Session
 pub mod Keywords
 pub mod Program
 pub mod Examples
+pub mod WhyExamples

@@ -9,6 +9,7 @@ use asking::ask_finish;
 use asking::ask_instance;
 use asking::ask_load;
 use asking::ask_next;
+use asking::ask_why;
 use replies::CELL_BYTES;
 use replies::REPLY_BYTES;
 use replies::print_bad;
@@ -33,6 +34,7 @@ pub enum Keyword {
     Load,
     Instance,
     Counts,
+    Why,
     Other,
 }
 
@@ -61,6 +63,9 @@ fn keyword_of(word: &[u8]) -> Keyword
     if is_word(word, b"counts") {
         return Keyword::Counts;
     }
+    if is_word(word, b"why") {
+        return Keyword::Why;
+    }
     Keyword::Other
 }
 
@@ -81,6 +86,7 @@ fn reply(line: &[u8], space: &mut [u32], out: &mut [u32], text: &mut [u8]) -> us
         Keyword::Load => ask_load(line, at, space, out, text),
         Keyword::Instance => ask_instance(line, at, space, out, text),
         Keyword::Counts => ask_counts(line, at, space, text),
+        Keyword::Why => ask_why(line, at, space, text),
         Keyword::Other => print_bad(text),
     }
 }

@@ -5,7 +5,7 @@ use mathlib.Core.Path.{_≡_, refl, sym}
 use native.Mathlib.Omega.{arith}
 use lib.ListN.{length}
 use borrow.Author.Tests.{lt-leb}
-use Rattle.plain.specs.Requests.{Request, call, answer, finish, Reply, lent}
+use Rattle.plain.specs.Requests.{Request, call, answer, finish, why, Reply, lent}
 use Rattle.space.specs.Heading.{spaceHeader}
 use Rattle.space.specs.declared.Header.{Header}
 use Rattle.space.specs.declared.Header.the-variants as header
@@ -43,6 +43,10 @@ module _ (find : Finding) where
     pub answer-answers : (s : ℕ) (t : List ℕ) → Steps find cs (answer s t) r cs′ → AnswersBy find cs (answer s t) r [] cs′
     unfolding lent
     answer-answers s t k = (k .0, step-none cs (answer s t) refl, k .1)
+
+    pub why-answers : (t : List ℕ) → Steps find cs (why t) r cs′ → AnswersBy find cs (why t) r [] cs′
+    unfolding lent
+    why-answers t k = (k .0, step-none cs (why t) refl, k .1)
 
     pub finish-answers : (s : ℕ) → Steps find cs (finish s) r cs′ → AnswersBy find cs (finish s) r [] cs′
     unfolding lent

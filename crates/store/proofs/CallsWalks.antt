@@ -38,6 +38,7 @@ pub record EndsWhole (t : Trie) (n : ℕ) : Type 0 where
 
 pub record EndsBefore (t : Trie) (parent last : ℕ) (ys left : List ℕ) : Type 0 where
   pub parent-within : parent < t .nodes
+  pub parent-judged : sound t parent ≡ true
   pub last-within : last < t .nodes
   pub fewer : length left ≤ length ys
   pub left-is : drop (length ys - length left) ys ≡ left
@@ -72,6 +73,7 @@ module _ {find : Finding} (finds : Finds find) where
       let j : length (x ∷ xs) - length left ≡ suc (length xs - length left) = omega arith in
       record {
         parent-within = r .parent-within;
+        parent-judged = r .parent-judged;
         last-within = r .last-within;
         fewer = omega arith;
         left-is = ap (λ (k : ℕ). drop k (x ∷ xs)) j ∙ r .left-is;
@@ -84,6 +86,7 @@ module _ {find : Finding} (finds : Finds find) where
       let j : length (x ∷ xs) - length (x ∷ xs) ≡ 0 = omega arith in
       rw (← a, ← b, ← d) (record {
         parent-within = f .parent-within;
+        parent-judged = s;
         last-within = f .last-within;
         fewer = omega arith;
         left-is = ap (λ (i : ℕ). drop i (x ∷ xs)) j;

@@ -87,5 +87,5 @@ FormIn form (Refusal r) = Unit
 -- what becomes of the terms, whichever they are, that were read into a form
 abbrev pub DoesRead : Finding → List ℕ → Head → ℕ → Subgoal → Reading → List ℕ → Reply → List ℕ → Type 0
 DoesRead find before h s g read form r after =
-    (terms : List ℕ) → Reads (h .edition) (g .variables) terms form read
+    (terms vars : List ℕ) → Reads (h .edition) (g .variables) terms vars form read
     → Does before h (answeredTerms find h s (g .variables) terms) r after

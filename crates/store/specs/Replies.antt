@@ -1,6 +1,10 @@
 -- What each answer of the code says: the number and values that the request's paper gives for each case.
+use Prim.Native.Nat.{ℕ, _≤_}
+use mathlib.Core.List.{List}
+use mathlib.Core.Path.{_≡_}
+use lib.ListN.{length, take}
 use Rattle.plain.specs.Requests.{State, Open, Finished, Reply, new, oldSubgoal, oldAnswer, done, at}
-use Rattle.plain.specs.Requests.{lacksNext, cells, used, joined, refused, short}
+use Rattle.plain.specs.Requests.{lacksNext, cells, used, joined, oldAs, newPast, because, refused, short}
 use Rattle.forms.specs.declared.Answer.{Answer}
 use Rattle.forms.specs.declared.Answer.the-variants as converted
 use Rattle.store.specs.declared.State as declared-state
@@ -15,6 +19,9 @@ use Rattle.store.specs.declared.NextAnswer.{NextAnswer}
 use Rattle.store.specs.declared.NextAnswer.the-variants as next
 use Rattle.store.specs.declared.JoinAnswer.{JoinAnswer}
 use Rattle.store.specs.declared.JoinAnswer.the-variants as join
+use Rattle.store.specs.declared.Reason as declared-reason
+use Rattle.store.specs.declared.Reason.the-variants as reason
+use Rattle.store.specs.declared.WhyAnswer.{WhyAnswer}
 use Rattle.store.specs.declared.CountsAnswer.{CountsAnswer}
 use Rattle.store.specs.declared.CountsAnswer.the-variants as counts
 
@@ -44,6 +51,25 @@ saidNext (next.Refused r) = refused r
 abbrev pub saidJoin : JoinAnswer → Reply
 saidJoin (join.Joined n) = joined n
 saidJoin (join.Refused r) = refused r
+
+-- the variables are the first of some cells
+abbrev pub saidReason : declared-reason.Reason → List ℕ → Reply
+saidReason (reason.Old n k) vs = because (oldAs n (take k vs))
+saidReason (reason.New k s) vs = because (newPast k s)
+saidReason (reason.Refused r) vs = refused r
+
+abbrev pub saidWhy : WhyAnswer → Reply
+saidWhy a = saidReason (a .reason) (a .variables)
+
+-- these cells have as many variables as the reason says, and no more than a term may have
+abbrev pub NamedIn : List ℕ → declared-reason.Reason → Type 0
+NamedIn vs (reason.Old n k) = (k ≤ length vs) × (k ≤ 32)
+NamedIn vs (reason.New k s) = Unit {0}
+NamedIn vs (reason.Refused r) = Unit {0}
+
+-- the variables that why answers with are in cells for as many as a term may have
+abbrev pub NamesHeld : WhyAnswer → Type 0
+NamesHeld a = (length (a .variables) ≡ 32) × NamedIn (a .variables) (a .reason)
 
 -- load and instance answer as the converters do
 abbrev pub saidCells : Answer → Reply

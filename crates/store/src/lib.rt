@@ -1,5 +1,6 @@
-// What the eight calls on a space answer. What each decides and writes is defined in specs; the code that does it is in
-// the crates above: calling, answering, reads and join.
+// What the calls on a space answer. What each decides and writes is defined in specs; the code that does it is in the
+// crates above: calling, answering, reads, join and reasons.
+use basis::limits::MOST_VARIABLES;
 
 // A subgoal is open or finished.
 pub enum State {
@@ -39,6 +40,20 @@ pub enum NextAnswer {
 pub enum JoinAnswer {
     Joined(u32),
     Refused(u32),
+}
+
+// Why a term is old or new. Old: its subgoal's number, and how many variables it has. New: how many of its leading
+// tokens some subgoal shares, and the lowest subgoal that shares them; 0 and 0 where none shares any.
+pub enum Reason {
+    Old(u32, usize),
+    New(u32, u32),
+    Refused(u32),
+}
+
+// What why answers: the reason, and the variables of an old term in order of rank.
+pub struct WhyAnswer {
+    pub reason: Reason,
+    pub variables: [u32; MOST_VARIABLES],
 }
 
 // Nodes, subgoals and answers used.

@@ -20,6 +20,7 @@ fn say_calls() {
     say(b"  load ANSWER\n");
     say(b"  instance ANSWER\n");
     say(b"  counts\n");
+    say(b"  why CELLS\n");
 }
 
 fn say_fields() {

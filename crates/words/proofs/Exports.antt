@@ -1,19 +1,27 @@
 -- Exports that each meet their contract are a history of calls, so their words are those of the plain table's replies.
-use Prim.Native.Nat.{ℕ}
-use mathlib.Core.Bool.{true}
+use Prim.Native.Nat.{ℕ, _-_}
+use mathlib.Core.Bool.{Bool, true, false, _&&_}
 use mathlib.Core.List.{List, [], _∷_, map, zipWith}
 use mathlib.Core.Path.{_≡_, refl, sym, ap, _∙_, subst}
 use native.Mathlib.Omega.{arith}
-use Rattle.plain.specs.Coding.{codingOf}
-use Rattle.plain.specs.Requests.{Request, counts, lent, Seen}
+use lib.Dec.{eqb, ltb}
+use lib.ListN.{length}
+use Rattle.basis.specs.Choice.{pick}
+use Rattle.forms.specs.Numbering.{met}
+use Rattle.plain.specs.Coding as coding
+use Rattle.plain.specs.Coding.{codingOf, Reading}
+use Rattle.plain.specs.Requests.{Request, counts, why, lent, newPast, because, Reply, refused, Seen}
 use Rattle.plain.specs.Table.{tableTrace, editionTrace}
 use Rattle.space.specs.declared.FreshAnswer.{FreshAnswer}
 use Rattle.space.specs.declared.FreshAnswer.the-variants.{Done, Refused}
 use Rattle.space.specs.Heading.{spaceHeader}
 use Rattle.space.specs.declared.Header.{Header}
 use Rattle.space.specs.declared.Header.the-variants as header
+use Rattle.space.specs.Layout.{sizesOf}
 use Rattle.trie.specs.Siblings.{searchChildren}
-use Rattle.store.specs.Decisions.{decideBy}
+use Rattle.trie.specs.Walks.{Walk, whole, stopped, damaged, Finding, walkBy}
+use Rattle.store.specs.Views.{View, viewOf, subgoalTrie}
+use Rattle.store.specs.Decisions.{Decision, says, refuses, soundSubgoal, Way, astray, leads, firstsFrom, namedBy, newAt, reasonedAt, reasonedBy, decideBy}
 use Rattle.store.specs.Changes.{changeBy}
 use Rattle.store.specs.Calls.{outAfter, underBy, underAnyBy, spaceStepBy, spaceStep, countedCells}
 use Rattle.agreement.specs.History.{alone, wayOf, Made, Meets, History, asked, seenOf}
@@ -25,7 +33,8 @@ use Rattle.carrying.specs.Recoding.{widening}
 use Rattle.carrying.specs.Carrying.{carried}
 use Rattle.carrying.proofs.Theorems.{carries}
 use Rattle.words.specs.Words.{word, saidFresh, countsReply, countsOut, wordCheck}
-use Rattle.words.specs.Exports.{Export, callOf, countsInto, requestOf, ExportMade, MeetsExport, Exports, exportsOf, requestsOf, SeenWord, seenExport, seenAs}
+use Rattle.words.specs.Why.{whyReply, whyOut}
+use Rattle.words.specs.Exports.{Export, callOf, countsInto, whyInto, requestOf, ExportMade, MeetsExport, Exports, exportsOf, requestsOf, SeenWord, seenExport, seenAs}
 use Rattle.words.specs.Exports.{ExportHistories, WholeExportHistories, CarriedExportHistories, ExportsLived, FreshZero, CheckZero, CarryZero}
 
 -- ---- word 0
@@ -84,6 +93,13 @@ call-made before (countsInto room) w out after h = record {
   asks = refl;
   shows = rw (h .0 .2, h .0 .3) refl;
 }
+call-made before (whyInto term room b) w out after h = record {
+  made = record { request = why term; beside = b; reply = h .0 .0; out = []; after = after };
+  meets = (h .0 .1 .0, h .0 .1 .1, h .1 ∙ h .0 .1 .2);
+  leaves = refl;
+  asks = refl;
+  shows = rw (h .0 .2 .0, h .0 .2 .1) refl;
+}
 
 -- what a list of exports makes of what was seen of its calls
 abbrev inWords : List ExportMade → List Seen → List SeenWord
@@ -132,6 +148,51 @@ counts-kept : (cs : List ℕ) → ([] ≡ spaceStep cs counts .out) × (cs ≡ s
 unfolding spaceStepBy
 counts-kept cs = counts-under cs (spaceHeader cs)
 
+-- why says its reply and changes nothing
+
+abbrev Says : Decision → Type 0
+Says d = (r : Reply) × (d ≡ says r)
+
+either-says : (b : Bool) (d e : Decision) → Says d → Says e → Says (pick b d e)
+either-says true d e x y = x
+either-says false d e x y = y
+
+module _ (v : View) where
+  named-says : (leaf : ℕ) (say : ℕ → Reply) → Says (namedBy v leaf say)
+  unfolding namedBy
+  named-says leaf say =
+      let s = v .node leaf .link in
+      either-says (ltb 0 s && soundSubgoal v s && eqb (v .subgoal s .leaf) leaf) (says (say s)) (refuses 9) (say s, refl) (refused 9, refl)
+
+  new-says : (n : ℕ) (x : Way) → Says (newAt v n x)
+  unfolding newAt
+  new-says n astray = (refused 9, refl)
+  new-says n (leads leaf) = named-says leaf _
+
+  at-says : (vs w : List ℕ) (x : Walk) → Says (reasonedAt v vs w x)
+  unfolding reasonedAt
+  at-says vs w (whole leaf) = named-says leaf _
+  at-says vs w (stopped parent last left) =
+      let n = length w - length left in
+      either-says (eqb n 0) (says (because (newPast 0 0))) (newAt v n (firstsFrom v (v .nodes) parent)) (because (newPast 0 0), refl) (new-says n (firstsFrom v (v .nodes) parent))
+  at-says vs w damaged = (refused 9, refl)
+
+  reasoned-says : (find : Finding) (term : List ℕ) (x : Reading) → Says (reasonedBy find v term x)
+  unfolding reasonedBy
+  reasoned-says find term (coding.refused r) = (refused r, refl)
+  reasoned-says find term (coding.accepted w m) = at-says (met [] term) w (walkBy find (subgoalTrie v) 0 w)
+
+why-under : (find : Finding) (cs term : List ℕ) (x : Header) → ([] ≡ underAnyBy find cs (why term) x .out) × (cs ≡ underAnyBy find cs (why term) x .state)
+unfolding underAnyBy underBy decideBy lent changeBy outAfter
+why-under find cs term (header.Sound h) =
+    let k = reasoned-says (viewOf (sizesOf (h .edition)) cs h) find term (codingOf (h .edition) .called term) in
+    rw (k .1) (refl, refl)
+why-under find cs term (header.Refused r) = (refl, refl)
+
+why-kept : (find : Finding) (cs term : List ℕ) → ([] ≡ spaceStepBy find cs (why term) .out) × (cs ≡ spaceStepBy find cs (why term) .state)
+unfolding spaceStepBy
+why-kept find cs term = why-under find cs term (spaceHeader cs)
+
 export-lived : (before : List ℕ) (x : Export) → (w : ℕ) × (out : List ℕ) × (after : List ℕ) × MeetsExport before x w out after
 export-lived before (callOf q b) =
     let r = spaceStepBy (wayOf before b) before q in
@@ -140,6 +201,10 @@ export-lived before (countsInto room) =
     let r = spaceStep before counts .reply in
     let k = counts-kept before in
     (word (countsReply r room), countsOut r room, before, ((r, (refl, k .0, k .1), refl, refl), refl))
+export-lived before (whyInto term room b) =
+    let r = spaceStepBy (wayOf before b) before (why term) .reply in
+    let k = why-kept (wayOf before b) before term in
+    (word (whyReply r room), whyOut r room, before, ((r, (refl, k .0, k .1), (refl, refl)), refl))
 
 pub exports-lived : ExportsLived
 unfolding Exports

@@ -1,5 +1,6 @@
 pub mod ReplyBounds
 pub mod WordLaws
+pub mod WhyLaws
 pub mod FaultBounds
 pub mod BuildBounds
 pub mod CarryBounds

@@ -1,9 +1,10 @@
--- Examples of the result words and of `tables_counts`, computed.
+-- Examples of the result words, of `tables_counts` and of `tables_why`, computed.
 use Prim.Native.Nat.{ℕ, _+_, _*_, _^_}
 use mathlib.Core.List.{List, [], _∷_}
 use mathlib.Core.Path.{_≡_, refl}
+use lib.ListN.{replicate}
 use Rattle.plain.specs.Requests.{Open, Finished, finish, next, new, oldSubgoal, oldAnswer, done, at, noneYet, noMore}
-use Rattle.plain.specs.Requests.{cells, joined, refused, short}
+use Rattle.plain.specs.Requests.{cells, joined, oldAs, newPast, because, refused, short}
 use Rattle.basis.specs.Editions.{knownEdition}
 use Rattle.space.specs.Layout.{sizes, subgoalWidth, answerWidth}
 use Rattle.space.specs.Heading.{inRange, capacity, whole, counted, headerOf, spaceHeader}
@@ -13,6 +14,7 @@ use Rattle.store.specs.Calls.{reply, underBy, underAnyBy, spaceStep, spaceStepB
 use Rattle.store.specs.Building as build
 use Rattle.agreement.specs.Faults.{nothing, heading, node, subgoal, answer}
 use Rattle.words.specs.Words.{word, saidFresh, counting, countsReply, countsOut, countsOf, wordCheck, wordBuild}
+use Rattle.words.specs.Why.{reasoning, reasonCells, whyReply, whyOut}
 
 -- a fresh space for four nodes, two subgoals and one answer: 43 cells
 abbrev space : List ℕ
@@ -84,3 +86,17 @@ pub counts :
 unfolding word countsReply countsOut counting freshCells inRange capacity whole counted knownEdition headerOf
     spaceHeader subgoalWidth answerWidth decideBy reply underBy underAnyBy spaceStepBy
 counts = (refl, refl, refl, refl, refl, refl)
+
+pub whys :
+    -- old with two variables, and new after four tokens; the cells behind those written stay
+    (word (whyReply (because (oldAs 5 (7 ∷ 8 ∷ []))) (replicate 33 9)) ≡ 12 * 2 ^ 32 + 5)
+    × (whyOut (because (oldAs 5 (7 ∷ 8 ∷ []))) (replicate 33 9) ≡ 2 ∷ 7 ∷ 8 ∷ replicate 30 9)
+    × (word (whyReply (because (newPast 4 5)) (replicate 33 9)) ≡ 13 * 2 ^ 32 + 5)
+    × (whyOut (because (newPast 4 5)) (replicate 33 9) ≡ 4 ∷ replicate 32 9)
+    -- 32 cells are too few for any reason, and stay
+    × (word (whyReply (because (newPast 4 5)) (replicate 32 9)) ≡ 268 * 2 ^ 32 + 33)
+    × (whyOut (because (newPast 4 5)) (replicate 32 9) ≡ replicate 32 9)
+    -- every other refusal comes first
+    × (word (whyReply (refused 6) []) ≡ 262 * 2 ^ 32)
+unfolding word whyReply whyOut reasoning reasonCells
+whys = (refl, refl, refl, refl, refl, refl, refl)

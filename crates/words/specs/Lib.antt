@@ -1,4 +1,5 @@
 pub mod Words
+pub mod Why
 pub mod Bounded
 pub mod Exports
 pub mod Listings

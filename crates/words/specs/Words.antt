@@ -67,7 +67,8 @@ ReturnsGrow nodes subgoals answers before w after =
     (w ≡ word (saidFresh (growReply nodes subgoals answers before)))
     × (after ≡ growSpace nodes subgoals answers before)
 
--- An export returns w: the word of what the call answers. The contract of every exported call but `tables_counts`.
+-- An export returns w: the word of what the call answers. The contract of every exported call but `tables_counts` and
+-- `tables_why` (Why.antt).
 abbrev pub ReturnsBy : Finding → List ℕ → Request → ℕ → List ℕ → List ℕ → Type 0
 ReturnsBy find before q w out after = (r : Reply) × AnswersBy find before q r out after × (w ≡ word r)
 

@@ -1,5 +1,6 @@
 // The result word of each answer: what was answered in its upper half, the value in its lower.
 pub mod listings;
+pub mod reasons;
 
 use basis::refusals::HEADER;
 use basis::refusals::OUT;

@@ -20,13 +20,13 @@ slice-aggregate-answer-read : tie.Need-slice-aggregate-answer-read
 slice-aggregate-answer-read c = search needs
 
 answer-read-requires : tie.Need-answer-read-requires
-answer-read-requires c κs = (search needs, form-within _ _ _ _ _ (c .before .before .before .before .read-terms .ensures))
+answer-read-requires c κs = (search needs, form-within _ _ _ _ _ _ (c .before .before .before .before .read-terms .ensures))
 
 same-length : tie.Need-same-length
 same-length c = search needs
 
 returns : tie.Need-returns
-returns c = c .before .before .answer-read .ensures _ (c .before .before .before .before .before .before .before .read-terms .ensures)
+returns c = c .before .before .answer-read .ensures _ _ (c .before .before .before .before .before .before .before .read-terms .ensures)
 
 slice-aggregate-read-terms-3 : tie.Need-slice-aggregate-read-terms-3
 slice-aggregate-read-terms-3 c = search needs
@@ -41,13 +41,13 @@ slice-aggregate-answer-read-2 : tie.Need-slice-aggregate-answer-read-2
 slice-aggregate-answer-read-2 c = search needs
 
 answer-read-requires-2 : tie.Need-answer-read-requires-2
-answer-read-requires-2 c κs = (search needs, form-within _ _ _ _ _ (c .before .before .before .before .read-terms2 .ensures))
+answer-read-requires-2 c κs = (search needs, form-within _ _ _ _ _ _ (c .before .before .before .before .read-terms2 .ensures))
 
 same-length-2 : tie.Need-same-length-2
 same-length-2 c = search needs
 
 returns-2 : tie.Need-returns-2
-returns-2 c = c .before .before .answer-read2 .ensures _ (c .before .before .before .before .before .before .before .read-terms2 .ensures)
+returns-2 c = c .before .before .answer-read2 .ensures _ _ (c .before .before .before .before .before .before .before .read-terms2 .ensures)
 
 pub answer-terms-spec : {M : Type 1} → statement M
 answer-terms-spec =

@@ -17,10 +17,10 @@ got : (x : lts.After-next (terms-reads.Asked, terms-reads.Learnt) reads.Pre read
 got x = rw (x .next .given .1) at (x .before .before .before .before .before .before .terms .ensures)
 
 returns : tie.Need-returns
-returns c = (reading-long (arityOf (c .before .before .before .before .args .edition)) (compactStored (arityOf (c .before .before .before .before .args .edition))) (c .before .before .before .before .args .m) (c .before .before .before .before .args .s .now) (c .if1 .taken), tt)
+returns c = (reading-long (arityOf (c .before .before .before .before .args .edition)) (compactStored (arityOf (c .before .before .before .before .args .edition))) (c .before .before .before .before .args .m) (c .before .before .before .before .args .s .now) (c .if1 .taken), tt, tt)
 
 returns-2 : tie.Need-returns-2
-returns-2 c = (reading-few (arityOf (c .before .before .before .before .before .args .edition)) (compactStored (arityOf (c .before .before .before .before .before .args .edition))) (c .before .before .before .before .before .args .m) (c .before .before .before .before .before .args .s .now) (c .before .if1 .left) (c .if2 .taken), tt)
+returns-2 c = (reading-few (arityOf (c .before .before .before .before .before .args .edition)) (compactStored (arityOf (c .before .before .before .before .before .args .edition))) (c .before .before .before .before .before .args .m) (c .before .before .before .before .before .args .s .now) (c .before .if1 .left) (c .if2 .taken), tt, tt)
 
 terms-requires : tie.Need-terms-requires
 terms-requires c κs = let r = c .before .before .before .before .before .before .before .pre (c .before .before .before .if1 .left) in omega (arith, r)
@@ -38,7 +38,7 @@ same-length-2 : tie.Need-same-length-2
 same-length-2 c = search needs
 
 returns-3 : tie.Need-returns-3
-returns-3 c = (reading-malformed (arityOf (c .before .before .before .before .before .before .before .before .before .before .before .before .before .before .args .edition)) (c .before .before .before .before .before .before .before .before .before .before .before .before .before .before .args .m) (c .before .before .before .before .before .before .before .before .before .before .before .before .before .before .args .s .now) (c .before .before .before .before .before .before .before .before .before .before .if1 .left) (rw (c .enum-told .given .1) at (c .before .before .before .before .before .before .terms .ensures)), tt)
+returns-3 c = (reading-malformed (arityOf (c .before .before .before .before .before .before .before .before .before .before .before .before .before .before .args .edition)) (c .before .before .before .before .before .before .before .before .before .before .before .before .before .before .args .m) (c .before .before .before .before .before .before .before .before .before .before .before .before .before .before .args .s .now) (c .before .before .before .before .before .before .before .before .before .before .if1 .left) (rw (c .enum-told .given .1) at (c .before .before .before .before .before .before .terms .ensures)), tt, tt)
 
 same-length-3 : tie.Need-same-length-3
 same-length-3 c = search needs
@@ -47,7 +47,7 @@ same-length-4 : tie.Need-same-length-4
 same-length-4 c = search needs
 
 returns-4 : tie.Need-returns-4
-returns-4 c = (reading-left (arityOf (c .before .before .before .before .before .before .before .before .before .before .before .before .before .before .before .before .args .edition)) (c .before .before .before .before .before .before .before .before .before .before .before .before .before .before .before .before .args .m) (c .before .before .before .before .before .before .before .before .before .before .before .before .before .before .before .before .args .s .now) (c .before .before .before .before .before .before .before .before .before .before .before .before .if1 .left) _ _ _ _ _ _ _ (got (c .before .before)) (c .if3 .taken), tt)
+returns-4 c = (reading-left (arityOf (c .before .before .before .before .before .before .before .before .before .before .before .before .before .before .before .before .args .edition)) (c .before .before .before .before .before .before .before .before .before .before .before .before .before .before .before .before .args .m) (c .before .before .before .before .before .before .before .before .before .before .before .before .before .before .before .before .args .s .now) (c .before .before .before .before .before .before .before .before .before .before .before .before .if1 .left) _ _ _ _ _ _ _ (got (c .before .before)) (c .if3 .taken), tt, tt)
 
 same-length-5 : tie.Need-same-length-5
 same-length-5 c = search needs
@@ -56,7 +56,7 @@ same-length-6 : tie.Need-same-length-6
 same-length-6 c = search needs
 
 returns-5 : tie.Need-returns-5
-returns-5 c = (reading-crowded (arityOf (c .before .before .before .before .before .before .before .before .before .before .before .before .before .before .before .before .before .args .edition)) (c .before .before .before .before .before .before .before .before .before .before .before .before .before .before .before .before .before .args .m) (c .before .before .before .before .before .before .before .before .before .before .before .before .before .before .before .before .before .args .s .now) (c .before .before .before .before .before .before .before .before .before .before .before .before .before .if1 .left) _ _ _ _ _ _ _ (got (c .before .before .before)) (c .before .if3 .left) (c .if4 .taken), tt)
+returns-5 c = (reading-crowded (arityOf (c .before .before .before .before .before .before .before .before .before .before .before .before .before .before .before .before .before .args .edition)) (c .before .before .before .before .before .before .before .before .before .before .before .before .before .before .before .before .before .args .m) (c .before .before .before .before .before .before .before .before .before .before .before .before .before .before .before .before .before .args .s .now) (c .before .before .before .before .before .before .before .before .before .before .before .before .before .if1 .left) _ _ _ _ _ _ _ (got (c .before .before .before)) (c .before .if3 .left) (c .if4 .taken), tt, tt)
 
 same-length-7 : tie.Need-same-length-7
 same-length-7 c = search needs

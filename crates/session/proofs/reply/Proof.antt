@@ -63,6 +63,12 @@ ask-counts-requires c κs = search needs
 enum-told-8 : tie.Need-enum-told-8
 enum-told-8 c = search needs
 
+ask-why-requires : tie.Need-ask-why-requires
+ask-why-requires c κs = search needs
+
+enum-told-9 : tie.Need-enum-told-9
+enum-told-9 c = search needs
+
 print-bad-requires : tie.Need-print-bad-requires
 print-bad-requires c κs = search needs
 
@@ -138,8 +144,17 @@ returns-7 c = silent-leaves _ _ _ _ (c .before .before .before .before .before .
 same-length-17 : tie.Need-same-length-17
 same-length-17 c = search needs
 
+same-length-18 : tie.Need-same-length-18
+same-length-18 c = search needs
+
 returns-8 : tie.Need-returns-8
-returns-8 c = silent-leaves _ _ _ _ (c .before .before .before .before .before .before .before .before .first-end .ensures) keyword.Other (told (c .before .before .before .before .enum-told8 .given .1) (c .before .before .before .before .before .before .keyword-of .ensures)) tt _ _ _ _ (bad-leaves _ _ _ _ _ _ refl (c .before .before .print-bad .ensures))
+returns-8 c = silent-leaves _ _ _ _ (c .before .before .before .before .before .before .before .before .before .first-end .ensures) keyword.Why (told (c .before .before .before .before .before .enum-told8 .given .1) (c .before .before .before .before .before .before .before .keyword-of .ensures)) tt _ _ _ _ (c .before .before .ask-why .ensures _)
+
+same-length-19 : tie.Need-same-length-19
+same-length-19 c = search needs
+
+returns-9 : tie.Need-returns-9
+returns-9 c = silent-leaves _ _ _ _ (c .before .before .before .before .before .before .before .before .first-end .ensures) keyword.Other (told (c .before .before .before .before .enum-told9 .given .1) (c .before .before .before .before .before .before .keyword-of .ensures)) tt _ _ _ _ (bad-leaves _ _ _ _ _ _ refl (c .before .before .print-bad .ensures))
 
 pub reply-spec : {M : Type 1} → statement M
 reply-spec =
@@ -163,6 +178,8 @@ reply-spec =
     enum-told-7
     ask-counts-requires
     enum-told-8
+    ask-why-requires
+    enum-told-9
     print-bad-requires
     same-length
     same-length-2
@@ -188,4 +205,7 @@ reply-spec =
     same-length-16
     returns-7
     same-length-17
-    returns-8)
+    same-length-18
+    returns-8
+    same-length-19
+    returns-9)

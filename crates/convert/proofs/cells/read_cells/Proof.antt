@@ -17,10 +17,10 @@ abbrev μ-loop : tie.MeasureT-loop
 μ-loop s m vars₀ form₀ edition n at₀ due₀ count₀ vars form at due count = n - at
 
 returns : tie.Need-returns Inv-loop μ-loop
-returns c = (reading-long (arityOf (c .before .before .before .before .args .edition)) (pairStored (arityOf (c .before .before .before .before .args .edition))) (c .before .before .before .before .args .m) (c .before .before .before .before .args .s .now) (c .if1 .taken), tt)
+returns c = (reading-long (arityOf (c .before .before .before .before .args .edition)) (pairStored (arityOf (c .before .before .before .before .args .edition))) (c .before .before .before .before .args .m) (c .before .before .before .before .args .s .now) (c .if1 .taken), tt, tt)
 
 returns-2 : tie.Need-returns-2 Inv-loop μ-loop
-returns-2 c = (cells-refused (arityOf (c .before .before .before .before .before .args .edition)) (c .before .before .before .before .before .args .m) (c .before .before .before .before .before .args .s .now) (omega arith) (few-cells (arityOf (c .before .before .before .before .before .args .edition)) (c .before .before .before .before .before .args .m) (c .before .before .before .before .before .args .s .now) (omega arith) (c .if2 .taken)), tt)
+returns-2 c = (cells-refused (arityOf (c .before .before .before .before .before .args .edition)) (c .before .before .before .before .before .args .m) (c .before .before .before .before .before .args .s .now) (omega arith) (few-cells (arityOf (c .before .before .before .before .before .args .edition)) (c .before .before .before .before .before .args .m) (c .before .before .before .before .before .args .s .now) (omega arith) (c .if2 .taken)), tt, tt)
 
 loop-holds : tie.Need-loop-holds Inv-loop μ-loop
 loop-holds c = let r = c .before .before .before .before .before .pre (omega arith) in read-start (arityOf (c .before .before .before .before .before .args .edition)) (c .before .before .before .before .before .args .m) (c .before .before .before .before .before .args .s .now) (c .before .before .before .before .before .args .vars .now) (c .before .before .before .before .before .args .form .now) _ refl (omega arith) (omega arith) (r .0) (r .1)
