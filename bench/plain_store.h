@@ -50,4 +50,8 @@ uint64_t plain_carry(const uint32_t *source, size_t source_cells, uint32_t *targ
 uint64_t plain_grow(uint32_t *space, size_t space_cells, uint32_t nodes, uint32_t subgoals,
                     uint32_t answers);
 
+/* In plain_why.c, which contains the store. */
+uint64_t plain_why(const uint32_t *space, size_t space_cells, const uint32_t *term,
+                   size_t term_cells, uint32_t *out, size_t out_cells);
+
 #endif

@@ -16,7 +16,7 @@ extern "C" {
  * 1.2.3.
  */
 #define TABLES_VERSION_MAJOR 4
-#define TABLES_VERSION_MINOR 3
+#define TABLES_VERSION_MINOR 4
 #define TABLES_VERSION_PATCH 0
 #define TABLES_VERSION \
     (TABLES_VERSION_MAJOR * 10000 + TABLES_VERSION_MINOR * 100 + TABLES_VERSION_PATCH)
@@ -281,8 +281,8 @@ static inline uint32_t tables_edition(const uint32_t *space, size_t space_cells)
  *
  * Threads: there is no state beside the space. Calls on different spaces may
  * run at once. Calls that only read (the space is const: tables_next,
- * tables_load, tables_instance, tables_counts, tables_check, tables_build, and
- * tables_carry on its source) may run at once on one space.
+ * tables_load, tables_instance, tables_counts, tables_why, tables_check,
+ * tables_build, and tables_carry on its source) may run at once on one space.
  * While a call that writes (tables_fresh, tables_call, tables_answer,
  * tables_finish, tables_join, those with an index, tables_grow, and tables_carry
  * on its target) runs, no other call on the same space may run: the caller
@@ -313,7 +313,7 @@ static inline uint32_t tables_edition(const uint32_t *space, size_t space_cells)
  */
 enum tables_stack {
     TABLES_STACK_FRESH = 4096,     /* 3,240 */
-    TABLES_STACK_CALL = 92160,     /* 56,512; the same bound with an index */
+    TABLES_STACK_CALL = 92160,     /* 56,672; the same bound with an index */
     TABLES_STACK_ANSWER = 92160,   /* 56,608; so too */
     TABLES_STACK_FINISH = 4096,    /* 16 */
     TABLES_STACK_NEXT = 4096,      /* 48 */
@@ -322,6 +322,7 @@ enum tables_stack {
     TABLES_STACK_COUNTS = 4096,    /* 16 */
     TABLES_STACK_JOIN = 72704,     /* 57,808; so too */
     TABLES_STACK_BUILD = 4096,     /* 3,288 */
+    TABLES_STACK_WHY = 92160,      /* 57,248; the same bound with an index */
     TABLES_STACK_CHECK = 58368,    /* 47,088 */
     TABLES_STACK_CARRY = 72704,    /* 49,216 */
     TABLES_STACK_GROW = 4096,      /* 3,384 */
@@ -391,6 +392,8 @@ enum tables_outcome {
     TABLES_NO_MORE = 9,       /* value 0; the subgoal is finished */
     TABLES_JOINED = 10,       /* how many answers are new */
     TABLES_BUILT = 11,        /* how many children were entered into the index */
+    TABLES_WHY_OLD = 12,      /* the subgoal's number */
+    TABLES_WHY_NEW = 13,      /* the lowest subgoal that shares most, 0 for none */
     TABLES_END = 16,          /* value 0; the list of terms ends here */
     TABLES_CALL_REFUSED = 256 /* plus the refusal's number; no value, but see tables_need
                                  and tables_broken_kind */
@@ -544,6 +547,34 @@ TABLES_MUST_CHECK
 uint64_t tables_counts(const uint32_t *space, size_t space_cells, uint32_t *out, size_t out_cells);
 
 /*
+ * Why a term is new, or old: what tables_call would find, with the reason, and nothing
+ * is entered. The term is one term that begins with an atom or a functor, as for
+ * tables_call.
+ *
+ * TABLES_WHY_OLD with the subgoal's number: the term differs from the one stored in the
+ * names of its variables alone. out[0] is the number of its distinct variables, and the
+ * cells after it are these variables as the caller wrote them, in order of first meeting:
+ * put variable 0 for the first of them, variable 1 for the second, and so on, and the
+ * stored term is there.
+ *
+ * TABLES_WHY_NEW: no subgoal is like it. out[0] is how many leading cells of its stored
+ * form (compact form, with its marks) some subgoal shares, and no subgoal shares more; the
+ * value is the lowest-numbered subgoal that shares so many. Both are 0 where no subgoal
+ * shares any.
+ *
+ * The other cells of out stay. TABLES_WHY_CELLS cells of out are asked for, whatever is
+ * written. A full table says new all the same: there is no 10 or 11. Refused by 1, 4, 3, 5,
+ * 6, 9, 12; refused, no cell of out changes, and by 12 tables_need says TABLES_WHY_CELLS.
+ *
+ * The cost is that of tables_call; for a new term also as many steps as the named
+ * subgoal's stored form has cells.
+ */
+#define TABLES_WHY_CELLS 33 /* a count and 32 variables */
+TABLES_MUST_CHECK
+uint64_t tables_why(const uint32_t *space, size_t space_cells, const uint32_t *term,
+                    size_t term_cells, uint32_t *out, size_t out_cells);
+
+/*
  * Joins two finished subgoals, as a rule body of two goals does: every answer of
  * the first is taken with every answer of the second, in order of the first,
  * then of the second. Where the terms that each pair names are equal, the terms
@@ -647,6 +678,12 @@ TABLES_MUST_CHECK
 uint64_t tables_answer_indexed(uint32_t *space, size_t space_cells, const uint32_t *index,
                                size_t index_cells, uint32_t subgoal, const uint32_t *terms,
                                size_t terms_cells);
+
+/* As tables_why, with an index. */
+TABLES_MUST_CHECK
+uint64_t tables_why_indexed(const uint32_t *space, size_t space_cells, const uint32_t *index,
+                            size_t index_cells, const uint32_t *term, size_t term_cells,
+                            uint32_t *out, size_t out_cells);
 
 /* As tables_join, with an index, through which the target is searched. */
 TABLES_MUST_CHECK

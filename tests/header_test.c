@@ -4,8 +4,8 @@
 #include <stdio.h>
 #include <string.h>
 
-#if TABLES_VERSION < 40300
-#error "the version is 4.3.0 or later"
+#if TABLES_VERSION < 40400
+#error "the version is 4.4.0 or later"
 #endif
 
 enum { MOST_REFUSAL = 24 };
@@ -28,9 +28,9 @@ static const uint32_t constant[] = {
 
 static void test_constants(void)
 {
-    check(TABLES_VERSION_MAJOR == 4 && TABLES_VERSION_MINOR == 3 && TABLES_VERSION_PATCH == 0 &&
-              TABLES_VERSION == 40300,
-          "the version is 4.3.0");
+    check(TABLES_VERSION_MAJOR == 4 && TABLES_VERSION_MINOR == 4 && TABLES_VERSION_PATCH == 0 &&
+              TABLES_VERSION == 40400,
+          "the version is 4.4.0");
     check(PAIR == 0x50000000, "a pair");
     check(constant[0] == 0x40000128 && constant[1] == 0x20000007, "constants in range");
     check(constant[2] == 0x20000000, "the empty list");
@@ -140,6 +140,14 @@ static void test_list_numbers(void)
     check(TABLES_REFUSED_LISTING == 23 && TABLES_REFUSED_LISTED == 24, "the numbers of the refusals");
     check(TABLES_LISTED_CELLS == 8 && TABLES_LISTED_SYMBOLS == 16, "the limits");
     check(TABLES_STACK_FIRST_TERM > 0 && TABLES_STACK_TERM_AFTER > 0, "bounds for the lists");
+}
+
+/* Why brought two words, a limit and a bound. */
+static void test_why_numbers(void)
+{
+    check(TABLES_WHY_OLD == 12 && TABLES_WHY_NEW == 13, "the numbers of the words");
+    check(tables_value(word(TABLES_WHY_NEW, 5)) == 5 && tables_refused_by(word(TABLES_WHY_OLD, 5)) == 0, "no refusal");
+    check(TABLES_WHY_CELLS == 1 + TABLES_TERM_VARIABLES && TABLES_STACK_WHY > 0, "the limit and the bound");
 }
 
 /* Carrying over and growing brought two refusals and two bounds. */
@@ -318,6 +326,23 @@ static void test_grow(void)
     check(tables_call(space, CELLS, p, 2) == word(TABLES_OLD_OPEN, 1), "the subgoal keeps its number");
 }
 
+/* p(X, Y) is old as p(Y, X), and p(X, X) is new and shares two cells with it. */
+static void test_why(void)
+{
+    enum { CELLS = TABLES_SPACE_CELLS(9, 2, 0) };
+    static uint32_t space[CELLS], out[TABLES_WHY_CELLS];
+    const uint32_t p = tables_functor_cell(TABLES_EDITION_2, 5, 2), x = tables_cell(TABLES_VARIABLE, 3);
+    const uint32_t y = tables_cell(TABLES_VARIABLE, 9);
+    const uint32_t old[] = {p, x, y}, again[] = {p, y, x}, new[] = {p, x, x};
+    check(tables_fresh(space, CELLS, 9, 2, 0, TABLES_EDITION_2) == 0, "a table to ask");
+    check(tables_call(space, CELLS, old, 3) == word(TABLES_NEW, 1), "its subgoal");
+    check(tables_why(space, CELLS, again, 3, out, TABLES_WHY_CELLS) == word(TABLES_WHY_OLD, 1), "why old");
+    check(out[0] == 2 && out[1] == y && out[2] == x, "the variables by rank");
+    check(tables_why_indexed(space, CELLS, NULL, 0, new, 3, out, TABLES_WHY_CELLS) == word(TABLES_WHY_NEW, 1), "why new");
+    check(out[0] == 2 && out[1] == y, "the cells shared");
+    check(tables_need(tables_why(space, CELLS, new, 3, out, TABLES_WHY_CELLS - 1)) == TABLES_WHY_CELLS, "too few cells");
+}
+
 int main(void)
 {
     test_constants();
@@ -327,12 +352,14 @@ int main(void)
     test_ends();
     test_index_numbers();
     test_list_numbers();
+    test_why_numbers();
     test_carry_numbers();
     test_words();
     test_texts();
     test_space();
     test_index();
     test_list();
+    test_why();
     test_carry();
     test_grow();
     printf("header_test: %d checks, %d failed\n", checks, failures);

@@ -1,5 +1,6 @@
-/* The plain table of document 01, with the editions of Q-7, the joins of Q-2, the two words of Q-1
-   and the finished subgoals of Q-4: subgoals and answers as lists of compact forms, no trie. */
+/* The plain table of document 01, with the editions of Q-7, the joins of Q-2, the two words of Q-1,
+   the finished subgoals of Q-4 and the reasons of Q-10: subgoals and answers as lists of compact
+   forms, no trie. */
 #include "plain_table.h"
 
 #include <stdio.h>
@@ -29,7 +30,8 @@ enum limit {
     MOST_CELLS = 256,
     MOST_VARIABLES = 32,
     MOST_TOKENS = (3 * MOST_CELLS - 1) / 2,
-    MOST_PAIRS = 32
+    MOST_PAIRS = 32,
+    WHY_CELLS = 1 + MOST_VARIABLES /* of out: a count and the variables */
 };
 
 /* What came of a call: the upper 32 bits of the result word. */
@@ -45,6 +47,8 @@ enum outcome {
     OUTCOME_COUNTS = 8,
     OUTCOME_NO_MORE = 9,
     OUTCOME_JOINED = 10,
+    OUTCOME_WHY_OLD = 12,
+    OUTCOME_WHY_NEW = 13,
     OUTCOME_REFUSED = 256
 };
 
@@ -202,22 +206,31 @@ static uint32_t rank_of(uint32_t variable, const uint32_t *met, uint32_t met_cou
     return rank;
 }
 
-/* Numbered form: each variable's payload becomes its rank, from 0, by first meeting, through all
-   the terms. Returns how many distinct variables there are. */
+/* The distinct variables as they are written, in order of rank: by first meeting, through all the
+   terms. Returns how many there are. */
+static uint32_t list_variables(const uint32_t *cells, size_t cell_count, uint32_t *met)
+{
+    uint32_t met_count = 0;
+    for (size_t i = 0; i < cell_count; i++) {
+        if (kind_of(cells[i]) == KIND_VARIABLE && rank_of(cells[i], met, met_count) == met_count) {
+            met[met_count++] = cells[i];
+        }
+    }
+    return met_count;
+}
+
+/* Numbered form: each variable's payload becomes its rank, from 0. Returns how many distinct
+   variables there are. */
 static uint32_t number_variables(const uint32_t *cells, size_t cell_count,
                                  struct pair_form *numbered)
 {
     uint32_t met[MOST_CELLS];
-    uint32_t met_count = 0;
+    uint32_t met_count = list_variables(cells, cell_count, met);
     numbered->length = cell_count;
     for (size_t i = 0; i < cell_count; i++) {
         numbered->cells[i] = cells[i];
         if (kind_of(cells[i]) == KIND_VARIABLE) {
-            uint32_t rank = rank_of(cells[i], met, met_count);
-            if (rank == met_count) {
-                met[met_count++] = cells[i];
-            }
-            numbered->cells[i] = KIND_VARIABLE * KIND_UNIT + rank;
+            numbered->cells[i] = KIND_VARIABLE * KIND_UNIT + rank_of(cells[i], met, met_count);
         }
     }
     return met_count;
@@ -299,6 +312,20 @@ static enum refusal read_terms(const uint32_t *cells, size_t cell_count, size_t 
         return REFUSAL_VARIABLES;
     }
     compact_terms(&numbered, form, edition);
+    return REFUSAL_NONE;
+}
+
+/* The compact form of a called term, or refusal 4, 3, 5 or 6. */
+static enum refusal read_called(const uint32_t *term, size_t term_cells, struct form *form,
+                                uint32_t edition)
+{
+    enum refusal refusal = read_terms(term, term_cells, 1, form, edition);
+    if (refusal != REFUSAL_NONE) {
+        return refusal;
+    }
+    if (kind_of(term[0]) != KIND_ATOM && kind_of(term[0]) != KIND_FUNCTOR) {
+        return REFUSAL_PREDICATE;
+    }
     return REFUSAL_NONE;
 }
 
@@ -473,6 +500,23 @@ static uint32_t find_subgoal(const struct plain_table *table, const struct form 
         }
     }
     return 0;
+}
+
+/* The lowest-numbered subgoal of those that share most leading tokens with a form, and how many they
+   share; 0 and 0 if none shares any. */
+static uint32_t find_nearest(const struct plain_table *table, const struct form *form,
+                             uint32_t *shared)
+{
+    uint32_t nearest = 0;
+    *shared = 0;
+    for (uint32_t number = 1; number <= table->subgoal_count; number++) {
+        uint32_t common = (uint32_t)common_prefix(&subgoal_at(table, number)->form, form);
+        if (common > *shared) {
+            *shared = common;
+            nearest = number;
+        }
+    }
+    return nearest;
 }
 
 /* The number of the answer with an equal form under that subgoal, or 0. */
@@ -797,12 +841,9 @@ void plain_table_close(struct plain_table *table)
 uint64_t plain_table_call(struct plain_table *table, const uint32_t *term, size_t term_cells)
 {
     struct form form;
-    enum refusal refusal = read_terms(term, term_cells, 1, &form, table->edition);
+    enum refusal refusal = read_called(term, term_cells, &form, table->edition);
     if (refusal != REFUSAL_NONE) {
         return refused(refusal);
-    }
-    if (kind_of(term[0]) != KIND_ATOM && kind_of(term[0]) != KIND_FUNCTOR) {
-        return refused(REFUSAL_PREDICATE);
     }
     uint32_t old = find_subgoal(table, &form);
     if (old != 0) {
@@ -916,6 +957,28 @@ uint64_t plain_table_counts(const struct plain_table *table, uint32_t *out, size
     out[1] = table->subgoal_count;
     out[2] = table->answer_count;
     return result(OUTCOME_COUNTS, 3);
+}
+
+/* Refused as call is down to 6, then for out alone: a full table says new all the same. An equal form
+   is old, whatever its state. */
+uint64_t plain_table_why(const struct plain_table *table, const uint32_t *term, size_t term_cells,
+                         uint32_t *out, size_t out_cells)
+{
+    struct form form;
+    enum refusal refusal = read_called(term, term_cells, &form, table->edition);
+    if (refusal != REFUSAL_NONE) {
+        return refused(refusal);
+    }
+    if (out_cells < WHY_CELLS) {
+        return refused_out(WHY_CELLS);
+    }
+    uint32_t old = find_subgoal(table, &form);
+    if (old != 0) {
+        out[0] = list_variables(term, term_cells, out + 1);
+        return result(OUTCOME_WHY_OLD, old);
+    }
+    uint32_t nearest = find_nearest(table, &form, &out[0]);
+    return result(OUTCOME_WHY_NEW, nearest);
 }
 
 /* Every answer enters, or none: where the table with all of them is too full, they are taken off its

@@ -26,6 +26,12 @@ uint64_t plain_table_instance(const struct plain_table *table, uint32_t answer, 
                               size_t out_cells);
 uint64_t plain_table_counts(const struct plain_table *table, uint32_t *out, size_t out_cells);
 
+/* Why a term is old or new, by Q-10; nothing is entered. The word that the export must return: for
+   old the subgoal's number, with the count of the offered variables and these by rank in out; for new
+   the lowest-numbered subgoal that shares most leading tokens, with how many in out, or 0 and 0. */
+uint64_t plain_table_why(const struct plain_table *table, const uint32_t *term, size_t term_cells,
+                         uint32_t *out, size_t out_cells);
+
 /* Joins two finished subgoals into an open one, by the rule of Q-2: two cells to a pair, two to a
    copy. The word that the export must return. */
 uint64_t plain_table_join(struct plain_table *table, uint32_t first, uint32_t second,

@@ -33,6 +33,7 @@ static const char usage[] = "usage: tables < CALLS (no arguments)\n"
                             "  load ANSWER\n"
                             "  instance ANSWER\n"
                             "  counts\n"
+                            "  why CELLS\n"
                             "fields: each after one space\n"
                             "  a number: 1 to 7 decimal digits\n"
                             "  a cell: 8 lower-case hexadecimal digits\n";

@@ -33,6 +33,8 @@ enum outcome {
     CELLS = 7,
     COUNTS = 8,
     NO_MORE = 9,
+    WHY_OLD = 12,
+    WHY_NEW = 13,
     REFUSED = 256 /* plus the refusal's number */
 };
 
@@ -57,7 +59,7 @@ struct fields {
     size_t cells;
 };
 
-/* One of the seven words, the fields that must follow it, and the call that it stands for. */
+/* One of the eight words, the fields that must follow it, and the call that it stands for. */
 struct command {
     const char *word;
     size_t numbers;
@@ -65,7 +67,7 @@ struct command {
     uint64_t (*make)(struct session_model *session, const struct fields *fields);
 };
 
-/* The seven calls. Each is made only once its whole line has proved well formed. */
+/* The eight calls. Each is made only once its whole line has proved well formed. */
 
 static uint64_t make_call(struct session_model *session, const struct fields *fields)
 {
@@ -103,6 +105,11 @@ static uint64_t make_counts(struct session_model *session, const struct fields *
     return plain_table_counts(session->table, session->out, OUT_CELLS);
 }
 
+static uint64_t make_why(struct session_model *session, const struct fields *fields)
+{
+    return plain_table_why(session->table, fields->cell, fields->cells, session->out, OUT_CELLS);
+}
+
 static const struct command commands[] = {
     {"call", 0, true, make_call},
     {"answer", 1, true, make_answer},
@@ -111,6 +118,7 @@ static const struct command commands[] = {
     {"load", 1, false, make_load},
     {"instance", 1, false, make_instance},
     {"counts", 0, false, make_counts},
+    {"why", 0, true, make_why},
 };
 
 /* Taking a line apart. */
@@ -228,17 +236,36 @@ static void print(struct text *printed, const char *words)
     add_bytes(printed, words, strlen(words));
 }
 
-static void print_cells(struct text *printed, const uint32_t *cell, uint32_t count)
+/* Prints what is left of a line behind its words: cells, and the newline. */
+static void end_with_cells(struct text *printed, const uint32_t *cell, uint32_t count)
 {
-    print(printed, "cells");
     for (uint32_t i = 0; i < count; i++)
         add_format(printed, " %08" PRIx32, cell[i]);
     print(printed, "\n");
 }
 
+static void print_cells(struct text *printed, const uint32_t *cell, uint32_t count)
+{
+    print(printed, "cells");
+    end_with_cells(printed, cell, count);
+}
+
 static void print_counts(struct text *printed, const uint32_t *out)
 {
     add_format(printed, "counts %" PRIu32 " %" PRIu32 " %" PRIu32 "\n", out[0], out[1], out[2]);
+}
+
+/* The number and the offered variables, which stand in out behind their count; no state. */
+static void print_why_old(struct text *printed, uint32_t subgoal, const uint32_t *out)
+{
+    add_format(printed, "old %" PRIu32, subgoal);
+    end_with_cells(printed, out + 1, out[0]);
+}
+
+/* The tokens shared, then the subgoal that shares them. */
+static void print_why_new(struct text *printed, uint32_t subgoal, const uint32_t *out)
+{
+    add_format(printed, "new %" PRIu32 " %" PRIu32 "\n", out[0], subgoal);
 }
 
 /* Prints an outcome that carries a subgoal's or an answer's number. */
@@ -284,6 +311,10 @@ static void print_result(struct text *printed, uint64_t result, const uint32_t *
         print_cells(printed, out, value);
     else if (outcome == COUNTS)
         print_counts(printed, out);
+    else if (outcome == WHY_OLD)
+        print_why_old(printed, value, out);
+    else if (outcome == WHY_NEW)
+        print_why_new(printed, value, out);
     else
         print_numbered(printed, outcome, value);
 }

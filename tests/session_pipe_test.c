@@ -89,14 +89,48 @@ static void close_talk(struct talk *talk)
 static void test_line_by_line(void)
 {
     static const char *const lines[] = {
-        "counts", "call 20000001", "answer 1", "next 1 0", "load 1", "instance 1", "finish 1",
-        "",       "no call",       "load 2",   "answer 1", "call",   "next 1 1",   "counts",
-        "call ",  "call 60000000", "counts",
+        "counts", "call 20000001", "answer 1", "next 1 0", "load 1", "instance 1",   "finish 1",
+        "",       "no call",       "load 2",   "answer 1", "call",   "next 1 1",     "counts",
+        "call ",  "call 60000000", "counts",   "why",      "why ",   "why 20000001", "why 20000002",
+        "counts",
     };
     struct talk talk;
     open_talk(&talk, "line by line");
     for (size_t i = 0; i < sizeof lines / sizeof *lines; i++)
         ask(&talk, lines[i]);
+    close_talk(&talk);
+}
+
+/* Says a functor and its 15 arguments: variables from a first name on, upwards or downwards. */
+static void say_variables(struct talk *talk, unsigned functor, unsigned first, int step)
+{
+    char cell[10];
+    snprintf(cell, sizeof cell, " 4%06xf", functor & 0xffffff);
+    say(talk, cell);
+    for (int i = 0; i < 15; i++) {
+        snprintf(cell, sizeof cell, " 1%07x", (first + (unsigned)(i * step)) & 0xfffffff);
+        say(talk, cell);
+    }
+}
+
+/* A term called, then asked about under other names, and one that shares its first 18 tokens. */
+static void test_long_why(void)
+{
+    struct talk talk;
+    open_talk(&talk, "why, with 32 variables");
+    say(&talk, "call 40000014");
+    say_variables(&talk, 2, 0, 1);
+    say_variables(&talk, 3, 15, 1);
+    ask(&talk, " 1000001e 1000001f");
+    say(&talk, "why 40000014");
+    say_variables(&talk, 2, 99, -1);
+    say_variables(&talk, 3, 84, -1);
+    ask(&talk, " 10000000 1fffffff");
+    say(&talk, "why 40000014");
+    say_variables(&talk, 2, 0, 1);
+    say_variables(&talk, 3, 0, 1);
+    ask(&talk, " 10000000 1fffffff");
+    ask(&talk, "counts");
     close_talk(&talk);
 }
 
@@ -126,7 +160,8 @@ static void test_long_lines(void)
 static void test_pieces(void)
 {
     static const char *const pieces[] = {
-        "coun", "ts", "\n", "call 2000", "0001\nanswer 1\ncoun", "ts\n", "counts", "\n"};
+        "coun", "ts", "\n",   "call 2000",    "0001\nanswer 1\ncoun", "ts\n", "counts", "\n",
+        "w",    "hy", " 200", "00001\nwhy 2", "0000002\nwhy\nwhy",    "\n",   "why",    "s\n"};
     struct talk talk;
     open_talk(&talk, "lines in pieces");
     for (size_t i = 0; i < sizeof pieces / sizeof *pieces; i++) {
@@ -139,7 +174,8 @@ static void test_pieces(void)
 
 static void test_single_bytes(void)
 {
-    static const char lines[] = "call 40000011 10000000\nanswer 1 20000005\n\ninstance 1\ncounts\n";
+    static const char lines[] = "call 40000011 10000000\nanswer 1 20000005\n\ninstance 1\n"
+                                "why 40000011 10000007\nwhy 40000011 20000005\ncounts\n";
     struct talk talk;
     open_talk(&talk, "single bytes");
     for (const char *byte = lines; *byte != '\0'; byte++) {
@@ -153,18 +189,21 @@ static void add_session(struct text *input, unsigned lines)
 {
     add_format(input, "call 40000012 10000000 10000001\n");
     for (unsigned i = 1; i < lines; i++)
-        switch (i % 5) {
+        switch (i % 6) {
         case 0:
-            add_format(input, "call 4%06x1 10000000\n", i / 5);
+            add_format(input, "call 4%06x1 10000000\n", i / 6);
             break;
         case 1:
             add_format(input, "answer 1 2000%04x 10000005\n", i);
             break;
         case 2:
-            add_format(input, "next 1 %u\n", i / 10);
+            add_format(input, "next 1 %u\n", i / 12);
             break;
         case 3:
             add_format(input, "instance %u\n", i % 120);
+            break;
+        case 4: /* what was just called, where it found room, or what has not been */
+            add_format(input, "why 4%06x1 1%07x\n", i / 6 + i / 6 % 2, i);
             break;
         default:
             add_format(input, "counts\n");
@@ -255,6 +294,7 @@ static void test_ends(void)
 {
     test_end("no input", "", "");
     test_end("a last line without newline", "call 20000001\n", "counts");
+    test_end("a last line that asks why, without newline", "call 20000001\n", "why 20000001");
     test_end("a bad last line without newline", "call 20000001\n", "counts ");
     test_end("only a line without newline", "", "counts");
     test_end("a last newline", "call 20000001\n", "");
@@ -265,8 +305,8 @@ static void test_ends(void)
 int main(int count, char **arguments)
 {
     static void (*const tests[])(void) = {
-        test_line_by_line,       test_long_lines,  test_pieces, test_single_bytes,
-        test_many_lines_at_once, test_even_pieces, test_ends,   test_time,
+        test_line_by_line,       test_long_why,    test_long_lines, test_pieces, test_single_bytes,
+        test_many_lines_at_once, test_even_pieces, test_ends,       test_time,
     };
     path = count > 1 ? arguments[1] : "target/bin/tables";
     for (size_t i = 0; i < sizeof tests / sizeof *tests && failures < MOST_FAILURES; i++)

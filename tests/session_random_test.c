@@ -10,7 +10,7 @@
 
 enum {
     SESSIONS = 2000,
-    LINES = 200,
+    LINES = 240,
     LONG_LINES = 800,
     SECONDS = 10,
     MOST_FAILURES = 3,
@@ -27,20 +27,24 @@ static unsigned failures;
 
 /* Every reply that a line of a kind may have; each must come. */
 static const struct {
+    const char *word;
     enum request_kind kind;
+    bool why;
     const char *replies[11];
 } possible[] = {
-    {CALL,
+    {"call", CALL, false,
      {"new ", " open\n", " finished\n", "refused 3\n", "refused 4\n", "refused 5\n", "refused 6\n",
       "refused 10\n", "refused 11\n"}},
-    {ANSWER,
+    {"answer", ANSWER, false,
      {"new ", "old ", "refused 3\n", "refused 4\n", "refused 5\n", "refused 7\n", "refused 8\n",
       "refused 10\n", "refused 11\n", "bad\n"}},
-    {FINISH, {"done\n", "refused 7\n", "bad\n"}},
-    {NEXT, {"at ", "none yet\n", "no more\n", "refused 7\n", "bad\n"}},
-    {LOAD, {"cells ", "cells\n", "refused 7\n", "bad\n"}},
-    {INSTANCE, {"cells ", "refused 7\n", "refused 12\n", "bad\n"}},
-    {COUNTS, {"counts "}},
+    {"finish", FINISH, false, {"done\n", "refused 7\n", "bad\n"}},
+    {"next", NEXT, false, {"at ", "none yet\n", "no more\n", "refused 7\n", "bad\n"}},
+    {"load", LOAD, false, {"cells ", "cells\n", "refused 7\n", "bad\n"}},
+    {"instance", INSTANCE, false, {"cells ", "refused 7\n", "refused 12\n", "bad\n"}},
+    {"counts", COUNTS, false, {"counts "}},
+    {"why", CALL, true,
+     {"new ", "old ", "refused 3\n", "refused 4\n", "refused 5\n", "refused 6\n"}},
 };
 
 enum { POSSIBLE = sizeof possible / sizeof *possible, REPLIES = 11 };
@@ -79,10 +83,44 @@ static bool is_to_finished(const struct line *line, const struct session_model *
            plain_table_finished(session_table(model), line->number);
 }
 
+/* What may come of a line that asks why; each must come often. */
+enum reason { NEW_APART, NEW_SHARING, NEW_IN_FULL_TABLE, OLD_GROUND, OLD_RENAMED, REASONS };
+
+enum { SUBGOALS = 50, LEAST_OF_REASONS = 300 };
+
+static const char *const reason_names[REASONS] = {
+    [NEW_APART] = "new 0 0",
+    [NEW_SHARING] = "new with tokens shared",
+    [NEW_IN_FULL_TABLE] = "new with no subgoal left",
+    [OLD_GROUND] = "old without variables",
+    [OLD_RENAMED] = "old with variables",
+};
+
+static uint64_t came_of_why[REASONS];
+
+/* Counts the reply, which ends in a newline, to a line that asks why. */
+static void count_reason(const char *reply, size_t count, const struct known *known)
+{
+    bool is_new = strncmp(reply, "new ", 4) == 0, is_old = strncmp(reply, "old ", 4) == 0;
+    bool apart = strncmp(reply, "new 0 0\n", 8) == 0;
+    bool ground = memchr(reply + 4, ' ', count - 4) == NULL;
+    came_of_why[NEW_APART] += apart;
+    came_of_why[NEW_SHARING] += is_new && !apart;
+    came_of_why[NEW_IN_FULL_TABLE] += is_new && known->subgoals == SUBGOALS;
+    came_of_why[OLD_GROUND] += is_old && ground;
+    came_of_why[OLD_RENAMED] += is_old && !ground;
+}
+
 static void count_of_finished(const char *reply, size_t count)
 {
     for (size_t i = 0; i < OF_FINISHED; i++)
         came_of_finished[i] += holds(reply, count, of_finished[i]);
+}
+
+/* Is a line as requested of the kind whose replies stand in row i? */
+static bool is_possible(size_t i, const struct line *line)
+{
+    return possible[i].kind == line->kind && possible[i].why == line->why;
 }
 
 static void count_line(const struct line *line, const char *reply, size_t count)
@@ -91,7 +129,7 @@ static void count_line(const struct line *line, const char *reply, size_t count)
     if (line->sort != AS_REQUESTED)
         return;
     for (size_t i = 0; i < POSSIBLE; i++)
-        for (size_t j = 0; possible[i].kind == line->kind && possible[i].replies[j] != NULL; j++)
+        for (size_t j = 0; is_possible(i, line) && possible[i].replies[j] != NULL; j++)
             if (holds(reply, count < 20 ? count : 20, possible[i].replies[j]))
                 came[i][j]++;
 }
@@ -114,13 +152,25 @@ static void check_of_finished(void)
     printf("\n");
 }
 
+static void check_reasons(void)
+{
+    printf("  lines that ask why");
+    for (size_t i = 0; i < REASONS; i++) {
+        print_count(reason_names[i], came_of_why[i]);
+        failures += came_of_why[i] < LEAST_OF_REASONS;
+        if (came_of_why[i] < LEAST_OF_REASONS)
+            printf(" (failed: too seldom)");
+    }
+    printf("\n");
+}
+
 static void check_counts(void)
 {
     for (size_t sort = 0; sort < LINE_SORTS; sort++)
         printf("  lines %s: %" PRIu64 ", bad %" PRIu64 "\n", sort_names[sort],
                sorts[sort][0] + sorts[sort][1], sorts[sort][0]);
     for (size_t i = 0; i < POSSIBLE; i++) {
-        printf("  %s", request_names[possible[i].kind]);
+        printf("  %s", possible[i].word);
         for (size_t j = 0; possible[i].replies[j] != NULL; j++) {
             print_count(possible[i].replies[j], came[i][j]);
             failures += came[i][j] < LEAST;
@@ -142,7 +192,7 @@ struct session {
 static void learn(struct session *session, const struct line *line, const char *reply)
 {
     struct known *known = &session->known;
-    if (strncmp(reply, "new ", 4) != 0)
+    if (strncmp(reply, "new ", 4) != 0 || line->text.byte[0] == 'w')
         return;
     if (line->text.byte[0] == 'a') {
         known->answers++;
@@ -171,6 +221,8 @@ static void add_line(struct session *session, const struct line *line, bool newl
     count_line(line, reply, expected->count - replied);
     if (to_finished)
         count_of_finished(reply, expected->count - replied);
+    if (line->sort == AS_REQUESTED && line->why)
+        count_reason(reply, expected->count - replied, &session->known);
     learn(session, line, reply);
 }
 
@@ -286,6 +338,7 @@ int main(int count, char **arguments)
     if (failures == 0 && sessions >= SESSIONS) {
         check_counts();
         check_of_finished();
+        check_reasons();
     }
     printf("session random test: seed %" PRIu64 ", %u sessions in %.1f s: %s\n", seed, sessions,
            now() - start, failures == 0 ? "passed" : "FAILED");

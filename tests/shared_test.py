@@ -3,6 +3,7 @@ import ctypes
 import sys
 
 NEW, OLD, OLD_OPEN, OLD_FINISHED, AT, NONE_YET, CELLS, COUNTS, NO_MORE, JOINED, BUILT, REFUSED = *range(1, 12), 256
+WHY_OLD, WHY_NEW = 12, 13
 END = 16
 EDITION_2 = 2
 F2, G2, X, Y, A, B = 0x40000102, 0x40000202, 0x10000007, 0x10000009, 0x20000001, 0x20000002
@@ -26,6 +27,8 @@ ARGUMENTS = {
     "call_indexed": SPACE + SPACE + SPACE,
     "answer_indexed": SPACE + SPACE + [CELL] + SPACE,
     "join_indexed": SPACE + SPACE + [CELL, CELL] + SPACE + [CELL] + SPACE,
+    "why": SPACE + SPACE + SPACE,
+    "why_indexed": SPACE + SPACE + SPACE + SPACE,
     "check": SPACE,
     "first_term": SPACE + [SIZE] + SPACE + [CELL],
     "term_after": SPACE + [SIZE] + SPACE + SPACE + [CELL],
@@ -37,7 +40,7 @@ ARGUMENTS = {
 
 
 def exports(path):
-    """The twenty exports by their names."""
+    """The twenty-two exports by their names."""
     library = ctypes.CDLL(path)
     found = {}
     for name, arguments in ARGUMENTS.items():
@@ -167,6 +170,25 @@ def try_list(call):
     expect("12", divmod(call["first_term"](*symbols, 3, *cells([]), EDITION_2), 2**32), (REFUSED + 12, 3))
 
 
+def try_why(call):
+    """f(X, Y) is subgoal 1: old under other names; f(X, X) shares two cells with it, and the atom A none."""
+    space, index, out = cells([0] * (8 + 5 * 20 + 6 * 2)), cells([0] * 4), cells([7] * 33)
+
+    def said(what, name, value, *arguments):
+        expect(name, divmod(call[name](*space, *arguments), 2**32), (what, value))
+
+    said(0, "fresh", 0, 20, 2, 0, EDITION_2)
+    said(WHY_NEW, "why", 0, *cells([F2, X, Y]), *out)
+    expect("nothing shared", list(out[0][:2]), [0, 7])
+    said(NEW, "call", 1, *cells([F2, X, Y]))
+    said(WHY_OLD, "why", 1, *cells([F2, Y, X]), *out)
+    expect("the variables", list(out[0][:4]), [2, Y, X, 7])
+    said(WHY_NEW, "why_indexed", 1, *index, *cells([F2, X, X]), *out)
+    expect("what is shared", list(out[0][:2]), [2, Y])
+    said(REFUSED + 12, "why", 33, *cells([A]), out[0], 32)
+    said(REFUSED + 6, "why", 0, *cells([X]), *out)
+
+
 def try_carry(call):
     """p(X) with an answer, from edition 1 into edition 2; then no node, and too few."""
     narrow, wide, out = cells([0] * 42), cells([7] * 43), cells([0] * 2)
@@ -225,6 +247,7 @@ def main():
     try_join(call)
     try_index(call)
     try_list(call)
+    try_why(call)
     try_carry(call)
     try_grow(call)
     try_converters(call)

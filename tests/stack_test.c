@@ -51,6 +51,8 @@ enum export {
     CALL_INDEXED,
     ANSWER_INDEXED,
     JOIN_INDEXED,
+    WHY,
+    WHY_INDEXED,
     CHECK,
     CARRY,
     GROW,
@@ -71,7 +73,8 @@ static const struct {
     {"tables_instance", TABLES_STACK_INSTANCE}, {"tables_counts", TABLES_STACK_COUNTS},
     {"tables_join", TABLES_STACK_JOIN},         {"tables_build", TABLES_STACK_BUILD},
     {"tables_call_indexed", TABLES_STACK_CALL}, {"tables_answer_indexed", TABLES_STACK_ANSWER},
-    {"tables_join_indexed", TABLES_STACK_JOIN}, {"tables_check", TABLES_STACK_CHECK},
+    {"tables_join_indexed", TABLES_STACK_JOIN}, {"tables_why", TABLES_STACK_WHY},
+    {"tables_why_indexed", TABLES_STACK_WHY},   {"tables_check", TABLES_STACK_CHECK},
     {"tables_carry", TABLES_STACK_CARRY},       {"tables_grow", TABLES_STACK_GROW},
     {"tables_first_term", TABLES_STACK_FIRST_TERM}, {"tables_term_after", TABLES_STACK_TERM_AFTER},
     {"tables_compact", TABLES_STACK_COMPACT},   {"tables_expand", TABLES_STACK_EXPAND},
@@ -112,6 +115,9 @@ static void make_indexed(enum export export)
     case CALL_INDEXED:
         word = tables_call_indexed(space, space_cells, slots, slot_count, cells, cell_count);
         break;
+    case WHY_INDEXED:
+        word = tables_why_indexed(space, space_cells, slots, slot_count, cells, cell_count, out, TABLES_WHY_CELLS);
+        break;
     case ANSWER_INDEXED:
         word = tables_answer_indexed(space, space_cells, slots, slot_count, 1, cells, cell_count);
         break;
@@ -134,6 +140,9 @@ static void make(enum export export)
         break;
     case ANSWER:
         word = tables_answer(space, space_cells, 1, cells, cell_count);
+        break;
+    case WHY:
+        word = tables_why(space, space_cells, cells, cell_count, out, TABLES_WHY_CELLS);
         break;
     case FINISH:
         word = tables_finish(space, space_cells, 1);
@@ -523,9 +532,33 @@ static void measure_entered(enum export answer, enum export call)
     cell_count = kept_count;
 }
 
+/* Why a term is new or old: the cells as they are, after a functor, and once that is entered. */
+static void measure_why(void)
+{
+    make(FRESH);
+    fill_slots(UINT32_MAX);
+    measure(WHY, input_name);
+    measure(WHY_INDEXED, input_name);
+    uint32_t kept[MOST_LEN];
+    size_t kept_count = cell_count;
+    memcpy(kept, cells, sizeof kept);
+    if (cell_count < TABLES_TERM_CELLS) {
+        memmove(cells + 1, cells, cell_count * sizeof *cells);
+        cells[0] = F1;
+        cell_count++;
+    }
+    measure(WHY, input_name);
+    make(CALL);
+    measure(WHY, input_name);
+    measure(WHY_INDEXED, input_name);
+    memcpy(cells, kept, sizeof kept);
+    cell_count = kept_count;
+}
+
 static void measure_term(void)
 {
     measure(COMPACT, input_name);
+    measure_why();
     measure_entered(ANSWER, CALL);
     fill_slots(UINT32_MAX);
     measure_entered(ANSWER_INDEXED, CALL_INDEXED);
