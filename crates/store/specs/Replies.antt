@@ -1,6 +1,10 @@
 -- What each answer of the code says: the number and values that the request's paper gives for each case.
+use Prim.Native.Nat.{ℕ}
+use mathlib.Core.List.{List}
+use lib.ListN.{take}
 use Rattle.plain.specs.Requests.{State, Open, Finished, Reply, new, oldSubgoal, oldAnswer, done, at}
 use Rattle.plain.specs.Requests.{lacksNext, cells, used, joined, refused, short}
+use Rattle.plain.specs.Requests.{Best, noneFound, found, detoured}
 use Rattle.forms.specs.declared.Answer.{Answer}
 use Rattle.forms.specs.declared.Answer.the-variants as converted
 use Rattle.store.specs.declared.State as declared-state
@@ -17,6 +21,9 @@ use Rattle.store.specs.declared.JoinAnswer.{JoinAnswer}
 use Rattle.store.specs.declared.JoinAnswer.the-variants as join
 use Rattle.store.specs.declared.CountsAnswer.{CountsAnswer}
 use Rattle.store.specs.declared.CountsAnswer.the-variants as counts
+use Rattle.store.specs.declared.DetourOutcome.{DetourOutcome}
+use Rattle.store.specs.declared.DetourOutcome.the-variants as outcome
+use Rattle.store.specs.declared.DetourAnswer.{DetourAnswer}
 
 abbrev pub saidState : declared-state.State → State
 saidState state.Open = Open
@@ -54,3 +61,13 @@ saidCells (converted.Short n) = short n
 abbrev pub saidCounts : CountsAnswer → Reply
 saidCounts (counts.Used y) = used (record { nodes = y .nodes; subgoals = y .subgoals; answers = y .answers })
 saidCounts (counts.Refused r) = refused r
+
+-- a search for detours, by its outcome and the numbers of the answers
+abbrev pub saidOutcome : DetourOutcome → List ℕ → Reply
+saidOutcome (outcome.Found total tried ended) ns =
+    detoured (record { best = found total ns; tried = tried; ended = ended })
+saidOutcome (outcome.Nothing tried ended) ns = detoured (record { best = noneFound; tried = tried; ended = ended })
+saidOutcome (outcome.Refused r) ns = refused r
+
+abbrev pub saidDetours : DetourAnswer → Reply
+saidDetours y = saidOutcome (y .outcome) (take (y .count) (y .numbers))
