@@ -1,0 +1,6 @@
+mod WorkLaws
+mod OfferForms
+mod LiveSteps
+mod JudgeCases
+mod SearchCases
+mod GoalSteps
