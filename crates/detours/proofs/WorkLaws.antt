@@ -134,11 +134,11 @@ pub best-same : (n : ℕ) (work work′ : List ℕ) → getD work′ 1 0 ≡ get
 unfolding bestIn
 best-same n work work′ e f = rw (e, cells-same work work′ bestFrom bestFrom n f) refl
 
-best-none : (n : ℕ) (work : List ℕ) → getD work 1 0 ≡ noTotal → bestIn n work ≡ noneFound
+pub best-none : (n : ℕ) (work : List ℕ) → getD work 1 0 ≡ noTotal → bestIn n work ≡ noneFound
 unfolding bestIn
 best-none n work e = simp (eq-eqb _ _ e)
 
-best-found : (n : ℕ) (work : List ℕ) → (getD work 1 0 ≡ noTotal → ⊥) → bestIn n work ≡ found (getD work 1 0) (cellsAt work bestFrom n)
+pub best-found : (n : ℕ) (work : List ℕ) → (getD work 1 0 ≡ noTotal → ⊥) → bestIn n work ≡ found (getD work 1 0) (cellsAt work bestFrom n)
 unfolding bestIn
 best-found n work e = simp (ne-eqb _ _ e)
 

@@ -1,6 +1,6 @@
 -- What judging goals gives: of one path, of one answer, of all answers of a goal, and of all goals.
 use Prim.Native.Nat.{ℕ, suc, _<_, _≤_}
-use mathlib.Core.Bool.{Bool, true, false, _&&_, _||_}
+use mathlib.Core.Bool.{Bool, true, false, _&&_}
 use mathlib.Core.List.{List, [], _∷_, _++_}
 use mathlib.Core.Path.{_≡_}
 use lib.Dec.{eqb, leb}
@@ -10,16 +10,20 @@ use Rattle.forms.specs.Cells.{atomic, integral}
 use Rattle.forms.specs.Stored.{storedOf}
 use Rattle.plain.specs.Words.{Word}
 use Rattle.plain.specs.Coding.{codingOf}
-use Rattle.plain.specs.Detours.{Live, Goal, offers, allOffer, goalsFit, anyOpen, fewGoals}
-use Rattle.space.specs.Sound.{Bounds, subgoalUnder}
+use Rattle.plain.specs.Requests.{detoured}
+use Rattle.plain.specs.Joins.{isOpen}
+use Rattle.plain.specs.Detours.{Live, Goal, detour, offers, allOffer}
+use Rattle.space.specs.Sound.{subgoalUnder}
 use Rattle.space.specs.declared.Head.{Head}
 use Rattle.trie.specs.Paths.{Path, none, tokens}
 use Rattle.store.specs.Contracts.{viewIn}
-use Rattle.store.specs.Decisions.{Decision, refuses, Lives, severed, lives, livesBehind, livesFrom, livesOf}
-use Rattle.store.specs.Decisions.{Goals, unsound, goals, goalsIn, detoursIn}
-use Rattle.detours.specs.Searching.{Searched}
+use Rattle.store.specs.Decisions.{says, refuses, stateOf, soundSubgoal, Lives, severed, lives, livesBehind, livesFrom}
+use Rattle.store.specs.Decisions.{livesOf, goalsIn, detoursIn}
+use Rattle.detours.specs.Searching.{Searched, answersIn, goalsFrom}
 use Rattle.detours.specs.declared.Judged.{Judged}
 use Rattle.detours.specs.declared.Judged.the-variants as judged
+use Rattle.detours.specs.declared.GoalJudged.{GoalJudged}
+use Rattle.detours.specs.declared.GoalJudged.the-variants as goal
 use Rattle.detours.specs.declared.Member.{Member}
 use Rattle.detours.specs.declared.Member.the-variants as member
 
@@ -102,3 +106,51 @@ abbrev pub AnswersJudged : List ℕ → Head → ℕ → Judged → Type 0
 AnswersJudged cs h s judged.Damaged = livesOf (codingOf (h .edition)) (viewIn cs h) s ≡ severed
 AnswersJudged cs h s judged.Fit = AnswersHeld cs h s true
 AnswersJudged cs h s judged.Unfit = AnswersHeld cs h s false
+
+-- ---- a goal
+
+-- subgoal s as a goal, where none of its answers is damaged
+abbrev pub goalIn : List ℕ → Head → ℕ → Goal
+goalIn cs h s =
+    let g = subgoalUnder cs h s in
+    record { state = stateOf (g .state); m = g .variables; answers = answersIn cs h s }
+
+-- its record is damaged, or one of its answers
+unfoldable pub goalSevered : Bool → Lives → Bool
+goalSevered true severed = true
+goalSevered true (lives ls) = false
+goalSevered false ls = true
+
+abbrev pub GoalSevered : List ℕ → Head → ℕ → Type 0
+GoalSevered cs h s =
+    goalSevered (soundSubgoal (viewIn cs h) s) (livesOf (codingOf (h .edition)) (viewIn cs h) s) ≡ true
+
+-- neither is
+pub record GoalSound (cs : List ℕ) (h : Head) (s : ℕ) : Type 0 where
+  pub record-sound : soundSubgoal (viewIn cs h) s ≡ true
+  pub answers-sound : livesOf (codingOf (h .edition)) (viewIn cs h) s ≡ lives (answersIn cs h s)
+
+abbrev pub GoalTold : List ℕ → Head → ℕ → GoalJudged → Type 0
+GoalTold cs h s goal.Damaged = GoalSevered cs h s
+GoalTold cs h s (goal.Sound o b) =
+    GoalSound cs h s × (isOpen (stateOf (subgoalUnder cs h s .state)) ≡ o) × (goalFits cs h s (answersIn cs h s) ≡ b)
+
+-- ---- all goals
+
+-- the refusal of n goals, of which some are open or none, and all fit or not; 0 for none
+unfoldable pub ruled : Bool → Bool → ℕ → ℕ
+ruled o b n = pick o 14 (pick ((leb 1 n && leb n 6) && b) 0 22)
+
+-- the goals may be searched, and what is found is the answer
+pub record Ready (cs : List ℕ) (h : Head) (ss : List ℕ) : Type 0 where
+  pub some : 1 ≤ length ss
+  pub few : length ss ≤ 6
+  pub searched : (i : ℕ) → i < length ss → Searched cs h (getD ss i 0)
+  pub told : (budget : ℕ) → detoursIn (codingOf (h .edition)) (goalsIn (codingOf (h .edition)) (viewIn cs h) ss) budget
+      ≡ says (detoured (detour (goalsFrom cs h ss 0) budget))
+
+-- r refuses them, whatever the budget, or is 0
+pub record GoalsTold (cs : List ℕ) (h : Head) (ss : List ℕ) (r : ℕ) : Type 0 where
+  pub ready : r ≡ 0 → Ready cs h ss
+  pub refusing : (r ≡ 0 → ⊥) → (budget : ℕ)
+      → detoursIn (codingOf (h .edition)) (goalsIn (codingOf (h .edition)) (viewIn cs h) ss) budget ≡ refuses r

@@ -1,8 +1,12 @@
 // The goals judged, each as a join's source is, and whether its answers are an atom and an integer.
+use super::GoalJudged;
 use super::Judged;
 use super::Member;
+use basis::limits::MOST_GOALS;
 use basis::refusals::GOALS;
 use basis::refusals::RECORDS;
+use basis::refusals::SOURCE_OPEN;
+use basis::wide;
 use forms::is_atom;
 use forms::is_integer;
 use path_terms::path_worth;
@@ -10,16 +14,21 @@ use space::AnswerRead;
 use space::Head;
 use space::NodeRead;
 use space::Subgoal;
+use space::SubgoalRead;
 use space::records::read_answer;
 use space::records::read_rising_node;
+use space::records::read_subgoal;
 use trie::End;
 ghost use mathlib.Core.Path.{_≡_};
-ghost use mathlib.Core.Bool.{_&&_};
+ghost use mathlib.Core.Bool.{true, _&&_, _||_};
 ghost use Prim.Native.Nat.{_≤_};
 ghost use Rattle.basis.specs.Moments.{old};
+ghost use Rattle.plain.specs.Detours.{allWithin};
+ghost use Rattle.space.specs.Sound.{Bounds, SubgoalUsed};
 ghost use Rattle.trie.specs.Runs.{Ends, pathTo};
 ghost use Rattle.store.specs.Contracts.{Held};
 ghost use Rattle.detours.specs.Judging.{offerPath, fitPath, PathJudged, AnswerJudged, AnswersJudged};
+ghost use Rattle.detours.specs.Judging.{GoalTold, ruled, GoalsTold};
 
 fn both(a: bool, b: bool) -> bool
     ensures { λ r. ⌜ r ≡ (a && b) ⌝ }
@@ -28,6 +37,15 @@ fn both(a: bool, b: bool) -> bool
         return b;
     }
     false
+}
+
+fn either(a: bool, b: bool) -> bool
+    ensures { λ r. ⌜ r ≡ (a || b) ⌝ }
+{
+    if a {
+        return true;
+    }
+    b
 }
 
 // Is the path an atom and an integer? Three nodes tell.
@@ -130,4 +148,80 @@ fn judge_answers(space: &[u32], h: Head, s: usize, g: Subgoal) -> Judged
         return Judged::Fit;
     }
     Judged::Unfit
+}
+
+// Subgoal s as a goal: its record, then its answers.
+fn judge_goal(space: &[u32], h: Head, s: usize) -> GoalJudged
+    requires { ⌜ SubgoalUsed (now space) h s ⌝ }
+    ensures { λ r. ⌜ GoalTold (old space) h s r ⌝ }
+{
+    let SubgoalRead::Sound(g) = read_subgoal(space, h, s) else {
+        return GoalJudged::Damaged;
+    };
+    let judged = judge_answers(space, h, s, g);
+    match judged {
+        Judged::Damaged => return GoalJudged::Damaged,
+        Judged::Fit => return GoalJudged::Sound(g.state == 0, true),
+        Judged::Unfit => return GoalJudged::Sound(g.state == 0, false),
+    }
+}
+
+// The refusal of n goals by their states and their answers; 0 for none.
+fn ruling(opened: bool, fit: bool, n: usize) -> u32
+    ensures { λ r. ⌜ r ≡ ruled opened fit n ⌝ }
+{
+    if opened {
+        return SOURCE_OPEN;
+    }
+    if n == 0 {
+        return GOALS;
+    }
+    if MOST_GOALS < n {
+        return GOALS;
+    }
+    if fit {
+        return 0;
+    }
+    GOALS
+}
+
+// Are all goals numbers of subgoals?
+pub fn are_numbers(subgoals: usize, goals: &[u32]) -> bool
+    ensures { λ r. ⌜ r ≡ allWithin subgoals (old goals) ⌝ }
+{
+    let mut i = 0;
+    while i < goals.len() {
+        let s = wide(goals[i]);
+        if s == 0 {
+            return false;
+        }
+        if subgoals < s {
+            return false;
+        }
+        i += 1;
+    }
+    true
+}
+
+// The refusal of goals that are numbers of subgoals; 0 for none. What is damaged comes before all else, so every goal is
+// judged.
+pub fn judge_goals(space: &[u32], h: Head, goals: &[u32]) -> u32
+    requires { ⌜ Bounds (now space) h × (allWithin (h .subgoals) (now goals) ≡ true) ⌝ }
+    ensures { λ r. ⌜ GoalsTold (old space) h (old goals) r ⌝ }
+{
+    let mut opened = false;
+    let mut fit = true;
+    let mut i = 0;
+    while i < goals.len() {
+        let goal = judge_goal(space, h, wide(goals[i]));
+        match goal {
+            GoalJudged::Sound(is_open, fits) => {
+                opened = either(opened, is_open);
+                fit = both(fit, fits);
+                i += 1;
+            }
+            GoalJudged::Damaged => return RECORDS,
+        }
+    }
+    ruling(opened, fit, goals.len())
 }

@@ -22,9 +22,9 @@ ghost use Rattle.basis.specs.Moments.{old, new};
 ghost use Rattle.detours.specs.Searching.{workCells, among, divertersIn, Copyable, Copied, Keepable, Keeps};
 ghost use Rattle.detours.specs.Searching.{Readable, offerAt, Lookable, Looks, Searchable, Searches};
 
-const LEFT: usize = 0;
+pub const LEFT: usize = 0;
 
-const TOTAL: usize = 1;
+pub const TOTAL: usize = 1;
 
 const BEST: usize = 2;
 
