@@ -1,4 +1,5 @@
 pub mod Words
+pub mod Detours
 pub mod Bounded
 pub mod Exports
 pub mod Listings

@@ -6,6 +6,7 @@ use lib.Dec.{leb}
 use lib.ListN.{length, drop}
 use Rattle.basis.specs.Choice.{pick}
 use Rattle.plain.specs.Requests.{Open, Finished, Request, counts, Counts, oldAs, newPast, because, detoured}
+use Rattle.plain.specs.Requests.{Best, noneFound, found}
 use Rattle.plain.specs.Requests.{Reply, new, oldSubgoal, oldAnswer, done, at, noneYet, noMore, cells, used, joined}
 use Rattle.plain.specs.Requests.{refused, short}
 use Rattle.space.specs.declared.FreshAnswer.{FreshAnswer}
@@ -22,8 +23,12 @@ use Rattle.agreement.specs.Faults.{Fault, nothing, heading, node, subgoal, answ
 abbrev pub worded : ℕ → ℕ → ℕ
 worded what value = what * 2 ^ 32 + value
 
--- the value is a number, the cells written, or for 12 the cells that out would need; of a reason it is the subgoal,
--- of detours the choices tried
+-- of detours the value is the total, where one was found
+abbrev pub bestWord : Best → ℕ
+bestWord (found total ns) = worded 14 total
+bestWord noneFound = worded 15 0
+
+-- the value is a number, the cells written, or for 12 the cells that out would need; of a reason it is the subgoal
 unfoldable pub word : Reply → ℕ
 word done = worded 0 0
 word (new n) = worded 1 n
@@ -38,7 +43,7 @@ word noMore = worded 9 0
 word (joined n) = worded 10 n
 word (because (oldAs n vs)) = worded 12 n
 word (because (newPast k s)) = worded 13 s
-word (detoured d) = worded 14 (d .tried)
+word (detoured d) = bestWord (d .best)
 word (refused r) = worded (256 + r) 0
 word (short n) = worded (256 + 12) n
 
