@@ -35,8 +35,8 @@ pub const SOURCE_VARIABLE: u32 = 15;
 pub const NAMES: u32 = 16;
 // The cells of an index that is to be built are no power of two, or fewer than twice the children to enter.
 pub const SLOTS: u32 = 17;
-// The goals of a search for detours are not 1 to 6, one has other than two variables, or one of its answers is no atom and
-// integer.
+// A search for detours with other than 1 to 6 goals, a goal of other than two variables, or an answer that is no atom
+// and integer.
 pub const GOALS: u32 = 22;
 // A listing whose edition, size or symbols are not as they may be given.
 pub const LISTING: u32 = 23;

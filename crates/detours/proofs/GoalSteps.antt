@@ -144,7 +144,8 @@ module _ (cs : List ℕ) (h : Head) (goals : List ℕ) (at sum : ℕ) (work₀ :
       one-more o e os c =
           t .progress os c
           ∙ ap (λ (ls : List Live). tries (going (goalsFrom cs h goals (suc at)) os) (map (optionOf (codingOf (h .edition))) ls) (progressIn (length goals) work true)) (stop .is)
-          ∙ tries-one (going (goalsFrom cs h goals (suc at)) os) (optionOf (codingOf (h .edition)) (record { number = a; form = stop .form })) (map (optionOf (codingOf (h .edition))) (stop .rest)) (progressIn (length goals) work true) refl
+          ∙ tries-one (going (goalsFrom cs h goals (suc at)) os) (optionOf (codingOf (h .edition)) (record { number = a; form = stop .form }))
+          (map (optionOf (codingOf (h .edition))) (stop .rest)) (progressIn (length goals) work true) refl
           ∙ ap (λ (p : Option). tries (going (goalsFrom cs h goals (suc at)) os) (map (optionOf (codingOf (h .edition))) (stop .rest))
           (trying (getD work 0 0) (bestIn (length goals) work) (going (goalsFrom cs h goals (suc at)) os p))) (sym (ap optionFrom e ∙ stop .option))
 

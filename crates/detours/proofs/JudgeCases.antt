@@ -157,7 +157,9 @@ module _ (cs : List ℕ) (e : End) where
       up z = u (parent-is (e .leaf) last r ∙ z)
 
       pub above-damaged : node.Damaged ≡ reads (last .parent) → false ≡ offerPath (pathTo cs e)
-      above-damaged q = first-damaged (trieOf cs e) (e .root) (e .leaf) 382 (sound-at (e .leaf) last r .1) up (unsound-at (trieOf cs e .at (e .leaf) .parent) (q ∙ ap reads (parent-is (e .leaf) last r)))
+      above-damaged q =
+          first-damaged (trieOf cs e) (e .root) (e .leaf) 382 (sound-at (e .leaf) last r .1) up
+          (unsound-at (trieOf cs e .at (e .leaf) .parent) (q ∙ ap reads (parent-is (e .leaf) last r)))
 
       module _ (first : Node) (q : node.Sound first ≡ reads (last .parent)) where
         read-first : node.Sound first ≡ reads (trieOf cs e .at (e .leaf) .parent)
@@ -177,7 +179,9 @@ module _ (cs : List ℕ) (e : End) where
           up-first z = v (parent-first ∙ z ∙ sym (parent-is (e .leaf) last r))
 
           pub root-damaged : node.Damaged ≡ reads (first .parent) → false ≡ offerPath (pathTo cs e)
-          root-damaged x = second-damaged (trieOf cs e) (e .root) (e .leaf) 381 (sound-at (e .leaf) last r .1) up sound-first up-first (unsound-at (trieOf cs e .at (trieOf cs e .at (e .leaf) .parent) .parent) (x ∙ ap reads parent-first))
+          root-damaged x =
+              second-damaged (trieOf cs e) (e .root) (e .leaf) 381 (sound-at (e .leaf) last r .1) up sound-first up-first
+              (unsound-at (trieOf cs e .at (trieOf cs e .at (e .leaf) .parent) .parent) (x ∙ ap reads parent-first))
 
           module _ (root : Node) (x : node.Sound root ≡ reads (first .parent)) where
             abbrev top : ℕ

@@ -1,5 +1,5 @@
 -- A law for each case of the search for detours.
-use Prim.Native.Nat.{ℕ, zero, suc, _+_, _-_, _*_, _≤_, _<_}
+use Prim.Native.Nat.{ℕ, zero, suc, _+_, _-_, _^_, _≤_, _<_}
 use mathlib.Core.Path.{_≡_, refl, sym, ap, _∙_, subst}
 use mathlib.Core.Bool.{Bool, true, false}
 use mathlib.Core.List.{List, [], _∷_, _++_, map}
@@ -10,7 +10,8 @@ use Rattle.basis.specs.Choice.{pick}
 use Rattle.plain.specs.Requests.{Best}
 use Rattle.plain.specs.Detours.{Option, diverts, better, Progress, trying, tries, search}
 use Rattle.space.specs.declared.Head.{Head}
-use Rattle.detours.specs.Searching.{workCells, bestFrom, numbersFrom, divertersFrom, divertersIn, bestIn, progressIn, optionsIn, Chosen, Stays, among, Keeps, optionFrom, going, goalsFrom, Looks, Searches}
+use Rattle.detours.specs.Searching.{workCells, bestFrom, numbersFrom, divertersFrom, divertersIn, bestIn, progressIn, optionsIn, Chosen, Stays, among}
+use Rattle.detours.specs.Searching.{Keeps, optionFrom, going, goalsFrom, Searchable, Looks, Searches}
 use Rattle.detours.specs.declared.Offer.{Offer}
 use Rattle.detours.proofs.WorkLaws.{diverts-among, stays-self, stays-then, stays-fewer, stays-set, chosen-stays, chosen-more, best-same}
 
@@ -55,6 +56,25 @@ going-taken gs os o q e = rw e refl
 
 going-on : (gs : List (List Option)) (os : List Option) (o : Option) (q : Progress) → diverts (o .diverter) os ≡ false → going gs os o q ≡ search gs (os ++ (o ∷ [])) q
 going-on gs os o q e = rw e refl
+
+-- ---- what may be searched
+
+module _ {cs : List ℕ} {h : Head} {goals : List ℕ} {at sum : ℕ} {work : List ℕ} (r : Searchable cs h goals at sum work) where
+  -- in cells that are as many
+  pub searchable-kept : {work′ : List ℕ} → length work′ ≡ length work → Searchable cs h goals at sum work′
+  searchable-kept e = record { bounds = r .bounds; few = r .few; here = r .here; small = r .small; size = e ∙ r .size; searched = r .searched }
+
+  -- the goal after it, one choice more being made
+  pub searchable-next : {work′ : List ℕ} (next minutes : ℕ) → next ≡ suc at → next < length goals → minutes < 2 ^ 28 → length work′ ≡ workCells
+      → Searchable cs h goals next (sum + minutes) work′
+  searchable-next next minutes e l m s = record {
+    bounds = r .bounds;
+    few = r .few;
+    here = l;
+    small = omega (arith, r .small);
+    size = s;
+    searched = r .searched;
+  }
 
 -- ---- one choice
 

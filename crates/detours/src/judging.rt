@@ -203,8 +203,8 @@ pub fn are_numbers(subgoals: usize, goals: &[u32]) -> bool
     true
 }
 
-// The refusal of goals that are numbers of subgoals; 0 for none. What is damaged comes before all else, so every goal is
-// judged.
+// The refusal of goals that are numbers of subgoals; 0 for none. What is damaged comes before all else, so every goal
+// is judged.
 pub fn judge_goals(space: &[u32], h: Head, goals: &[u32]) -> u32
     requires { ⌜ Bounds (now space) h × (allWithin (h .subgoals) (now goals) ≡ true) ⌝ }
     ensures { λ r. ⌜ GoalsTold (old space) h (old goals) r ⌝ }

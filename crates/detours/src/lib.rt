@@ -70,7 +70,7 @@ fn without_numbers(outcome: DetourOutcome) -> DetourAnswer
 }
 
 // What a search over n goals found, as its cells have it.
-fn answer_in(work: &[u32; WORK_CELLS], n: usize, budget: u32, ended: bool) -> DetourAnswer
+fn outcome_in(work: &[u32; WORK_CELLS], n: usize, budget: u32, ended: bool) -> DetourAnswer
     requires { ⌜ Answerable (now work) n budget ⌝ }
     ensures { λ r. ⌜ saidDetours r ≡ detoured (detourIn (old work) n budget ended) ⌝ }
 {
@@ -94,7 +94,7 @@ fn search_goals(space: &[u32], h: Head, goals: &[u32], budget: u32) -> DetourAns
     work[LEFT] = budget;
     work[TOTAL] = NO_TOTAL;
     let ended = search(space, h, goals, 0, 0, &mut work);
-    answer_in(&work, goals.len(), budget, ended)
+    outcome_in(&work, goals.len(), budget, ended)
 }
 
 // Detours, under a sound header.

@@ -1,5 +1,5 @@
-// The C interface: the two converters over little-endian bytes here, the calls over cells, the search for detours and the
-// lists of terms in modules.
+// The C interface: the two converters over little-endian bytes here; the calls over cells, the search for detours and
+// the lists of terms in modules.
 pub mod calls;
 pub mod listings;
 pub mod searches;

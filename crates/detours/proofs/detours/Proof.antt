@@ -16,7 +16,10 @@ detours-in-requires : tie.Need-detours-in-requires
 detours-in-requires c κs = header-bounds _ _ (told (c .before .header .given .1) (c .before .before .before .read-header .ensures))
 
 returns : tie.Need-returns
-returns c = detours-answered (c .before .before .before .before .before .before .before .args .space .now) (c .before .before .before .before .before .before .before .args .goals .now) (c .before .before .before .before .before .before .before .args .budget) (c .before .before .header .given .0 .0) (told (c .before .before .header .given .1) (c .before .before .before .before .read-header .ensures)) _ (c .detours-in .ensures)
+returns c =
+    let start = c .before .before .before .before .before .before .before in
+    detours-answered (start .args .space .now) (start .args .goals .now) (start .args .budget) (c .before .before .header .given .0 .0)
+    (told (c .before .before .header .given .1) (c .before .before .before .before .read-header .ensures)) _ (c .detours-in .ensures)
 
 enum-known-header-2 : tie.Need-enum-known-header-2
 enum-known-header-2 c = search needs
@@ -25,7 +28,11 @@ without-numbers-requires : tie.Need-without-numbers-requires
 without-numbers-requires c κs = search needs
 
 returns-2 : tie.Need-returns-2
-returns-2 c = rw (c .without-numbers .ensures) (detours-declined (c .before .before .before .before .before .before .before .args .space .now) (c .before .before .before .before .before .before .before .args .goals .now) (c .before .before .before .before .before .before .before .args .budget) (c .before .before .header2 .given .0 .0) (told (c .before .before .header2 .given .1) (c .before .before .before .before .read-header .ensures)))
+returns-2 c =
+    let start = c .before .before .before .before .before .before .before in
+    rw (c .without-numbers .ensures)
+    (detours-declined (start .args .space .now) (start .args .goals .now) (start .args .budget) (c .before .before .header2 .given .0 .0)
+    (told (c .before .before .header2 .given .1) (c .before .before .before .before .read-header .ensures)))
 
 pub detours-spec : {M : Type 1} → statement M
 detours-spec =

@@ -17,19 +17,30 @@ search-goals-requires : tie.Need-search-goals-requires
 search-goals-requires c κs = (c .before .before .before .before .before .before .pre, c .before .judge-goals .ensures .ready (search needs))
 
 returns : tie.Need-returns
-returns c = decides-found (c .before .before .before .before .before .before .before .args .space .now) (c .before .before .before .before .before .before .before .args .h) (c .before .before .before .before .before .before .before .args .goals .now) (c .before .before .before .before .before .before .before .args .budget) (told (c .before .before .before .before .are-numbers .ensures) (c .before .before .before .if1 .taken)) _ (c .before .before .judge-goals .ensures .ready (search needs)) (c .search-goals .ensures)
+returns c =
+    let start = c .before .before .before .before .before .before .before in
+    decides-found (start .args .space .now) (start .args .h) (start .args .goals .now) (start .args .budget)
+    (told (c .before .before .before .before .are-numbers .ensures) (c .before .before .before .if1 .taken)) _
+    (c .before .before .judge-goals .ensures .ready (search needs)) (c .search-goals .ensures)
 
 without-numbers-requires : tie.Need-without-numbers-requires
 without-numbers-requires c κs = search needs
 
 returns-2 : tie.Need-returns-2
-returns-2 c = ap says (c .without-numbers .ensures) ∙ decides-refused (c .before .before .before .before .before .before .before .args .space .now) (c .before .before .before .before .before .before .before .args .h) (c .before .before .before .before .before .before .before .args .goals .now) (c .before .before .before .before .before .before .before .args .budget) (told (c .before .before .before .before .are-numbers .ensures) (c .before .before .before .if1 .taken)) _ (c .before .before .judge-goals .ensures) (search needs)
+returns-2 c =
+    let start = c .before .before .before .before .before .before .before in
+    ap says (c .without-numbers .ensures) ∙ decides-refused (start .args .space .now) (start .args .h) (start .args .goals .now) (start .args .budget)
+    (told (c .before .before .before .before .are-numbers .ensures) (c .before .before .before .if1 .taken)) _ (c .before .before .judge-goals .ensures)
+    (search needs)
 
 without-numbers-requires-2 : tie.Need-without-numbers-requires-2
 without-numbers-requires-2 c κs = search needs
 
 returns-3 : tie.Need-returns-3
-returns-3 c = ap says (c .without-numbers2 .ensures) ∙ decides-number (c .before .before .before .before .before .args .space .now) (c .before .before .before .before .before .args .h) (c .before .before .before .before .before .args .goals .now) (c .before .before .before .before .before .args .budget) (told (c .before .before .are-numbers .ensures) (c .before .if1 .left))
+returns-3 c =
+    let start = c .before .before .before .before .before in
+    ap says (c .without-numbers2 .ensures) ∙ decides-number (start .args .space .now) (start .args .h) (start .args .goals .now) (start .args .budget)
+    (told (c .before .before .are-numbers .ensures) (c .before .if1 .left))
 
 pub detours-in-spec : {M : Type 1} → statement M
 detours-in-spec =

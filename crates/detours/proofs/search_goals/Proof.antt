@@ -15,13 +15,21 @@ array-write-work-2 c = search needs
 search-requires : tie.Need-search-requires
 search-requires c κs = search needs
 
-answer-in-requires : tie.Need-answer-in-requires
-answer-in-requires c κs = (c .before .search .ensures .stays .size, c .before .before .before .before .before .pre .1 .few, find-left (c .before .before .before .before .before .args .space .now) (c .before .before .before .before .before .args .h) (c .before .before .before .before .before .args .goals .now) (c .before .before .before .before .before .args .budget) _ _ (c .before .search .ensures))
+outcome-in-requires : tie.Need-outcome-in-requires
+outcome-in-requires c κs =
+    let start = c .before .before .before .before .before in (
+      c .before .search .ensures .stays .size,
+      start .pre .1 .few,
+      find-left (start .args .space .now) (start .args .h) (start .args .goals .now) (start .args .budget) _ _ (c .before .search .ensures),
+    )
 
 returns : tie.Need-returns
-returns c = c .answer-in .ensures ∙ find-told (c .before .before .before .before .before .before .args .space .now) (c .before .before .before .before .before .before .args .h) (c .before .before .before .before .before .before .args .goals .now) (c .before .before .before .before .before .before .args .budget) _ _ (c .before .before .search .ensures)
+returns c =
+    let start = c .before .before .before .before .before .before in
+    c .outcome-in .ensures ∙ find-told (start .args .space .now) (start .args .h) (start .args .goals .now) (start .args .budget) _ _
+    (c .before .before .search .ensures)
 
 pub search-goals-spec : {M : Type 1} → statement M
 search-goals-spec =
     tie.close
-    (tie.spec array-write-work array-write-work-2 search-requires answer-in-requires returns)
+    (tie.spec array-write-work array-write-work-2 search-requires outcome-in-requires returns)

@@ -31,10 +31,18 @@ wide-requires : tie.Need-wide-requires Inv-loop μ-loop
 wide-requires c κs = tt
 
 returns : tie.Need-returns Inv-loop μ-loop
-returns c = within-zero (c .before .before .before .before .before .before .args .subgoals) (c .before .before .before .before .before .before .args .goals .now) (c .before .before .before .before .loop .i) (search needs) (c .before .before .before .before .loop .inv .1) (sym (c .before .wide .ensures .0) ∙ c .if1 .taken)
+returns c =
+    let start = c .before .before .before .before .before .before in
+    let turn = c .before .before .before .before in
+    within-zero (start .args .subgoals) (start .args .goals .now) (turn .loop .i) (search needs) (turn .loop .inv .1)
+    (sym (c .before .wide .ensures .0) ∙ c .if1 .taken)
 
 returns-2 : tie.Need-returns-2 Inv-loop μ-loop
-returns-2 c = within-above (c .before .before .before .before .before .before .before .args .subgoals) (c .before .before .before .before .before .before .before .args .goals .now) (c .before .before .before .before .before .loop .i) (search needs) (c .before .before .before .before .before .loop .inv .1) (λ z. c .before .if1 .left (c .before .before .wide .ensures .0 ∙ z)) (omega (arith, c .before .before .wide .ensures .0))
+returns-2 c =
+    let start = c .before .before .before .before .before .before .before in
+    let turn = c .before .before .before .before .before in
+    within-above (start .args .subgoals) (start .args .goals .now) (turn .loop .i) (search needs) (turn .loop .inv .1)
+    (λ z. c .before .if1 .left (c .before .before .wide .ensures .0 ∙ z)) (omega (arith, c .before .before .wide .ensures .0))
 
 add-i : tie.Need-add-i Inv-loop μ-loop
 add-i c = omega arith
@@ -43,7 +51,14 @@ loop-less : tie.Need-loop-less Inv-loop μ-loop
 loop-less c = omega arith
 
 loop-again : tie.Need-loop-again Inv-loop μ-loop
-loop-again c = (omega arith, within-on (c .before .before .before .before .before .before .before .args .subgoals) (c .before .before .before .before .before .before .before .args .goals .now) (c .before .before .before .before .before .loop .i) (search needs) (c .before .before .before .before .before .loop .inv .1) (λ z. c .before .if1 .left (c .before .before .wide .ensures .0 ∙ z)) (omega (arith, c .before .before .wide .ensures .0)) ∙ ap (λ (k : ℕ). allWithin (c .before .before .before .before .before .before .before .args .subgoals) (drop k (c .before .before .before .before .before .before .before .args .goals .now))) (one-more (c .before .before .before .before .before .loop .i)))
+loop-again c =
+    let start = c .before .before .before .before .before .before .before in
+    let turn = c .before .before .before .before .before in (
+      omega arith,
+      within-on (start .args .subgoals) (start .args .goals .now) (turn .loop .i) (search needs) (turn .loop .inv .1)
+          (λ z. c .before .if1 .left (c .before .before .wide .ensures .0 ∙ z)) (omega (arith, c .before .before .wide .ensures .0)) ∙ ap
+          (λ (k : ℕ). allWithin (start .args .subgoals) (drop k (start .args .goals .now))) (one-more (turn .loop .i)),
+    )
 
 returns-3 : tie.Need-returns-3 Inv-loop μ-loop
 returns-3 c = within-ended (c .before .before .before .args .subgoals) (c .before .before .before .args .goals .now) (c .before .loop .i) (omega arith) (c .before .loop .inv .1)

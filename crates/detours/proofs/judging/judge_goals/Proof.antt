@@ -28,7 +28,10 @@ wide-requires : tie.Need-wide-requires Inv-loop μ-loop
 wide-requires c κs = tt
 
 judge-goal-requires : tie.Need-judge-goal-requires Inv-loop μ-loop
-judge-goal-requires c κs = let x = within-each (c .before .before .before .before .before .before .args .h .subgoals) (c .before .before .before .before .before .before .args .goals .now) (c .before .before .before .before .before .before .pre .1) (c .before .before .before .loop .i) (search needs) in (c .before .before .before .before .before .before .pre .0, omega (arith, x .0, c .wide .ensures .0), omega (arith, x .1, c .wide .ensures .0))
+judge-goal-requires c κs =
+    let start = c .before .before .before .before .before .before in
+    let x = within-each (start .args .h .subgoals) (start .args .goals .now) (start .pre .1) (c .before .before .before .loop .i) (search needs) in
+    (start .pre .0, omega (arith, x .0, c .wide .ensures .0), omega (arith, x .1, c .wide .ensures .0))
 
 enum-known-goal : tie.Need-enum-known-goal Inv-loop μ-loop
 enum-known-goal c = search needs
@@ -46,19 +49,35 @@ loop-less : tie.Need-loop-less Inv-loop μ-loop
 loop-less c = omega arith
 
 loop-again : tie.Need-loop-again Inv-loop μ-loop
-loop-again c = judging-on (c .before .before .before .before .before .before .before .before .before .before .before .before .args .space .now) (c .before .before .before .before .before .before .before .before .before .before .before .before .args .h) (c .before .before .before .before .before .before .before .before .before .before .before .before .args .goals .now) (c .before .before .before .before .before .before .before .before .before .loop .i) (c .before .before .before .before .before .before .before .before .before .loop .opened) (c .before .before .before .before .before .before .before .before .before .loop .fit) (c .before .before .before .before .before .before .before .before .before .loop .inv) _ (omega arith) _ _ _ _ (search needs) (told-goal (c .before .before .before .before .before .before .before .before .before .before .before .before .args .space .now) (c .before .before .before .before .before .before .before .before .before .before .before .before .args .h) (goal.Sound _ _) (c .before .before .before .before .before .before .wide .ensures .0) (rw (c .before .before .before .goal .given .1) at (c .before .before .before .before .before .judge-goal .ensures))) (c .before .either .ensures) (c .both .ensures)
+loop-again c =
+    let start = c .before .before .before .before .before .before .before .before .before .before .before .before in
+    let turn = c .before .before .before .before .before .before .before .before .before in
+    judging-on (start .args .space .now) (start .args .h) (start .args .goals .now) (turn .loop .i) (turn .loop .opened) (turn .loop .fit)
+    (turn .loop .inv) _ (omega arith) _ _ _ _ (search needs)
+    (told-goal (start .args .space .now) (start .args .h) (goal.Sound _ _) (c .before .before .before .before .before .before .wide .ensures .0)
+    (rw (c .before .before .before .goal .given .1) at (c .before .before .before .before .before .judge-goal .ensures))) (c .before .either .ensures)
+    (c .both .ensures)
 
 enum-told : tie.Need-enum-told Inv-loop μ-loop
 enum-told c = search needs
 
 returns : tie.Need-returns Inv-loop μ-loop
-returns c = judging-damaged (c .before .before .before .before .before .before .before .before .before .args .space .now) (c .before .before .before .before .before .before .before .before .before .args .h) (c .before .before .before .before .before .before .before .before .before .args .goals .now) (c .before .before .before .before .before .before .loop .i) (c .before .before .before .before .before .before .loop .opened) (c .before .before .before .before .before .before .loop .fit) (c .before .before .before .before .before .before .loop .inv) (search needs) (told-goal (c .before .before .before .before .before .before .before .before .before .args .space .now) (c .before .before .before .before .before .before .before .before .before .args .h) goal.Damaged (c .before .before .before .wide .ensures .0) (rw (c .enum-told .given .1) at (c .before .before .judge-goal .ensures)))
+returns c =
+    let start = c .before .before .before .before .before .before .before .before .before in
+    let turn = c .before .before .before .before .before .before in
+    judging-damaged (start .args .space .now) (start .args .h) (start .args .goals .now) (turn .loop .i) (turn .loop .opened) (turn .loop .fit)
+    (turn .loop .inv) (search needs) (told-goal (start .args .space .now) (start .args .h) goal.Damaged (c .before .before .before .wide .ensures .0)
+    (rw (c .enum-told .given .1) at (c .before .before .judge-goal .ensures)))
 
 ruling-requires : tie.Need-ruling-requires Inv-loop μ-loop
 ruling-requires c κs = search needs
 
 returns-2 : tie.Need-returns-2 Inv-loop μ-loop
-returns-2 c = judging-ended (c .before .before .before .before .before .args .space .now) (c .before .before .before .before .before .args .h) (c .before .before .before .before .before .args .goals .now) (c .before .before .loop .i) (c .before .before .loop .opened) (c .before .before .loop .fit) (c .before .before .loop .inv) (omega (arith, c .before .before .loop .inv .within)) (c .before .before .before .before .before .pre .1) _ (c .ruling .ensures)
+returns-2 c =
+    let start = c .before .before .before .before .before in
+    let turn = c .before .before in
+    judging-ended (start .args .space .now) (start .args .h) (start .args .goals .now) (turn .loop .i) (turn .loop .opened) (turn .loop .fit)
+    (turn .loop .inv) (omega (arith, turn .loop .inv .within)) (start .pre .1) _ (c .ruling .ensures)
 
 pub judge-goals-spec : {M : Type 1} → statement M
 judge-goals-spec =

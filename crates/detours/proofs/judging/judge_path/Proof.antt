@@ -10,16 +10,25 @@ is-fit-requires : tie.Need-is-fit-requires
 is-fit-requires c κs = search needs
 
 returns : tie.Need-returns
-returns c = path-fit (c .before .before .before .args .edition) (c .before .before .before .args .m) (pathTo (c .before .before .before .args .space .now) (c .before .before .before .args .end)) (told (c .if1 .taken) (c .before .is-fit .ensures))
+returns c =
+    let start = c .before .before .before in
+    path-fit (start .args .edition) (start .args .m) (pathTo (start .args .space .now) (start .args .end))
+    (told (c .if1 .taken) (c .before .is-fit .ensures))
 
 path-worth-requires : tie.Need-path-worth-requires
 path-worth-requires c κs = search needs
 
 returns-2 : tie.Need-returns-2
-returns-2 c = path-severed (c .before .before .before .before .before .args .edition) (c .before .before .before .before .before .args .m) (pathTo (c .before .before .before .before .before .args .space .now) (c .before .before .before .before .before .args .end)) _ (c .before .path-worth .ensures) (search needs)
+returns-2 c =
+    let start = c .before .before .before .before .before in
+    path-severed (start .args .edition) (start .args .m) (pathTo (start .args .space .now) (start .args .end)) _ (c .before .path-worth .ensures)
+    (search needs)
 
 returns-3 : tie.Need-returns-3
-returns-3 c = path-unfit (c .before .before .before .before .before .args .edition) (c .before .before .before .before .before .args .m) (pathTo (c .before .before .before .before .before .args .space .now) (c .before .before .before .before .before .args .end)) _ (c .before .path-worth .ensures) (search needs) (told (c .before .before .if1 .left) (c .before .before .before .is-fit .ensures))
+returns-3 c =
+    let start = c .before .before .before .before .before in
+    path-unfit (start .args .edition) (start .args .m) (pathTo (start .args .space .now) (start .args .end)) _ (c .before .path-worth .ensures)
+    (search needs) (told (c .before .before .if1 .left) (c .before .before .before .is-fit .ensures))
 
 pub judge-path-spec : {M : Type 1} → statement M
 judge-path-spec =

@@ -13,10 +13,15 @@ returns-3 : tie.Need-returns-3
 returns-3 c = ruled-many (c .before .before .before .args .opened) (c .before .before .before .args .fit) (c .before .before .before .args .n) (c .before .before .if1 .left) (c .if3 .taken)
 
 returns-4 : tie.Need-returns-4
-returns-4 c = ruled-fit (c .before .before .before .before .args .opened) (c .before .before .before .before .args .fit) (c .before .before .before .before .args .n) (c .before .before .before .if1 .left) (c .before .before .if2 .left) (c .before .if3 .left) (c .if4 .taken)
+returns-4 c =
+    let start = c .before .before .before .before in
+    ruled-fit (start .args .opened) (start .args .fit) (start .args .n) (c .before .before .before .if1 .left) (c .before .before .if2 .left)
+    (c .before .if3 .left) (c .if4 .taken)
 
 returns-5 : tie.Need-returns-5
-returns-5 c = ruled-unfit (c .before .before .before .before .args .opened) (c .before .before .before .before .args .fit) (c .before .before .before .before .args .n) (c .before .before .before .if1 .left) (c .if4 .left)
+returns-5 c =
+    let start = c .before .before .before .before in
+    ruled-unfit (start .args .opened) (start .args .fit) (start .args .n) (c .before .before .before .if1 .left) (c .if4 .left)
 
 pub ruling-spec : {M : Type 1} → statement M
 ruling-spec = tie.close (tie.spec returns returns-2 returns-3 returns-4 returns-5)

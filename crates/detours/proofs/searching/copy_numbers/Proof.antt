@@ -48,7 +48,12 @@ loop-less : tie.Need-loop-less Inv-loop μ-loop
 loop-less c = omega arith
 
 loop-again : tie.Need-loop-again Inv-loop μ-loop
-loop-again c = (omega arith, rw (add-one (c .before .before .loop .i)) (copied-more (c .before .before .before .args .work .now) (c .before .before .loop .work) (c .before .before .loop .i) (omega arith) (search needs) (c .before .before .loop .inv .1)))
+loop-again c =
+    let turn = c .before .before in (
+      omega arith,
+      rw (add-one (turn .loop .i))
+          (copied-more (c .before .before .before .args .work .now) (turn .loop .work) (turn .loop .i) (omega arith) (search needs) (turn .loop .inv .1)),
+    )
 
 returns : tie.Need-returns Inv-loop μ-loop
 returns c = rw (ends _ _ (search needs) (c .before .loop .inv .0)) (c .before .loop .inv .1)

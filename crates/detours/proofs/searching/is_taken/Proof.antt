@@ -36,7 +36,9 @@ loop-less : tie.Need-loop-less Inv-loop μ-loop
 loop-less c = omega arith
 
 loop-again : tie.Need-loop-again Inv-loop μ-loop
-loop-again c = (omega arith, among-lower _ (c .before .before .before .before .args .work .now) _ (c .before .before .before .loop .i) (search needs) (c .before .before .before .loop .inv .1) (search needs))
+loop-again c =
+    let turn = c .before .before .before in
+    (omega arith, among-lower _ (c .before .before .before .before .args .work .now) _ (turn .loop .i) (search needs) (turn .loop .inv .1) (search needs))
 
 returns-2 : tie.Need-returns-2 Inv-loop μ-loop
 returns-2 c = among-ended _ (c .before .before .args .work .now) _ (c .before .loop .i) (omega arith) (c .before .loop .inv .1)

@@ -15,7 +15,9 @@ copy-numbers-requires : tie.Need-copy-numbers-requires
 copy-numbers-requires c κs = search needs
 
 returns : tie.Need-returns
-returns c = kept (c .before .before .before .before .args .work .now) _ _ (c .before .before .before .before .pre .0) (c .before .before .before .before .pre .1) (c .before .before .before .before .pre .2) _ (search needs) (c .copy-numbers .ensures)
+returns c =
+    let start = c .before .before .before .before in
+    kept (start .args .work .now) _ _ (start .pre .0) (start .pre .1) (start .pre .2) _ (search needs) (c .copy-numbers .ensures)
 
 returns-2 : tie.Need-returns-2
 returns-2 c = not-kept (c .before .before .args .work .now) _ _ (c .before .before .pre .0) (c .before .before .pre .1) (c .before .before .pre .2) (at-most _ _ (search needs))

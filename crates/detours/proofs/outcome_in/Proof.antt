@@ -1,9 +1,9 @@
--- `detours::answer_in` meets its contract.
+-- `detours::outcome_in` meets its contract.
 use mathlib.Core.Path.{_∙_}
 use Rattle.detours.proofs.FindCases.{find-none, find-found}
 use borrow.Author.Needs.{needs}
-use Rattle.detours.proofs.answer_in.Statement.{statement}
-use Rattle.detours.proofs.answer_in.Tie as tie
+use Rattle.detours.proofs.outcome_in.Statement.{statement}
+use Rattle.detours.proofs.outcome_in.Tie as tie
 
 element-copy-out-tried : tie.Need-element-copy-out-tried
 element-copy-out-tried c = search needs
@@ -42,10 +42,12 @@ element-copy-out-t33 : tie.Need-element-copy-out-t33
 element-copy-out-t33 c = search needs
 
 returns-2 : tie.Need-returns-2
-returns-2 c = find-found (c .before .before .before .before .before .before .before .before .before .before .args .n) (c .before .before .before .before .before .before .before .before .before .before .args .work .now) _ _ (c .before .before .before .before .before .before .before .before .before .before .pre .1) (search needs)
+returns-2 c =
+    let start = c .before .before .before .before .before .before .before .before .before .before in
+    find-found (start .args .n) (start .args .work .now) _ _ (start .pre .1) (search needs)
 
-pub answer-in-spec : {M : Type 1} → statement M
-answer-in-spec =
+pub outcome-in-spec : {M : Type 1} → statement M
+outcome-in-spec =
     tie.close
     (tie.spec
     element-copy-out-tried
