@@ -10,6 +10,8 @@ pub const MOST_TOKENS: usize = (3 * MOST_CELLS - 1) / 2;
 pub const MOST_RECORDS: usize = 1048576;
 // The pairs of a join.
 pub const MOST_PAIRS: usize = 32;
+// The goals of a search for detours.
+pub const MOST_GOALS: usize = 6;
 // The cells of a listed call, and the symbols that a list is over.
 pub const MOST_LISTED: usize = 8;
 

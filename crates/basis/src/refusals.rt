@@ -39,6 +39,9 @@ pub const SLOTS: u32 = 17;
 pub const FUNCTOR: u32 = 18;
 // A new capacity is too small for what is stored.
 pub const CAPACITY: u32 = 19;
+// A search for detours with other than 1 to 6 goals, a goal of other than two variables, or an answer that is no atom
+// and integer.
+pub const GOALS: u32 = 22;
 // A listing whose edition, size or symbols are not as they may be given.
 pub const LISTING: u32 = 23;
 // The term given is not in the list.

@@ -1,7 +1,8 @@
-// The C interface: the two converters over little-endian bytes here, the calls over cells and the lists of terms in
-// modules.
+// The C interface: the two converters over little-endian bytes here; the calls over cells, the search for detours and
+// the lists of terms in modules.
 pub mod calls;
 pub mod listings;
+pub mod searches;
 
 ghost use Rattle.basis.specs.Moments.{old, new};
 ghost use Rattle.marshalling.specs.Export.{CompactsBytesIn, ExpandsBytesIn};

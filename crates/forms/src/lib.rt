@@ -1,7 +1,7 @@
 // What a cell stands for, in pair form and in compact form, and what readers and converters answer.
 ghost use mathlib.Core.Path.{_≡_};
 ghost use Prim.Native.Nat.{_+_, _^_, _≤_, _<_};
-ghost use Rattle.forms.specs.Cells.{shapeOf, arityOf, payload, variable, constant, callable};
+ghost use Rattle.forms.specs.Cells.{shapeOf, arityOf, payload, variable, constant, atomic, integral, callable};
 ghost use Rattle.forms.specs.Converting.{converterEdition, refusalOf};
 ghost use Rattle.forms.specs.Stored.{storesPairs};
 ghost use Rattle.forms.specs.Due.{arguments, dueAfter};
@@ -90,6 +90,20 @@ pub fn payload_of(c: u32) -> usize
     ensures { λ r. ⌜ r ≡ payload c ⌝ }
 {
     basis::wide(c % PAYLOADS)
+}
+
+// Whether a cell is an atom.
+pub fn is_atom(c: u32) -> bool
+    ensures { λ r. ⌜ r ≡ atomic c ⌝ }
+{
+    c / PAYLOADS == 2
+}
+
+// Whether a cell is an integer.
+pub fn is_integer(c: u32) -> bool
+    ensures { λ r. ⌜ r ≡ integral c ⌝ }
+{
+    c / PAYLOADS == 3
 }
 
 // Whether a cell is an atom or an integer.

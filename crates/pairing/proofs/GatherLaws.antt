@@ -1,66 +1,22 @@
 -- A path gathered by a loop over the nodes from its leaf up, none of them judged again.
-use Prim.Native.Nat.{ℕ, zero, suc, _+_, _-_, _≤_, _<_}
+use Prim.Native.Nat.{ℕ, suc, _-_, _≤_, _<_}
 use mathlib.Core.Path.{_≡_, refl, sym, ap, _∙_}
-use mathlib.Core.Bool.{true}
 use mathlib.Core.List.{List, [], _∷_, _++_, append-nil, append-assoc}
 use native.Mathlib.Omega.{arith}
-use lib.Dec.{eqb}
 use lib.ListN.{length, drop, set, length-append, length-set, drop-of-length-le}
-use borrow.Author.Tests.{eqb-true, eqb-false}
 use Rattle.basis.proofs.SetsLaws.{drop-written}
-use Rattle.basis.proofs.Cases.{by-cases}
 use Rattle.plain.specs.Words.{Word}
 use Rattle.space.specs.Layout.{sizes, nodeIn}
 use Rattle.space.specs.declared.Node.{Node}
-use Rattle.space.proofs.JudgingLaws.{node-bounds}
-use Rattle.trie.specs.Siblings.{Trie, sound}
-use Rattle.trie.specs.Paths.{Path, none, tokens, below, gather, longest}
+use Rattle.trie.specs.Paths.{tokens, gather, longest}
 use Rattle.trie.specs.Runs.{trieOf, pathTo}
 use Rattle.trie.specs.declared.End.{End}
-use Rattle.trie.proofs.PathLaws.{gather-unsound, gather-root, gather-other, gather-deep, gather-up}
+use Rattle.trie.proofs.PathLaws.{tokensOf, Above, path-root, path-above}
 use Rattle.pairing.specs.Pairing.{Gatherable, Gathers}
-use Rattle.pairing.proofs.HandLaws.{tokensOf}
-
-none-not : {us : List ℕ} → none ≡ tokens us → ⊥
-none-not e = let z : _≡_ {A = ℕ} 0 1 = cc in omega arith
 
 nothing : (us : List ℕ) → length us ≡ 0 → us ≡ []
 nothing [] z = refl
 nothing (u ∷ us) z = absurd (omega arith)
-
--- ---- one node of a path that there is
-
--- the path above a node that is no root
-pub record Above (t : Trie) (root n : ℕ) (us : Word) : Type 0 where
-  pub lower : t .at n .parent < n
-  pub fuel : ℕ
-  pub first : Word
-  pub path : gather fuel t root (t .at n .parent) ≡ tokens first
-  pub is : us ≡ first ++ (t .at n .token ∷ [])
-
-below-tokens : (p : Path) (x : ℕ) (us : List ℕ) → below p x ≡ tokens us → (ys : List ℕ) × (p ≡ tokens ys) × (us ≡ ys ++ (x ∷ []))
-below-tokens none x us e = absurd (none-not e)
-below-tokens (tokens ys) x us e = (ys, refl, sym (ap tokensOf e))
-
-module _ (t : Trie) (root n : ℕ) (us : Word) where
-  path-sound : (most : ℕ) → gather most t root n ≡ tokens us → sound t n ≡ true
-  path-sound most e = by-cases (sound t n) (λ j. j) (λ j. absurd (none-not (sym (gather-unsound t root n most j) ∙ e)))
-
-  pub path-root : (most : ℕ) → gather most t root n ≡ tokens us → t .at n .parent ≡ n → us ≡ []
-  path-root most e p =
-      let j = path-sound most e in
-      by-cases (eqb n root)
-      (λ r. ap tokensOf (sym e ∙ gather-root t root n j most p (eqb-true _ _ r)))
-      (λ r. absurd (none-not (sym (gather-other t root n j most p (eqb-false _ _ r)) ∙ e)))
-
-  pub path-above : (most : ℕ) → gather most t root n ≡ tokens us → (t .at n .parent ≡ n → ⊥) → Above t root n us
-  path-above zero e p = absurd (none-not (sym (gather-deep t root n (path-sound zero e) p) ∙ e))
-  path-above (suc most) e p =
-      let j = path-sound (suc most) e in
-      let b = node-bounds (t .nodes) (t .links) n (t .at n) j in
-      let f : below (gather most t root (t .at n .parent)) (t .at n .token) ≡ tokens us = sym (gather-up t root n j p most) ∙ e in
-      let y = below-tokens (gather most t root (t .at n .parent)) (t .at n .token) us f in
-      record { lower = omega (arith, b .parent-most, p); fuel = most; first = y .0; path = y .1; is = y .2 }
 
 -- ---- the loop
 

@@ -10,8 +10,9 @@ use lib.Seq.{drop-at, take-all, take-take, getD-take, length-take-le}
 use Rattle.forms.specs.Terms.{Term, every}
 use Rattle.plain.specs.Words.{Word}
 use Rattle.plain.proofs.StoredCoding.{coding-laws}
-use Rattle.trie.specs.Paths.{Path, none, tokens}
+use Rattle.trie.specs.Paths.{Path, tokens}
 use Rattle.trie.specs.Runs.{pathTo}
+use Rattle.trie.proofs.PathLaws.{tokensOf}
 use Rattle.trie.specs.declared.End.{End}
 use Rattle.parts.specs.Parts.{startOf, GroundForm, tokensStart, InHand}
 use Rattle.parts.specs.Hands as hands
@@ -67,10 +68,6 @@ hand-stays edition m held held′ i e l =
     (form-in (storedOf edition) m (formIn m held) held′ j, hand-said (storedOf edition) m (formIn m held) held′ j)
 
 -- ---- a path taken in hand
-
-abbrev pub tokensOf : Path → List ℕ
-tokensOf none = []
-tokensOf (tokens xs) = xs
 
 -- a path that stands in the cells from k on, as a part of a slice gives it
 pub path-there : (p : Path) (ks : List ℕ) (n k : ℕ) → length ks ≤ n + k → p ≡ tokens (drop k ks) → p ≡ tokens (take n (drop k ks))

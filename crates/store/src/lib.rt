@@ -1,5 +1,5 @@
 // What the calls on a space answer. What each decides and writes is defined in specs; the code that does it is in the
-// crates above: calling, answering, reads, join and reasons.
+// crates above: calling, answering, reads, join, reasons and detours.
 use basis::limits::MOST_VARIABLES;
 
 // A subgoal is open or finished.
@@ -67,4 +67,20 @@ pub struct Counts {
 pub enum CountsAnswer {
     Used(Counts),
     Refused(u32),
+}
+
+// What a search for detours comes to: the least total found, the choices tried and whether the search ended; or the
+// last two where no choice was found.
+pub enum DetourOutcome {
+    Found(u32, u32, bool),
+    Nothing(u32, bool),
+    Refused(u32),
+}
+
+// What detours answers. Where a total was found the first `count` numbers are those of its answers, in the order of the
+// goals.
+pub struct DetourAnswer {
+    pub outcome: DetourOutcome,
+    pub count: usize,
+    pub numbers: [u32; 6],
 }

@@ -39,6 +39,47 @@ module _ (t : Trie) (root n : ℕ) where
       unfolding gather
       gather-up most = simp (e, ne-eqb _ _ p)
 
+-- ---- one node of a path that there is
+
+abbrev pub tokensOf : Path → List ℕ
+tokensOf none = []
+tokensOf (tokens xs) = xs
+
+none-not : {us : List ℕ} → none ≡ tokens us → ⊥
+none-not e = let z : _≡_ {A = ℕ} 0 1 = cc in omega arith
+
+-- the path above a node that is no root
+pub record Above (t : Trie) (root n : ℕ) (us : List ℕ) : Type 0 where
+  pub lower : t .at n .parent < n
+  pub fuel : ℕ
+  pub first : List ℕ
+  pub path : gather fuel t root (t .at n .parent) ≡ tokens first
+  pub is : us ≡ first ++ (t .at n .token ∷ [])
+
+below-tokens : (p : Path) (x : ℕ) (us : List ℕ) → below p x ≡ tokens us → (ys : List ℕ) × (p ≡ tokens ys) × (us ≡ ys ++ (x ∷ []))
+below-tokens none x us e = absurd (none-not e)
+below-tokens (tokens ys) x us e = (ys, refl, sym (ap tokensOf e))
+
+module _ (t : Trie) (root n : ℕ) (us : List ℕ) where
+  path-sound : (most : ℕ) → gather most t root n ≡ tokens us → sound t n ≡ true
+  path-sound most e = by-cases (sound t n) (λ j. j) (λ j. absurd (none-not (sym (gather-unsound t root n most j) ∙ e)))
+
+  pub path-root : (most : ℕ) → gather most t root n ≡ tokens us → t .at n .parent ≡ n → us ≡ []
+  path-root most e p =
+      let j = path-sound most e in
+      by-cases (eqb n root)
+      (λ r. ap tokensOf (sym e ∙ gather-root t root n j most p (eqb-true _ _ r)))
+      (λ r. absurd (none-not (sym (gather-other t root n j most p (eqb-false _ _ r)) ∙ e)))
+
+  pub path-above : (most : ℕ) → gather most t root n ≡ tokens us → (t .at n .parent ≡ n → ⊥) → Above t root n us
+  path-above zero e p = absurd (none-not (sym (gather-deep t root n (path-sound zero e) p) ∙ e))
+  path-above (suc most) e p =
+      let j = path-sound (suc most) e in
+      let b = node-bounds (t .nodes) (t .links) n (t .at n) j in
+      let f : below (gather most t root (t .at n .parent)) (t .at n .token) ≡ tokens us = sym (gather-up t root n j p most) ∙ e in
+      let y = below-tokens (gather most t root (t .at n .parent)) (t .at n .token) us f in
+      record { lower = omega (arith, b .parent-most, p); fuel = most; first = y .0; path = y .1; is = y .2 }
+
 -- a path has at most as many tokens as were allowed
 abbrev pub Within : ℕ → Path → Type 0
 Within most none = Unit

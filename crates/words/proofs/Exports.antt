@@ -7,21 +7,25 @@ use native.Mathlib.Omega.{arith}
 use lib.Dec.{eqb, ltb}
 use lib.ListN.{length}
 use Rattle.basis.specs.Choice.{pick}
+use Rattle.basis.proofs.Cases.{by-cases}
 use Rattle.forms.specs.Numbering.{met}
 use Rattle.plain.specs.Coding as coding
-use Rattle.plain.specs.Coding.{codingOf, Reading}
-use Rattle.plain.specs.Requests.{Request, counts, why, lent, newPast, because, Reply, refused, Seen}
+use Rattle.plain.specs.Coding.{Coding, codingOf, Reading}
+use Rattle.plain.specs.Requests.{Request, counts, why, detours, lent, newPast, because, Reply, refused, Seen}
+use Rattle.plain.specs.Detours.{detoursOf, allWithin}
 use Rattle.plain.specs.Table.{tableTrace, editionTrace}
 use Rattle.space.specs.declared.FreshAnswer.{FreshAnswer}
 use Rattle.space.specs.declared.FreshAnswer.the-variants.{Done, Refused}
+use Rattle.space.specs.Layout.{sizesOf}
 use Rattle.space.specs.Heading.{spaceHeader}
+use Rattle.space.specs.declared.Head.{Head}
 use Rattle.space.specs.declared.Header.{Header}
 use Rattle.space.specs.declared.Header.the-variants as header
-use Rattle.space.specs.Layout.{sizesOf}
 use Rattle.trie.specs.Siblings.{searchChildren}
 use Rattle.trie.specs.Walks.{Walk, whole, stopped, damaged, Finding, walkBy}
 use Rattle.store.specs.Views.{View, viewOf, subgoalTrie}
 use Rattle.store.specs.Decisions.{Decision, says, refuses, soundSubgoal, Way, astray, leads, firstsFrom, namedBy, newAt, reasonedAt, reasonedBy, decideBy}
+use Rattle.store.specs.Decisions.{Goals, unsound, goals, goalsIn, detoursIn}
 use Rattle.store.specs.Changes.{changeBy}
 use Rattle.store.specs.Calls.{outAfter, underBy, underAnyBy, spaceStepBy, spaceStep, countedCells}
 use Rattle.agreement.specs.History.{alone, wayOf, Made, Meets, History, asked, seenOf}
@@ -34,7 +38,8 @@ use Rattle.carrying.specs.Carrying.{carried}
 use Rattle.carrying.proofs.Theorems.{carries}
 use Rattle.words.specs.Words.{word, saidFresh, countsReply, countsOut, wordCheck}
 use Rattle.words.specs.Why.{whyReply, whyOut}
-use Rattle.words.specs.Exports.{Export, callOf, countsInto, whyInto, requestOf, ExportMade, MeetsExport, Exports, exportsOf, requestsOf, SeenWord, seenExport, seenAs}
+use Rattle.words.specs.Detours.{detoursReply, detoursOut}
+use Rattle.words.specs.Exports.{Export, callOf, countsInto, whyInto, detoursInto, requestOf, ExportMade, MeetsExport, Exports, exportsOf, requestsOf, SeenWord, seenExport, seenAs}
 use Rattle.words.specs.Exports.{ExportHistories, WholeExportHistories, CarriedExportHistories, ExportsLived, FreshZero, CheckZero, CarryZero}
 
 -- ---- word 0
@@ -95,6 +100,13 @@ call-made before (countsInto room) w out after h = record {
 }
 call-made before (whyInto term room b) w out after h = record {
   made = record { request = why term; beside = b; reply = h .0 .0; out = []; after = after };
+  meets = (h .0 .1 .0, h .0 .1 .1, h .1 ∙ h .0 .1 .2);
+  leaves = refl;
+  asks = refl;
+  shows = rw (h .0 .2 .0, h .0 .2 .1) refl;
+}
+call-made before (detoursInto gs budget room) w out after h = record {
+  made = record { request = detours gs budget; beside = alone; reply = h .0 .0; out = []; after = after };
   meets = (h .0 .1 .0, h .0 .1 .1, h .1 ∙ h .0 .1 .2);
   leaves = refl;
   asks = refl;
@@ -193,6 +205,33 @@ why-kept : (find : Finding) (cs term : List ℕ) → ([] ≡ spaceStepBy find cs
 unfolding spaceStepBy
 why-kept find cs term = why-under find cs term (spaceHeader cs)
 
+-- a search for detours only says something
+says-under : (cs : List ℕ) (q : Request) (h : Head) (r : Reply) → lent q ≡ [] → decideBy searchChildren (codingOf (h .edition)) (viewOf (sizesOf (h .edition)) cs h) q ≡ says r
+    → ([] ≡ underAnyBy searchChildren cs q (header.Sound h) .out) × (cs ≡ underAnyBy searchChildren cs q (header.Sound h) .state)
+unfolding underAnyBy underBy changeBy outAfter
+says-under cs q h r l e = rw (e, l) (refl, refl)
+
+detours-says : (c : Coding) (gs : Goals) (budget : ℕ) → (r : Reply) × (detoursIn c gs budget ≡ says r)
+unfolding detoursIn
+detours-says c unsound budget = (refused 9, refl)
+detours-says c (goals gs) budget = (detoursOf c gs budget, refl)
+
+detours-decides : (c : Coding) (v : View) (gs : List ℕ) (budget : ℕ) → (r : Reply) × (decideBy searchChildren c v (detours gs budget) ≡ says r)
+unfolding decideBy
+detours-decides c v gs budget = by-cases (allWithin (v .subgoals) gs)
+    (λ e. rw e (detours-says c (goalsIn c v gs) budget))
+    (λ e. rw e (refused 7, refl))
+
+detours-under : (cs gs : List ℕ) (budget : ℕ) (x : Header) → ([] ≡ underAnyBy searchChildren cs (detours gs budget) x .out) × (cs ≡ underAnyBy searchChildren cs (detours gs budget) x .state)
+unfolding underAnyBy lent
+detours-under cs gs budget (header.Sound h) =
+    let d = detours-decides (codingOf (h .edition)) (viewOf (sizesOf (h .edition)) cs h) gs budget in says-under cs (detours gs budget) h (d .0) refl (d .1)
+detours-under cs gs budget (header.Refused r) = (refl, refl)
+
+detours-kept : (cs gs : List ℕ) (budget : ℕ) → ([] ≡ spaceStep cs (detours gs budget) .out) × (cs ≡ spaceStep cs (detours gs budget) .state)
+unfolding spaceStepBy
+detours-kept cs gs budget = detours-under cs gs budget (spaceHeader cs)
+
 export-lived : (before : List ℕ) (x : Export) → (w : ℕ) × (out : List ℕ) × (after : List ℕ) × MeetsExport before x w out after
 export-lived before (callOf q b) =
     let r = spaceStepBy (wayOf before b) before q in
@@ -205,6 +244,10 @@ export-lived before (whyInto term room b) =
     let r = spaceStepBy (wayOf before b) before (why term) .reply in
     let k = why-kept (wayOf before b) before term in
     (word (whyReply r room), whyOut r room, before, ((r, (refl, k .0, k .1), (refl, refl)), refl))
+export-lived before (detoursInto gs budget room) =
+    let r = spaceStep before (detours gs budget) .reply in
+    let k = detours-kept before gs budget in
+    (word (detoursReply r room), detoursOut r room, before, ((r, (refl, k .0, k .1), (refl, refl)), refl))
 
 pub exports-lived : ExportsLived
 unfolding Exports

@@ -4,5 +4,6 @@ pub mod WhyLaws
 pub mod FaultBounds
 pub mod BuildBounds
 pub mod CarryBounds
+pub mod DetourWords
 pub mod Exports
 pub mod ListingBounds

@@ -6,7 +6,7 @@ use mathlib.Core.Bool.{true}
 use mathlib.Core.List.{List, [], _∷_, map, zipWith}
 use mathlib.Core.Path.{_≡_}
 use Rattle.plain.specs.Coding.{codingOf}
-use Rattle.plain.specs.Requests.{Request, counts, why, Counts, Seen}
+use Rattle.plain.specs.Requests.{Request, counts, why, detours, Counts, Seen}
 use Rattle.plain.specs.Table.{tableTrace, editionTrace}
 use Rattle.space.specs.Fresh.{freshAnswerIn}
 use Rattle.space.specs.declared.FreshAnswer.the-variants.{Done}
@@ -19,20 +19,23 @@ use Rattle.carrying.specs.Copying.{carryReply}
 use Rattle.words.specs.Words.{word, countsReply, countsOut, ReturnsBy, ReturnsCounts, ReturnsFresh, ReturnsCheck}
 use Rattle.words.specs.Words.{ReturnsCarry}
 use Rattle.words.specs.Why.{whyReply, whyOut, ReturnsWhyBy}
+use Rattle.words.specs.Detours.{detoursReply, detoursOut, ReturnsDetours}
 
 -- ---- exports one after another
 
--- an export with all that is lent to it: a call with what it is lent beside the space, `tables_counts` with an out, or
--- `tables_why` with a term, an out, and what it is lent beside
+-- an export with all that is lent to it: a call with what it is lent beside the space, `tables_counts` with an out,
+-- `tables_why` with a term, an out, and what it is lent beside, or `tables_detours` with its goals and an out
 pub data Export : Type 0 where
   callOf : Request → Beside → Export
   countsInto : List ℕ → Export
   whyInto : List ℕ → List ℕ → Beside → Export
+  detoursInto : (goals : List ℕ) (budget : ℕ) → List ℕ → Export
 
 abbrev pub requestOf : Export → Request
 requestOf (callOf q b) = q
 requestOf (countsInto room) = counts
 requestOf (whyInto term room b) = why term
+requestOf (detoursInto gs budget room) = detours gs budget
 
 -- an export that was called: the word that it returned, what it left in out, and the cells after it
 pub record ExportMade : Type 0 where
@@ -41,12 +44,14 @@ pub record ExportMade : Type 0 where
   pub out : List ℕ
   pub after : List ℕ
 
--- it meets its contract on the cells `before`; `tables_counts` and `tables_why` only read them
+-- it meets its contract on the cells `before`; the last three only read them
 abbrev pub MeetsExport : List ℕ → Export → ℕ → List ℕ → List ℕ → Type 0
 MeetsExport before (callOf q b) w out after = ReturnsBy (wayOf before b) before q w out after
 MeetsExport before (countsInto room) w out after = ReturnsCounts before w room out × (after ≡ before)
 MeetsExport before (whyInto term room b) w out after =
     ReturnsWhyBy (wayOf before b) before term w room out × (after ≡ before)
+MeetsExport before (detoursInto gs budget room) w out after =
+    ReturnsDetours before gs budget w room out × (after ≡ before)
 
 -- each does, on the cells that the one before it left
 unfoldable pub Exports : List ℕ → List ExportMade → Type 0
@@ -76,6 +81,8 @@ seenAs (countsInto room) s =
     record { result = word (countsReply (s .reply) room); counted = s .counted; out = countsOut (s .reply) room }
 seenAs (whyInto term room b) s =
     record { result = word (whyReply (s .reply) room); counted = s .counted; out = whyOut (s .reply) room }
+seenAs (detoursInto gs budget room) s =
+    record { result = word (detoursReply (s .reply) room); counted = s .counted; out = detoursOut (s .reply) room }
 
 -- on every space for which `tables_fresh` returned 0, in every edition that it takes
 abbrev pub ExportHistories : Type 0

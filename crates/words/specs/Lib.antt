@@ -1,5 +1,6 @@
 pub mod Words
 pub mod Why
+pub mod Detours
 pub mod Bounded
 pub mod Exports
 pub mod Listings

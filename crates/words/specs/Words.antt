@@ -6,6 +6,7 @@ use lib.Dec.{leb}
 use lib.ListN.{length, drop}
 use Rattle.basis.specs.Choice.{pick}
 use Rattle.plain.specs.Requests.{Open, Finished, Request, counts, Counts, oldAs, newPast, because, detoured}
+use Rattle.plain.specs.Requests.{Best, noneFound, found}
 use Rattle.plain.specs.Requests.{Reply, new, oldSubgoal, oldAnswer, done, at, noneYet, noMore, cells, used, joined}
 use Rattle.plain.specs.Requests.{refused, short}
 use Rattle.space.specs.declared.FreshAnswer.{FreshAnswer}
@@ -24,8 +25,12 @@ use Rattle.growing.specs.Growing.{growReply, growSpace}
 abbrev pub worded : ℕ → ℕ → ℕ
 worded what value = what * 2 ^ 32 + value
 
--- the value is a number, the cells written, or for 12 the cells that out would need; of a reason it is the subgoal,
--- of detours the choices tried
+-- of detours the value is the total, where one was found
+abbrev pub bestWord : Best → ℕ
+bestWord (found total ns) = worded 14 total
+bestWord noneFound = worded 15 0
+
+-- the value is a number, the cells written, or for 12 the cells that out would need; of a reason it is the subgoal
 unfoldable pub word : Reply → ℕ
 word done = worded 0 0
 word (new n) = worded 1 n
@@ -40,7 +45,7 @@ word noMore = worded 9 0
 word (joined n) = worded 10 n
 word (because (oldAs n vs)) = worded 12 n
 word (because (newPast k s)) = worded 13 s
-word (detoured d) = worded 14 (d .tried)
+word (detoured d) = bestWord (d .best)
 word (refused r) = worded (256 + r) 0
 word (short n) = worded (256 + 12) n
 
@@ -67,8 +72,8 @@ ReturnsGrow nodes subgoals answers before w after =
     (w ≡ word (saidFresh (growReply nodes subgoals answers before)))
     × (after ≡ growSpace nodes subgoals answers before)
 
--- An export returns w: the word of what the call answers. The contract of every exported call but `tables_counts` and
--- `tables_why` (Why.antt).
+-- An export returns w: the word of what the call answers. The contract of every exported call but `tables_counts`,
+-- `tables_why` (Why.antt) and `tables_detours` (Detours.antt).
 abbrev pub ReturnsBy : Finding → List ℕ → Request → ℕ → List ℕ → List ℕ → Type 0
 ReturnsBy find before q w out after = (r : Reply) × AnswersBy find before q r out after × (w ≡ word r)
 
