@@ -44,7 +44,8 @@ detouring (short n) f x = x
 
 -- what detours answers; an out of fewer than eight cells is 12, however few are to be written
 unfoldable pub detoursReply : Reply → List ℕ → Reply
-detoursReply reply out = detouring reply (λ d. pick (leb mostDetourCells (length out)) reply (short mostDetourCells)) reply
+detoursReply reply out =
+    detouring reply (λ d. pick (leb mostDetourCells (length out)) reply (short mostDetourCells)) reply
 
 -- the cells stand before what was after them; refused, out is as it was
 unfoldable pub detoursOut : Reply → List ℕ → List ℕ

@@ -25,7 +25,11 @@ result-word-requires c κs = search needs
 
 returns : tie.Need-returns
 unfolding word
-returns c = detours-short (saidDetours (c .before .before .before .before .before .before .args .answer)) (c .before .before .before .before .before .before .args .out .now) _ _ (ap (λ (x : DetourOutcome). saidOutcome x (take (c .before .before .before .before .before .before .args .answer .count) (c .before .before .before .before .before .before .args .answer .numbers))) (sym (c .before .before .before .outcome .given .1))) (search needs) (c .result-word .ensures)
+returns c =
+    let start = c .before .before .before .before .before .before in
+    detours-short (saidDetours (start .args .answer)) (start .args .out .now) _ _
+    (ap (λ (x : DetourOutcome). saidOutcome x (take (start .args .answer .count) (start .args .answer .numbers)))
+    (sym (c .before .before .before .outcome .given .1))) (search needs) (c .result-word .ensures)
 
 write-progress-requires : tie.Need-write-progress-requires
 write-progress-requires c κs = search needs
@@ -41,7 +45,17 @@ same-length c = search needs
 
 returns-2 : tie.Need-returns-2
 unfolding word
-returns-2 c = detours-found (saidDetours (c .before .before .before .before .before .before .before .before .before .before .before .before .before .before .before .before .args .answer)) (c .before .before .before .before .before .before .before .before .before .before .before .before .before .before .before .before .args .out .now) _ (c .before .before .before .before .before .before .before .before .before .before .before .before .before .outcome .given .0 .0) (c .before .before .before .before .before .before .before .before .before .before .before .before .before .outcome .given .0 .1 .0) (c .before .before .before .before .before .before .before .before .before .before .before .before .before .outcome .given .0 .1 .1 .0) (c .before .before .before .before .before .before .before .before .before .before .before .before .before .before .before .before .args .answer .numbers) (c .before .before .before .before .before .before .before .before .before .before .before .before .before .before .before .before .args .answer .count) (ap (λ (x : DetourOutcome). saidOutcome x (take (c .before .before .before .before .before .before .before .before .before .before .before .before .before .before .before .before .args .answer .count) (c .before .before .before .before .before .before .before .before .before .before .before .before .before .before .before .before .args .answer .numbers))) (sym (c .before .before .before .before .before .before .before .before .before .before .before .before .before .outcome .given .1))) (search needs) _ _ (c .before .before .before .before .before .before .before .before .write-progress .ensures) (c .before .before .before .write-numbers .ensures) (c .result-word2 .ensures)
+returns-2 c =
+    let start = c .before .before .before .before .before .before .before .before .before .before .before .before .before .before .before .before in
+    detours-found (saidDetours (start .args .answer)) (start .args .out .now) _
+    (c .before .before .before .before .before .before .before .before .before .before .before .before .before .outcome .given .0 .0)
+    (c .before .before .before .before .before .before .before .before .before .before .before .before .before .outcome .given .0 .1 .0)
+    (c .before .before .before .before .before .before .before .before .before .before .before .before .before .outcome .given .0 .1 .1 .0)
+    (start .args .answer .numbers) (start .args .answer .count)
+    (ap (λ (x : DetourOutcome). saidOutcome x (take (start .args .answer .count) (start .args .answer .numbers)))
+    (sym (c .before .before .before .before .before .before .before .before .before .before .before .before .before .outcome .given .1))) (search needs) _
+    _ (c .before .before .before .before .before .before .before .before .write-progress .ensures) (c .before .before .before .write-numbers .ensures)
+    (c .result-word2 .ensures)
 
 enum-known-outcome-2 : tie.Need-enum-known-outcome-2
 enum-known-outcome-2 c = search needs
@@ -57,7 +71,11 @@ result-word-requires-3 c κs = search needs
 
 returns-3 : tie.Need-returns-3
 unfolding word
-returns-3 c = detours-short (saidDetours (c .before .before .before .before .before .before .args .answer)) (c .before .before .before .before .before .before .args .out .now) _ _ (ap (λ (x : DetourOutcome). saidOutcome x (take (c .before .before .before .before .before .before .args .answer .count) (c .before .before .before .before .before .before .args .answer .numbers))) (sym (c .before .before .before .outcome2 .given .1))) (search needs) (c .result-word3 .ensures)
+returns-3 c =
+    let start = c .before .before .before .before .before .before in
+    detours-short (saidDetours (start .args .answer)) (start .args .out .now) _ _
+    (ap (λ (x : DetourOutcome). saidOutcome x (take (start .args .answer .count) (start .args .answer .numbers)))
+    (sym (c .before .before .before .outcome2 .given .1))) (search needs) (c .result-word3 .ensures)
 
 write-progress-requires-2 : tie.Need-write-progress-requires-2
 write-progress-requires-2 c κs = search needs
@@ -70,17 +88,33 @@ same-length-2 c = search needs
 
 returns-4 : tie.Need-returns-4
 unfolding word
-returns-4 c = detours-none (saidDetours (c .before .before .before .before .before .before .before .before .before .before .args .answer)) (c .before .before .before .before .before .before .before .before .before .before .args .out .now) _ (c .before .before .before .before .before .before .before .outcome2 .given .0 .0) (c .before .before .before .before .before .before .before .outcome2 .given .0 .1 .0) (ap (λ (x : DetourOutcome). saidOutcome x (take (c .before .before .before .before .before .before .before .before .before .before .args .answer .count) (c .before .before .before .before .before .before .before .before .before .before .args .answer .numbers))) (sym (c .before .before .before .before .before .before .before .outcome2 .given .1))) (search needs) _ (c .before .before .before .write-progress2 .ensures) (c .result-word4 .ensures)
+returns-4 c =
+    let start = c .before .before .before .before .before .before .before .before .before .before in
+    detours-none (saidDetours (start .args .answer)) (start .args .out .now) _
+    (c .before .before .before .before .before .before .before .outcome2 .given .0 .0)
+    (c .before .before .before .before .before .before .before .outcome2 .given .0 .1 .0)
+    (ap (λ (x : DetourOutcome). saidOutcome x (take (start .args .answer .count) (start .args .answer .numbers)))
+    (sym (c .before .before .before .before .before .before .before .outcome2 .given .1))) (search needs) _
+    (c .before .before .before .write-progress2 .ensures) (c .result-word4 .ensures)
 
 enum-known-outcome-3 : tie.Need-enum-known-outcome-3
 enum-known-outcome-3 c = search needs
 
 refusal-word-requires : tie.Need-refusal-word-requires
-refusal-word-requires c κs = let h = given-bounded (ap (λ (x : DetourOutcome). saidOutcome x (take (c .before .before .before .before .args .answer .count) (c .before .before .before .before .args .answer .numbers))) (sym (c .before .outcome3 .given .1))) (c .before .before .before .before .pre) in omega arith
+refusal-word-requires c κs =
+    let start = c .before .before .before .before in
+    let h = given-bounded
+    (ap (λ (x : DetourOutcome). saidOutcome x (take (start .args .answer .count) (start .args .answer .numbers))) (sym (c .before .outcome3 .given .1)))
+    (start .pre) in
+    omega arith
 
 returns-5 : tie.Need-returns-5
 unfolding word
-returns-5 c = detours-refused (saidDetours (c .before .before .before .before .before .args .answer)) (c .before .before .before .before .before .args .out .now) _ _ (ap (λ (x : DetourOutcome). saidOutcome x (take (c .before .before .before .before .before .args .answer .count) (c .before .before .before .before .before .args .answer .numbers))) (sym (c .before .before .outcome3 .given .1))) (c .refusal-word .ensures)
+returns-5 c =
+    let start = c .before .before .before .before .before in
+    detours-refused (saidDetours (start .args .answer)) (start .args .out .now) _ _
+    (ap (λ (x : DetourOutcome). saidOutcome x (take (start .args .answer .count) (start .args .answer .numbers)))
+    (sym (c .before .before .outcome3 .given .1))) (c .refusal-word .ensures)
 
 pub detours-result-spec : {M : Type 1} → statement M
 detours-result-spec =

@@ -23,7 +23,11 @@ same-length : tie.Need-same-length
 same-length c = search needs
 
 returns : tie.Need-returns
-returns c = numbers-stand (c .before .before .before .before .before .before .before .args .numbers .now) (c .before .before .before .before .before .before .before .args .count) (c .before .before .before .before .before .fewer .result) (c .before .before .before .before .before .before .before .args .out .now) (c .before .before .before .before .before .before .before .pre .0) (c .before .before .before .before .before .fewer .ensures) (c .before .before .before .before .before .before .before .pre .1) (c .before .before .copy .last .1 .1 .0) (c .before .before .copy .ensures)
+returns c =
+    let start = c .before .before .before .before .before .before .before in
+    numbers-stand (start .args .numbers .now) (start .args .count) (c .before .before .before .before .before .fewer .result) (start .args .out .now)
+    (start .pre .0) (c .before .before .before .before .before .fewer .ensures) (start .pre .1) (c .before .before .copy .last .1 .1 .0)
+    (c .before .before .copy .ensures)
 
 pub write-numbers-spec : {M : Type 1} → statement M
 write-numbers-spec =

@@ -20,7 +20,9 @@ same-length : tie.Need-same-length
 same-length c = search needs
 
 returns : tie.Need-returns
-returns c = ap (λ (x : ℕ). set (set (c .before .before .args .out .now) 0 (c .before .before .args .tried)) 1 x) (c .flag .ensures) ∙ two-set (c .before .before .args .out .now) _ _ (c .before .before .pre)
+returns c =
+    let start = c .before .before in
+    ap (λ (x : ℕ). set (set (start .args .out .now) 0 (start .args .tried)) 1 x) (c .flag .ensures) ∙ two-set (start .args .out .now) _ _ (start .pre)
 
 pub write-progress-spec : {M : Type 1} → statement M
 write-progress-spec =
