@@ -333,14 +333,14 @@ static void test_why(void)
     static uint32_t space[CELLS], out[TABLES_WHY_CELLS];
     const uint32_t p = tables_functor_cell(TABLES_EDITION_2, 5, 2), x = tables_cell(TABLES_VARIABLE, 3);
     const uint32_t y = tables_cell(TABLES_VARIABLE, 9);
-    const uint32_t old[] = {p, x, y}, again[] = {p, y, x}, new[] = {p, x, x};
+    const uint32_t old[] = {p, x, y}, again[] = {p, y, x}, other[] = {p, x, x};
     check(tables_fresh(space, CELLS, 9, 2, 0, TABLES_EDITION_2) == 0, "a table to ask");
     check(tables_call(space, CELLS, old, 3) == word(TABLES_NEW, 1), "its subgoal");
     check(tables_why(space, CELLS, again, 3, out, TABLES_WHY_CELLS) == word(TABLES_WHY_OLD, 1), "why old");
     check(out[0] == 2 && out[1] == y && out[2] == x, "the variables by rank");
-    check(tables_why_indexed(space, CELLS, NULL, 0, new, 3, out, TABLES_WHY_CELLS) == word(TABLES_WHY_NEW, 1), "why new");
+    check(tables_why_indexed(space, CELLS, NULL, 0, other, 3, out, TABLES_WHY_CELLS) == word(TABLES_WHY_NEW, 1), "why new");
     check(out[0] == 2 && out[1] == y, "the cells shared");
-    check(tables_need(tables_why(space, CELLS, new, 3, out, TABLES_WHY_CELLS - 1)) == TABLES_WHY_CELLS, "too few cells");
+    check(tables_need(tables_why(space, CELLS, other, 3, out, TABLES_WHY_CELLS - 1)) == TABLES_WHY_CELLS, "too few cells");
 }
 
 int main(void)
