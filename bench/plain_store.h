@@ -54,4 +54,8 @@ uint64_t plain_grow(uint32_t *space, size_t space_cells, uint32_t nodes, uint32_
 uint64_t plain_why(const uint32_t *space, size_t space_cells, const uint32_t *term,
                    size_t term_cells, uint32_t *out, size_t out_cells);
 
+/* In plain_detours.c, which contains the store. */
+uint64_t plain_detours(const uint32_t *space, size_t space_cells, const uint32_t *goals,
+                       size_t goals_cells, uint32_t budget, uint32_t *out, size_t out_cells);
+
 #endif

@@ -16,7 +16,7 @@ extern "C" {
  * 1.2.3.
  */
 #define TABLES_VERSION_MAJOR 4
-#define TABLES_VERSION_MINOR 4
+#define TABLES_VERSION_MINOR 5
 #define TABLES_VERSION_PATCH 0
 #define TABLES_VERSION \
     (TABLES_VERSION_MAJOR * 10000 + TABLES_VERSION_MINOR * 100 + TABLES_VERSION_PATCH)
@@ -153,7 +153,7 @@ static inline uint32_t tables_functor_cell(uint64_t edition, uint64_t name, uint
  * (14, 15) and names (16), length (4), term (3), variables (5), predicate (6), the
  * other records (9), an answer that a finished subgoal lacks (8), nodes (10),
  * records left (11), slots (17), what a list is of (23), a term of it (24), form
- * (13), out (12). tables_carry checks 1, 2, 9, 18, 19, and tables_grow 1, 2, 19.
+ * (13), a goal of detours (22), out (12). tables_carry checks 1, 2, 9, 18, 19, and tables_grow 1, 2, 19.
  */
 enum tables_refusal {
     TABLES_REFUSED_HEADER = 1,     /* the space has no sound header, or is cut short; from a
@@ -173,7 +173,7 @@ enum tables_refusal {
     TABLES_REFUSED_NO_RECORD = 11, /* full: no record left for a new subgoal or answer */
     TABLES_REFUSED_OUT = 12,       /* out is too short */
     TABLES_REFUSED_FORM = 13,      /* no compact form of a legal term; tables_expand alone */
-    TABLES_REFUSED_SOURCE_OPEN = 14,     /* a source of a join is open */
+    TABLES_REFUSED_SOURCE_OPEN = 14,     /* a source of a join, or a goal of detours, is open */
     TABLES_REFUSED_SOURCE_VARIABLE = 15, /* an answer of a join's source holds a variable */
     TABLES_REFUSED_NAMES = 16,           /* a variable or side that a join names is out of
                                             range, its pairs are over 32, its copies are not
@@ -183,6 +183,9 @@ enum tables_refusal {
                                             two, or fewer than twice the children to enter */
     TABLES_REFUSED_NAME = 18,    /* a functor's name is too large for edition 2 */
     TABLES_REFUSED_CAPACITY = 19, /* a new capacity is too small for what the table holds */
+    TABLES_REFUSED_GOALS = 22,   /* the goals of detours are not 1 to 6, or one has other than
+                                    two variables, or an answer that is not a diverter (an
+                                    atom) and minutes (an integer) */
     TABLES_REFUSED_LISTING = 23, /* there is no list of this edition, size and symbols */
     TABLES_REFUSED_LISTED = 24   /* the term given is not in the list */
 };
@@ -218,7 +221,7 @@ static inline const char *tables_refusal_text(uint32_t refusal)
     case TABLES_REFUSED_FORM:
         return "The cells are not the compact form of a legal term.";
     case TABLES_REFUSED_SOURCE_OPEN:
-        return "A source of the join is not finished.";
+        return "A source of the join, or a goal of the detours, is not finished.";
     case TABLES_REFUSED_SOURCE_VARIABLE:
         return "An answer of a source of the join holds a variable.";
     case TABLES_REFUSED_NAMES:
@@ -229,6 +232,8 @@ static inline const char *tables_refusal_text(uint32_t refusal)
         return "The name of a functor is too large for edition 2.";
     case TABLES_REFUSED_CAPACITY:
         return "A new capacity is too small for what the table holds.";
+    case TABLES_REFUSED_GOALS:
+        return "The goals of the detours are not 1 to 6, or an answer is not a diverter and minutes.";
     case TABLES_REFUSED_LISTING:
         return "There is no list of terms for this edition, size and symbols.";
     case TABLES_REFUSED_LISTED:
@@ -281,8 +286,9 @@ static inline uint32_t tables_edition(const uint32_t *space, size_t space_cells)
  *
  * Threads: there is no state beside the space. Calls on different spaces may
  * run at once. Calls that only read (the space is const: tables_next,
- * tables_load, tables_instance, tables_counts, tables_why, tables_check,
- * tables_build, and tables_carry on its source) may run at once on one space.
+ * tables_load, tables_instance, tables_counts, tables_why, tables_detours,
+ * tables_check, tables_build, and tables_carry on its source) may run at once on
+ * one space.
  * While a call that writes (tables_fresh, tables_call, tables_answer,
  * tables_finish, tables_join, those with an index, tables_grow, and tables_carry
  * on its target) runs, no other call on the same space may run: the caller
@@ -323,6 +329,7 @@ enum tables_stack {
     TABLES_STACK_JOIN = 72704,     /* 57,808; so too */
     TABLES_STACK_BUILD = 4096,     /* 3,288 */
     TABLES_STACK_WHY = 92160,      /* 57,248; the same bound with an index */
+    TABLES_STACK_DETOURS = 58368,  /* 47,296 */
     TABLES_STACK_CHECK = 58368,    /* 47,088 */
     TABLES_STACK_CARRY = 72704,    /* 49,216 */
     TABLES_STACK_GROW = 4096,      /* 3,384 */
@@ -394,6 +401,8 @@ enum tables_outcome {
     TABLES_BUILT = 11,        /* how many children were entered into the index */
     TABLES_WHY_OLD = 12,      /* the subgoal's number */
     TABLES_WHY_NEW = 13,      /* the lowest subgoal that shares most, 0 for none */
+    TABLES_DETOUR = 14,       /* the total of minutes */
+    TABLES_NO_DETOUR = 15,    /* value 0 */
     TABLES_END = 16,          /* value 0; the list of terms ends here */
     TABLES_CALL_REFUSED = 256 /* plus the refusal's number; no value, but see tables_need
                                  and tables_broken_kind */
@@ -573,6 +582,43 @@ uint64_t tables_counts(const uint32_t *space, size_t space_cells, uint32_t *out,
 TABLES_MUST_CHECK
 uint64_t tables_why(const uint32_t *space, size_t space_cells, const uint32_t *term,
                     size_t term_cells, uint32_t *out, size_t out_cells);
+
+/*
+ * Detours: from 1 to 6 belts close together. Each goal is a finished subgoal with two
+ * variables, whose answers are a diverter (an atom) and the minutes over it (an integer).
+ * One answer is chosen for each goal, no diverter twice, with the least total of minutes.
+ *
+ * The search goes through the goals in the order given and through the answers of each in
+ * the order of the table, the later goal varying first. An answer looked at for a goal is
+ * one choice tried; a diverter that an earlier goal has taken counts too, and goes no
+ * deeper. At most `budget` choices are tried. A goal may be given twice: it then gets two
+ * answers with different diverters.
+ *
+ * TABLES_DETOUR with the total; of several choices with the least total, the first met.
+ * TABLES_NO_DETOUR where none was met. out[0] is the number of choices tried, out[1] is 1
+ * if the search ended, that is, no choice was left to try, and 0 if the budget stopped it.
+ * After a total, out[2] and on are the answers' numbers in the order of the goals. The
+ * other cells of out stay. TABLES_DETOUR_CELLS cells of out are asked for, whatever is
+ * written.
+ *
+ * What a total is worth. If the search ended (out[1] is 1), no other choice is quicker,
+ * and TABLES_NO_DETOUR means that there is no way to serve all goals at once. If the
+ * budget stopped it (0), there may be a quicker choice: take the least minutes of each goal by
+ * itself and add them up; the true least total is not below this sum, so the total found
+ * is too high by at most the difference. TABLES_NO_DETOUR then says nothing: ask again
+ * with a larger budget. A larger budget never gives a higher total. To search to the end
+ * takes at most as many choices as the answers of the first goal, plus these times the
+ * answers of the second, and so on: give that number as the budget if you can wait.
+ *
+ * Refused by 1; by 7 if a goal is no subgoal; by 9; by 14 if a goal is open; by 22 if the
+ * goals are not 1 to 6 (goals_cells), a goal has other than two variables, or an answer of
+ * another form; by 12, and tables_need says TABLES_DETOUR_CELLS. Each is asked of all
+ * goals before the next. Refused, no cell of out changes.
+ */
+#define TABLES_DETOUR_CELLS 8 /* tried, ended, and six answers */
+TABLES_MUST_CHECK
+uint64_t tables_detours(const uint32_t *space, size_t space_cells, const uint32_t *goals,
+                        size_t goals_cells, uint32_t budget, uint32_t *out, size_t out_cells);
 
 /*
  * Joins two finished subgoals, as a rule body of two goals does: every answer of

@@ -4,8 +4,8 @@
 #include <stdio.h>
 #include <string.h>
 
-#if TABLES_VERSION < 40400
-#error "the version is 4.4.0 or later"
+#if TABLES_VERSION < 40500
+#error "the version is 4.5.0 or later"
 #endif
 
 enum { MOST_REFUSAL = 24 };
@@ -28,9 +28,9 @@ static const uint32_t constant[] = {
 
 static void test_constants(void)
 {
-    check(TABLES_VERSION_MAJOR == 4 && TABLES_VERSION_MINOR == 4 && TABLES_VERSION_PATCH == 0 &&
-              TABLES_VERSION == 40400,
-          "the version is 4.4.0");
+    check(TABLES_VERSION_MAJOR == 4 && TABLES_VERSION_MINOR == 5 && TABLES_VERSION_PATCH == 0 &&
+              TABLES_VERSION == 40500,
+          "the version is 4.5.0");
     check(PAIR == 0x50000000, "a pair");
     check(constant[0] == 0x40000128 && constant[1] == 0x20000007, "constants in range");
     check(constant[2] == 0x20000000, "the empty list");
@@ -150,6 +150,16 @@ static void test_why_numbers(void)
     check(TABLES_WHY_CELLS == 1 + TABLES_TERM_VARIABLES && TABLES_STACK_WHY > 0, "the limit and the bound");
 }
 
+/* Detours brought two words, a refusal, a limit and a bound. */
+static void test_detour_numbers(void)
+{
+    check(TABLES_DETOUR == 14 && TABLES_NO_DETOUR == 15, "the numbers of the words");
+    check(tables_value(word(TABLES_DETOUR, 1610612730)) == 1610612730, "the largest total");
+    check(tables_refused_by(word(TABLES_NO_DETOUR, 0)) == 0, "none found is no refusal");
+    check(TABLES_REFUSED_GOALS == 22, "the number of the refusal");
+    check(TABLES_DETOUR_CELLS == 8 && TABLES_STACK_DETOURS > 0, "the limit and the bound");
+}
+
 /* Carrying over and growing brought two refusals and two bounds. */
 static void test_carry_numbers(void)
 {
@@ -184,7 +194,7 @@ static void test_words(void)
 static int is_refusal(uint32_t number)
 {
     return (number >= 1 && number <= TABLES_REFUSED_CAPACITY) ||
-           (number >= TABLES_REFUSED_LISTING && number <= TABLES_REFUSED_LISTED);
+           (number >= TABLES_REFUSED_GOALS && number <= TABLES_REFUSED_LISTED);
 }
 
 /* A sentence for each number, none twice, and one for all others. */
@@ -343,6 +353,30 @@ static void test_why(void)
     check(tables_need(tables_why(space, CELLS, other, 3, out, TABLES_WHY_CELLS - 1)) == TABLES_WHY_CELLS, "too few cells");
 }
 
+/* One goal with two answers: the quicker one, within a budget of two, one and none. */
+static void test_detours(void)
+{
+    enum { CELLS = TABLES_SPACE_CELLS(20, 1, 2) };
+    static uint32_t space[CELLS], out[TABLES_DETOUR_CELLS];
+    const uint32_t goal[] = {tables_functor_cell(TABLES_EDITION_2, 5, 2), tables_cell(TABLES_VARIABLE, 0),
+                             tables_cell(TABLES_VARIABLE, 1)};
+    const uint32_t slow[] = {tables_cell(TABLES_ATOM, 1), tables_cell(TABLES_INTEGER, 9)};
+    const uint32_t quick[] = {tables_cell(TABLES_ATOM, 2), tables_cell(TABLES_INTEGER, 4)};
+    const uint32_t one = 1;
+    check(tables_fresh(space, CELLS, 20, 1, 2, TABLES_EDITION_2) == 0, "a table of detours");
+    check(tables_call(space, CELLS, goal, 3) == word(TABLES_NEW, 1), "a goal");
+    check(tables_answer(space, CELLS, 1, slow, 2) == word(TABLES_NEW, 1), "a slow way");
+    check(tables_answer(space, CELLS, 1, quick, 2) == word(TABLES_NEW, 2), "a quick way");
+    check(tables_refused_by(tables_detours(space, CELLS, &one, 1, 9, out, 8)) == TABLES_REFUSED_SOURCE_OPEN, "it is open");
+    check(tables_finish(space, CELLS, 1) == 0, "finished");
+    check(tables_detours(space, CELLS, &one, 1, 2, out, 8) == word(TABLES_DETOUR, 4), "the least total");
+    check(out[0] == 2 && out[1] == 1 && out[2] == 2, "tried, ended, the answer");
+    check(tables_detours(space, CELLS, &one, 1, 1, out, 8) == word(TABLES_DETOUR, 9) && out[1] == 0, "stopped");
+    check(tables_detours(space, CELLS, &one, 1, 0, out, 8) == word(TABLES_NO_DETOUR, 0) && out[0] == 0, "none found");
+    check(tables_refused_by(tables_detours(space, CELLS, NULL, 0, 9, out, 8)) == TABLES_REFUSED_GOALS, "no goal");
+    check(tables_need(tables_detours(space, CELLS, &one, 1, 9, out, 7)) == TABLES_DETOUR_CELLS, "too few cells");
+}
+
 int main(void)
 {
     test_constants();
@@ -353,6 +387,7 @@ int main(void)
     test_index_numbers();
     test_list_numbers();
     test_why_numbers();
+    test_detour_numbers();
     test_carry_numbers();
     test_words();
     test_texts();
@@ -360,6 +395,7 @@ int main(void)
     test_index();
     test_list();
     test_why();
+    test_detours();
     test_carry();
     test_grow();
     printf("header_test: %d checks, %d failed\n", checks, failures);

@@ -3,7 +3,7 @@ import ctypes
 import sys
 
 NEW, OLD, OLD_OPEN, OLD_FINISHED, AT, NONE_YET, CELLS, COUNTS, NO_MORE, JOINED, BUILT, REFUSED = *range(1, 12), 256
-WHY_OLD, WHY_NEW = 12, 13
+WHY_OLD, WHY_NEW, DETOUR, NO_DETOUR = 12, 13, 14, 15
 END = 16
 EDITION_2 = 2
 F2, G2, X, Y, A, B = 0x40000102, 0x40000202, 0x10000007, 0x10000009, 0x20000001, 0x20000002
@@ -29,6 +29,7 @@ ARGUMENTS = {
     "join_indexed": SPACE + SPACE + [CELL, CELL] + SPACE + [CELL] + SPACE,
     "why": SPACE + SPACE + SPACE,
     "why_indexed": SPACE + SPACE + SPACE + SPACE,
+    "detours": SPACE + SPACE + [CELL] + SPACE,
     "check": SPACE,
     "first_term": SPACE + [SIZE] + SPACE + [CELL],
     "term_after": SPACE + [SIZE] + SPACE + SPACE + [CELL],
@@ -40,7 +41,7 @@ ARGUMENTS = {
 
 
 def exports(path):
-    """The twenty-two exports by their names."""
+    """The twenty-three exports by their names."""
     library = ctypes.CDLL(path)
     found = {}
     for name, arguments in ARGUMENTS.items():
@@ -189,6 +190,31 @@ def try_why(call):
     said(REFUSED + 6, "why", 0, *cells([X]), *out)
 
 
+def try_detours(call):
+    """Two goals, p(X, Y) and q(X, Y), that share the diverter a: it serves q, where the other takes longer."""
+    space, out = cells([0] * (8 + 5 * 30 + 6 * 2 + 3 * 4)), cells([7] * 9)
+    one, two, three, nine = 0x30000001, 0x30000002, 0x30000003, 0x30000009
+
+    def said(what, name, value, *arguments):
+        expect(name, divmod(call[name](*space, *arguments), 2**32), (what, value))
+
+    said(0, "fresh", 0, 30, 2, 4, EDITION_2)
+    said(NEW, "call", 1, *cells([F2, X, Y]))
+    said(NEW, "call", 2, *cells([G2, X, Y]))
+    for number, (goal, diverter, minutes) in enumerate([(1, A, one), (1, B, two), (2, A, three), (2, B, nine)], 1):
+        said(NEW, "answer", number, goal, *cells([diverter, minutes]))
+    said(0, "finish", 0, 1)
+    said(REFUSED + 14, "detours", 0, *cells([1, 2]), 9, *out)
+    said(0, "finish", 0, 2)
+    said(DETOUR, "detours", 5, *cells([1, 2]), 6, *out)
+    expect("the choice", list(out[0]), [6, 1, 2, 3, 7, 7, 7, 7, 7])
+    said(DETOUR, "detours", 10, *cells([1, 2]), 3, *out)
+    expect("a small budget", list(out[0][:4]), [3, 0, 1, 4])
+    said(NO_DETOUR, "detours", 0, *cells([1, 2]), 2, *out)
+    said(REFUSED + 22, "detours", 0, *cells([]), 9, *out)
+    said(REFUSED + 12, "detours", 8, *cells([1]), 9, out[0], 7)
+
+
 def try_carry(call):
     """p(X) with an answer, from edition 1 into edition 2; then no node, and too few."""
     narrow, wide, out = cells([0] * 42), cells([7] * 43), cells([0] * 2)
@@ -248,6 +274,7 @@ def main():
     try_index(call)
     try_list(call)
     try_why(call)
+    try_detours(call)
     try_carry(call)
     try_grow(call)
     try_converters(call)

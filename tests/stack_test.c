@@ -53,6 +53,7 @@ enum export {
     JOIN_INDEXED,
     WHY,
     WHY_INDEXED,
+    DETOURS,
     CHECK,
     CARRY,
     GROW,
@@ -74,7 +75,8 @@ static const struct {
     {"tables_join", TABLES_STACK_JOIN},         {"tables_build", TABLES_STACK_BUILD},
     {"tables_call_indexed", TABLES_STACK_CALL}, {"tables_answer_indexed", TABLES_STACK_ANSWER},
     {"tables_join_indexed", TABLES_STACK_JOIN}, {"tables_why", TABLES_STACK_WHY},
-    {"tables_why_indexed", TABLES_STACK_WHY},   {"tables_check", TABLES_STACK_CHECK},
+    {"tables_why_indexed", TABLES_STACK_WHY},   {"tables_detours", TABLES_STACK_DETOURS},
+    {"tables_check", TABLES_STACK_CHECK},
     {"tables_carry", TABLES_STACK_CARRY},       {"tables_grow", TABLES_STACK_GROW},
     {"tables_first_term", TABLES_STACK_FIRST_TERM}, {"tables_term_after", TABLES_STACK_TERM_AFTER},
     {"tables_compact", TABLES_STACK_COMPACT},   {"tables_expand", TABLES_STACK_EXPAND},
@@ -89,6 +91,8 @@ static uint32_t nodes = 2000;
 static uint32_t target[sizeof space / sizeof space[0]];
 static const uint32_t pairs[2] = {0, 0}, copies[2] = {0, 0};
 static size_t pair_cells;
+static const uint32_t goals[6] = {1, 1, 1, 1, 1, 1};
+static size_t goal_count = 1;
 static uint32_t slots[4096];
 static size_t slot_count = 64;
 static const uint32_t symbols[] = {F1, TABLES_FUNCTOR_CELL(TABLES_EDITION_1, 2, 7), A};
@@ -143,6 +147,9 @@ static void make(enum export export)
         break;
     case WHY:
         word = tables_why(space, space_cells, cells, cell_count, out, TABLES_WHY_CELLS);
+        break;
+    case DETOURS:
+        word = tables_detours(space, space_cells, goals, goal_count, 1000, out, TABLES_DETOUR_CELLS);
         break;
     case FINISH:
         word = tables_finish(space, space_cells, 1);
@@ -602,6 +609,7 @@ static void measure_checks(void)
     measure(CARRY, input_name);
     begin_join(2000);
     source_answer(1, cells, cell_count);
+    measure(DETOURS, input_name);
     measure_check();
     measure(CARRY, input_name);
     node(0)[4] = 1; /* a link at the root of the subgoals: no call minds, and the slow way is taken */
@@ -679,6 +687,33 @@ static void measure_build(const char *input, uint32_t what, uint32_t value)
     }
 }
 
+/* Six goals, each of them the same one with six answers, so that the search goes as deep as it can. */
+static void measure_detours(void)
+{
+    make(FRESH);
+    space[1] = 3 + 12;
+    space[2] = 1;
+    space[3] = 4;
+    for (uint32_t i = 1; i < 15; i++) {
+        uint32_t record[5] = {i % 2 == 0 ? TABLES_CELL(TABLES_ATOM, i) : TABLES_CELL(TABLES_INTEGER, i), 0, 0, i - 1, 0};
+        memcpy(node(i), record, sizeof record);
+    }
+    uint32_t root[5] = {0, 0, 0, 1, 0};
+    memcpy(node(1), root, sizeof root);
+    for (uint32_t a = 1; a <= 4; a++) {
+        uint32_t record[3] = {1 + 2 * a, 1, a == 4 ? 0 : a + 1};
+        node(2 * a)[3] = 1;
+        node(2 * a)[0] = TABLES_CELL(TABLES_ATOM, a);
+        node(2 * a + 1)[0] = TABLES_CELL(TABLES_INTEGER, a);
+        memcpy(space + space[6] + 3 * (a - 1), record, sizeof record);
+    }
+    uint32_t subgoal[6] = {0, 1, 2, 1, 1, 4};
+    memcpy(space + space[5], subgoal, sizeof subgoal);
+    for (goal_count = 0; goal_count <= 6; goal_count++)
+        measure(DETOURS, "goals with four answers");
+    goal_count = 1;
+}
+
 /* Blocks that move down, and back up. */
 static void measure_growing(void)
 {
@@ -738,6 +773,7 @@ static void measure_lists(void)
 static void measure_all(void)
 {
     measure_growing();
+    measure_detours();
     measure_builds();
     measure_lists();
     for (unsigned unit = 0; repeat_unit(unit, 1, false); unit++)

@@ -52,7 +52,8 @@ abbrev pub noneSo : ℕ → Bool → Reply
 noneSo tried ended = detoured (record { best = noneFound; tried = tried; ended = ended })
 
 -- Eight choices end the search, the least total is 3 + 1. Seven have met it, and one was left; four have met 5 + 4 and
--- 5 + 6. A goal given twice takes two answers, of equal totals the first.
+-- 5 + 6. In the other order nine choices are tried, though the last three begin above the least total: none is cut.
+-- A goal given twice takes two answers, of equal totals the first.
 abbrev pub searches : List Request
 searches =
     detours (1 ∷ 2 ∷ []) 9
@@ -62,6 +63,7 @@ searches =
     ∷ detours (1 ∷ 2 ∷ []) 2
     ∷ detours (1 ∷ 2 ∷ []) 0
     ∷ detours (2 ∷ []) 3
+    ∷ detours (2 ∷ 1 ∷ []) 9
     ∷ detours (1 ∷ 1 ∷ []) 6
     ∷ detours (1 ∷ 1 ∷ 1 ∷ []) 99
     ∷ []
@@ -75,6 +77,7 @@ searchReplies =
     ∷ noneSo 2 false
     ∷ noneSo 0 false
     ∷ foundSo 1 (2 ∷ []) 3 true
+    ∷ foundSo 4 (2 ∷ 3 ∷ []) 9 true
     ∷ foundSo 8 (1 ∷ 3 ∷ []) 6 true
     ∷ noneSo 10 true
     ∷ []
