@@ -1,7 +1,8 @@
 // What loads of a source, sound or damaged: its records and their paths, no two alike; and what a copy of it into
-// edition 2 asks for: room for the names and for the nodes. Subgoals and answers go the same way, a subgoal as an answer
-// to no subgoal. Nothing is written: each form is compared with those before it, so the time goes with the square of the
-// subgoals and of the answers to each. A source that passes the check of a whole space needs none of this.
+// edition 2 asks for: room for the names and for the nodes. Subgoals and answers go the same way, a subgoal as an
+// answer to no subgoal. Nothing is written: each form is compared with those before it, so the time goes with the
+// square of the subgoals and of the answers to each. A source that passes the check of a whole space needs none of
+// this.
 mod comparing;
 mod loading;
 mod names;
