@@ -153,7 +153,8 @@ static inline uint32_t tables_functor_cell(uint64_t edition, uint64_t name, uint
  * (14, 15) and names (16), length (4), term (3), variables (5), predicate (6), the
  * other records (9), an answer that a finished subgoal lacks (8), nodes (10),
  * records left (11), slots (17), what a list is of (23), a term of it (24), form
- * (13), a goal of detours (22), out (12). tables_carry checks 1, 2, 9, 18, 19, and tables_grow 1, 2, 19.
+ * (13), a goal of detours (22), out (12). tables_carry checks 1, 2, 9, 18, 19, and
+ * tables_grow 1, 2, 19.
  */
 enum tables_refusal {
     TABLES_REFUSED_HEADER = 1,     /* the space has no sound header, or is cut short; from a
@@ -286,14 +287,13 @@ static inline uint32_t tables_edition(const uint32_t *space, size_t space_cells)
  *
  * Threads: there is no state beside the space. Calls on different spaces may
  * run at once. Calls that only read (the space is const: tables_next,
- * tables_load, tables_instance, tables_counts, tables_why, tables_detours,
- * tables_check, tables_build, and tables_carry on its source) may run at once on
- * one space.
- * While a call that writes (tables_fresh, tables_call, tables_answer,
- * tables_finish, tables_join, those with an index, tables_grow, and tables_carry
- * on its target) runs, no other call on the same space may run: the caller
- * serialises them. The lists and the converters
- * have no space: any number of them may run at once, beside any other call.
+ * tables_load, tables_instance, tables_counts, tables_why with an index or without,
+ * tables_detours, tables_check, tables_build, and tables_carry on its source) may run
+ * at once on one space. While a call that writes (tables_fresh, tables_call and
+ * tables_answer and tables_join with an index or without, tables_finish, tables_grow,
+ * and tables_carry on its target) runs, no other call on the same space may run: the
+ * caller serialises them. The lists and the converters have no space: any number of
+ * them may run at once, beside any other call.
  *
  * The use of the stack is bounded, whatever is lent: see below.
  */
@@ -311,11 +311,12 @@ static inline uint32_t tables_edition(const uint32_t *space, size_t space_cells)
  * What is measured is all that lies below the caller's frame, in a program that is
  * linked to a shared C library and has called nothing of it before. There tables_fresh
  * and tables_build call memset for the first time, tables_grow memmove, and the two calls
- * that list terms memcpy: the dynamic linker looks it up (lazy binding) and keeps the vector registers
- * on the same stack, which takes some 3,100 bytes with glibc 2.36 on a processor with
- * AVX-512. Once it has been called, or where all is bound at the start, these four use
- * 56, 104, 264 and 2,128 bytes. Where the exports stand in a shared object, the first
- * call of each is looked up so too, which takes as much.
+ * that list terms memcpy: the dynamic linker looks it up (lazy binding) and keeps the
+ * vector registers on the same stack, which takes some 3,100 bytes with glibc 2.36 on a
+ * processor with AVX-512. Once it has been called, or where all is bound at the start,
+ * tables_fresh and tables_build use 56 and 104 bytes, and the two that list terms 264 and
+ * 2,128. Where the exports stand in a shared object, the first call of each is looked up
+ * so too, which takes as much.
  */
 enum tables_stack {
     TABLES_STACK_FRESH = 4096,     /* 3,240 */
@@ -603,9 +604,9 @@ uint64_t tables_why(const uint32_t *space, size_t space_cells, const uint32_t *t
  *
  * What a total is worth. If the search ended (out[1] is 1), no other choice is quicker,
  * and TABLES_NO_DETOUR means that there is no way to serve all goals at once. If the
- * budget stopped it (0), there may be a quicker choice: take the least minutes of each goal by
- * itself and add them up; the true least total is not below this sum, so the total found
- * is too high by at most the difference. TABLES_NO_DETOUR then says nothing: ask again
+ * budget stopped it (0), there may be a quicker choice: take the least minutes of each
+ * goal by itself and add them up; the true least total is not below this sum, so the total
+ * found is too high by at most the difference. TABLES_NO_DETOUR then says nothing: ask again
  * with a larger budget. A larger budget never gives a higher total. To search to the end
  * takes at most as many choices as the answers of the first goal, plus these times the
  * answers of the second, and so on: give that number as the budget if you can wait.
