@@ -810,7 +810,7 @@ static bool twist_subgoal_numbers(struct dice *dice, uint32_t *cells)
     return true;
 }
 
-/* New numbers for nodes: parents and earlier siblings first, answer roots behind leaves. */
+/* New numbers for nodes: parents and earlier siblings first, answer roots after leaves. */
 struct renumbering {
     uint32_t *number; /* of each node */
     uint32_t *root;   /* the answer root of each leaf of a subgoal, else 0 */
@@ -899,7 +899,7 @@ static bool twist_shared_root(struct dice *dice, uint32_t *cells)
     return s != 0 && append_answer(cells, answer_cells(cells, a)[ANSWER_LEAF], s) != 0;
 }
 
-/* Answers dropped from the count, their nodes left behind; the chains are put right. */
+/* Answers dropped from the count, their nodes left over; the chains are put right. */
 static bool twist_drop_answers(struct dice *dice, uint32_t *cells)
 {
     if (cells[SPACE_ANSWERS] == 0)
@@ -1399,7 +1399,7 @@ static void run_alone(struct test *test, struct source *source, const struct nam
     }
 }
 
-/* Several twists on one source; with a refused one behind them, the refusal comes. */
+/* Several twists on one source; with a refused one after them, the refusal comes. */
 static void run_together(struct test *test, struct source *source)
 {
     struct dice *dice = &test->dice;

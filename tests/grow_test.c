@@ -228,7 +228,7 @@ static void made_free(struct made *made)
     free(made->entries);
 }
 
-/* The cells of a table in an array of another length, what is behind its end at random. */
+/* The cells of a table in an array of another length, what is past its end at random. */
 static uint32_t *lengthened(struct test *test, const struct made *made, size_t count)
 {
     size_t held = count < made->count ? count : made->count;
@@ -350,7 +350,7 @@ static void grow_and_go_on(struct test *test, struct made *made, struct capaciti
     go_on(test, made, &space, fresh, &table);
     compare_table(test, "a grown table gone on", space.cells, &table);
     compare_cells(test, "gone on beside a fresh one", space.cells, fresh, end);
-    compare_cells(test, "behind the end after going on", space.cells + end, cells + end,
+    compare_cells(test, "past the end after going on", space.cells + end, cells + end,
                   count - end);
     tally_check(&test->tally, lent_marks_stand(&space),
                 "round %llu, going on: marks beside the cells were changed",
@@ -477,7 +477,7 @@ static void run_too_small(struct test *test, struct made *made)
     free(cells);
 }
 
-/* The new end is one cell behind the array, which holds the old end. */
+/* The new end is one cell past the array, which holds the old end. */
 static void run_too_short(struct test *test, struct made *made)
 {
     bool possible = false;

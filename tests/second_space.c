@@ -330,7 +330,7 @@ static void emit(struct writer *writer, uint32_t cell)
 
 static const uint32_t *compact_term(struct writer *writer, const uint32_t *cells);
 
-/* Writes the list that begins with this pair; returns what stands behind it. */
+/* Writes the list that begins with this pair; returns what stands after it. */
 static const uint32_t *compact_list(struct writer *writer, const uint32_t *pair)
 {
     emit(writer, TABLES_CELL(TABLES_BLIST, 0));
@@ -418,7 +418,7 @@ static bool judge_next_is(const struct judge *judge, uint32_t token)
     return judge->place < judge->count && judge->form[judge->place] == token;
 }
 
-/* The tail behind EPAIR: a term that is neither [] nor a list. */
+/* The tail after EPAIR: a term that is neither [] nor a list. */
 static bool judge_tail(struct judge *judge)
 {
     if (judge_next_is(judge, TABLES_EMPTY_LIST) ||
@@ -896,7 +896,7 @@ static uint32_t random_leaf(struct dice *dice, const struct taste *taste)
 static size_t random_term(struct dice *dice, const struct taste *taste, uint32_t *out,
                           size_t room);
 
-/* Elements and, mostly, [] behind them; room for three cells at least. */
+/* Elements and, mostly, [] after them; room for three cells at least. */
 static size_t random_list(struct dice *dice, const struct taste *taste, uint32_t *out, size_t room)
 {
     size_t count = 0;
@@ -1024,7 +1024,7 @@ static void random_answered(struct dice *dice, const struct taste *taste,
     }
 }
 
-/* A record's number, now and then one that there is not. */
+/* A record's number, now and then an unknown one. */
 static uint32_t random_number(struct dice *dice, uint32_t count)
 {
     if (dice_one_in(dice, 30))

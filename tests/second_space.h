@@ -31,7 +31,7 @@ uint32_t *cells_copy(const uint32_t *cells, size_t count);
 void cells_fill_random(struct dice *dice, uint32_t *cells, size_t count);
 
 /*
- * Lent arrays: the cells lie against a page that may not be touched, behind them or before
+ * Lent arrays: the cells lie against a page that may not be touched, after them or before
  * them; the rest of their own pages is filled with marks. A touched guard page ends the
  * program with a line that says so.
  */

@@ -236,7 +236,7 @@ static void print(struct text *printed, const char *words)
     add_bytes(printed, words, strlen(words));
 }
 
-/* Prints what is left of a line behind its words: cells, and the newline. */
+/* Prints what is left of a line after its words: cells, and the newline. */
 static void end_with_cells(struct text *printed, const uint32_t *cell, uint32_t count)
 {
     for (uint32_t i = 0; i < count; i++)
@@ -255,7 +255,7 @@ static void print_counts(struct text *printed, const uint32_t *out)
     add_format(printed, "counts %" PRIu32 " %" PRIu32 " %" PRIu32 "\n", out[0], out[1], out[2]);
 }
 
-/* The number and the offered variables, which stand in out behind their count; no state. */
+/* The number and the offered variables, which stand in out after their count; no state. */
 static void print_why_old(struct text *printed, uint32_t subgoal, const uint32_t *out)
 {
     add_format(printed, "old %" PRIu32, subgoal);

@@ -100,7 +100,7 @@ module _ (n f a : ℕ) (h : Head) (cs : List ℕ) (R : Room n f a h cs) where
   l4 : length x4 ≡ length cs
   l4 = cleared-length w q x3 wq q3 ∙ l3
 
-  -- behind the header the offsets change nothing
+  -- after the header the offsets change nothing
   behind : (k : ℕ) → 8 ≤ k → getD x5 k 0 ≡ getD x4 k 0
   behind k m =
       getD-set-other (set (set x4 5 g) 6 o) 7 k q 0 (λ e. omega arith)

@@ -1,4 +1,4 @@
--- What the functions behind why ask for and what they leave: the names that their contracts use.
+-- What the functions of why ask for and what they leave: the names that their contracts use.
 use Prim.Native.Nat.{ℕ, _<_, _≤_}
 use mathlib.Core.Path.{_≡_}
 use mathlib.Core.Bool.{true}

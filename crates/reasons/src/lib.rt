@@ -1,4 +1,4 @@
-// Why a term is old or new: the reason behind what call would answer. The space is lent to read. The search is call's,
+// Why a term is old or new: the reason for what call would answer. The space is lent to read. The search is call's,
 // with an index; without one it is lent an index of no cells.
 use basis::limits::MOST_CELLS;
 use basis::limits::MOST_VARIABLES;

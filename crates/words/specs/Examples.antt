@@ -88,7 +88,7 @@ unfolding word countsReply countsOut counting freshCells inRange capacity whole 
 counts = (refl, refl, refl, refl, refl, refl)
 
 pub whys :
-    -- old with two variables, and new after four tokens; the cells behind those written stay
+    -- old with two variables, and new after four tokens; the cells after those written stay
     (word (whyReply (because (oldAs 5 (7 ∷ 8 ∷ []))) (replicate 33 9)) ≡ 12 * 2 ^ 32 + 5)
     × (whyOut (because (oldAs 5 (7 ∷ 8 ∷ []))) (replicate 33 9) ≡ 2 ∷ 7 ∷ 8 ∷ replicate 30 9)
     × (word (whyReply (because (newPast 4 5)) (replicate 33 9)) ≡ 13 * 2 ^ 32 + 5)

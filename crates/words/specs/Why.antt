@@ -43,13 +43,13 @@ reasonCells (newPast k s) = k ∷ []
 unfoldable pub whyReply : Reply → List ℕ → Reply
 whyReply reply out = reasoning reply (λ y. pick (leb whyRoom (length out)) reply (short whyRoom)) reply
 
--- the cells of the reason stand before what was behind them; refused, out is as it was
+-- the cells of the reason stand before what was after them; refused, out is as it was
 unfoldable pub whyOut : Reply → List ℕ → List ℕ
 whyOut reply out =
     reasoning reply
     (λ y. pick (leb whyRoom (length out)) (reasonCells y ++ drop (length (reasonCells y)) out) out) out
 
--- the first m cells of some and, before them, their number stand before what was behind them
+-- the first m cells of some and, before them, their number stand before what was after them
 abbrev pub GivesVariables : List ℕ → ℕ → List ℕ → List ℕ → Type 0
 GivesVariables vars m out out′ = out′ ≡ (m ∷ take m vars) ++ drop (m + 1) out
 

@@ -108,7 +108,7 @@ counting (short n) f x = x
 unfoldable pub countsReply : Reply → List ℕ → Reply
 countsReply reply out = counting reply (λ c. pick (leb 3 (length out)) reply (short 3)) reply
 
--- the three counts stand before what was behind them; refused, out is as it was
+-- the three counts stand before what was after them; refused, out is as it was
 unfoldable pub countsOut : Reply → List ℕ → List ℕ
 countsOut reply out =
     counting reply (λ c. pick (leb 3 (length out)) (c .nodes ∷ c .subgoals ∷ c .answers ∷ drop 3 out) out) out

@@ -1,4 +1,4 @@
--- `print_why` meets its contract: the variables behind the number of an old subgoal, or two numbers.
+-- `print_why` meets its contract: the variables after the number of an old subgoal, or two numbers.
 use mathlib.Core.List.{_∷_}
 use lib.ListN.{take}
 use native.Mathlib.Omega.{arith}
