@@ -1,1 +1,2 @@
 // The theorem over lists of calls: no code.
+#![tactic(auto)]

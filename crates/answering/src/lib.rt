@@ -1,5 +1,7 @@
 // Answer: decided first, and then the space is changed. It searches with an index; without one it is lent an index of
 // no cells.
+#![tactic(auto)]
+
 ghost use Rattle.std.specs.Prelude.{◌≡◌, [], ◌+◌, ◌<◌, ◌≤◌, ◌^◌, length};
 ghost use Rattle.basis.specs.Writes.{writes};
 ghost use Rattle.plain.specs.Requests as request;

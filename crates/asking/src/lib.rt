@@ -1,4 +1,6 @@
 // Each call of a session: its fields are read, the call is made, and its answer is put into a text.
+#![tactic(auto)]
+
 ghost use Rattle.std.specs.Prelude.{◌≡◌};
 ghost use Rattle.asking.specs.Asking.{Askable, AskableCells, AskableOut};
 ghost use Rattle.asking.specs.Asking.{Asks, AsksReading};

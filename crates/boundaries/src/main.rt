@@ -1,4 +1,6 @@
 // Runs terms at the limits, and one beyond them, through both converters and prints what they answer.
+#![tactic(auto)]
+
 ghost use Rattle.std.specs.Prelude.{◌+◌, ◌*◌, ◌≤◌, length};
 
 use trials::{both, count_compact, count_expand, print_answer, text};

@@ -1,5 +1,7 @@
 // Call and finish. Each decides first, and then changes the space. A call searches with an index; without one it is
 // lent an index of no cells.
+#![tactic(auto)]
+
 ghost use Rattle.std.specs.Prelude.{◌≡◌, [], ◌+◌, ◌<◌, ◌≤◌, length};
 ghost use Rattle.plain.specs.Requests as request;
 ghost use Rattle.space.specs.Layout.{sizes_of};

@@ -1,4 +1,6 @@
 // Reading and loading: m terms in pair form to the form that an edition stores, and back; compacting and expanding.
+#![tactic(auto)]
+
 pub mod buffers;
 mod cells;
 
@@ -16,7 +18,7 @@ use buffers::{
 use forms::{Answer, Loading, Place, Reading, Step};
 
 // What loading comes to: the cells written and how many variables there are; or that the cells are no legal form.
-#[derive(Drop)]
+#[derive(Clone, Copy)]
 pub enum Loaded {
     Counted(usize, usize),
     Nothing,

@@ -1,4 +1,6 @@
 // Every reader on a small space, each cell of which is damaged in turn. The expected output is an independent model's.
+#![tactic(auto)]
+
 ghost use Rattle.std.specs.Prelude.{◌+◌, ◌<◌, ◌≤◌, length};
 ghost use Rattle.space.specs.Sound.{Bounds, NodesIn};
 ghost use Rattle.trie.specs.Runs.{Ends};
@@ -11,7 +13,7 @@ use trie::walks::walk_tokens;
 use trie::{End, Walked};
 
 // How many answers were damage, and a sum over all answers in order.
-#[derive(Drop)]
+#[derive(Clone, Copy)]
 struct Tally {
     damaged: u64,
     sum: u64,

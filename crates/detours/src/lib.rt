@@ -1,5 +1,7 @@
 // Detours within a budget: one answer for each goal, no diverter twice, least total. The goals are judged first, all of
 // them; then the choices are tried in their order, each by two reads.
+#![tactic(auto)]
+
 pub mod judging;
 pub mod searching;
 
@@ -22,7 +24,7 @@ use space::{Head, Header};
 use store::{DetourAnswer, DetourOutcome};
 
 // What an answer of a goal offers.
-#[derive(Drop)]
+#[derive(Clone, Copy)]
 pub struct Offer {
     // The answer.
     pub number: u32,
@@ -33,7 +35,7 @@ pub struct Offer {
 
 // The answers of a goal, or one path: a damaged record was met; or all is sound, and fits a goal or not: two terms, an
 // atom and an integer.
-#[derive(Drop)]
+#[derive(Clone, Copy)]
 pub enum Judged {
     Damaged,
     Fit,
@@ -41,14 +43,14 @@ pub enum Judged {
 }
 
 // One answer of a goal: damaged; or sound, with the number of the next one and whether it fits.
-#[derive(Drop)]
+#[derive(Clone, Copy)]
 pub enum Member {
     Damaged,
     Sound(usize, bool),
 }
 
 // A goal: a damaged record was met; or it is sound, is open or not, and fits or not.
-#[derive(Drop)]
+#[derive(Clone, Copy)]
 pub enum GoalJudged {
     Damaged,
     Sound(bool, bool),

@@ -1,26 +1,28 @@
 // Forms entered on trial: a draft of the nodes that they would take, written to free nodes of a space and wiped after
 // it. A node of the draft is found by its parent and its token, through a hash table whose slots are the child fields
 // of the same free nodes; the entries of one slot are chained by their sibling fields, the latest first.
+#![tactic(auto)]
+
 pub mod drafting;
 pub mod entries;
 pub mod wiping;
 
 // The free nodes that a draft may use: the first of them, and how many.
-#[derive(Drop)]
+#[derive(Clone, Copy)]
 pub struct Room {
     pub base: usize,
     pub most: usize,
 }
 
 // A token below a node of the draft: the node that it leads to, and the nodes in use with it; or no node is left.
-#[derive(Drop)]
+#[derive(Clone, Copy)]
 pub enum Reached {
     At(usize, usize),
     Full,
 }
 
 // A word drafted: the nodes in use with it, and whether it was there before; or no node is left.
-#[derive(Drop)]
+#[derive(Clone, Copy)]
 pub enum Drafted {
     Word(usize, bool),
     Full,

@@ -1,5 +1,7 @@
 // The C interface: the two converters over little-endian bytes here; the calls over cells, the search for detours and
 // the lists of terms in modules.
+#![tactic(auto)]
+
 pub mod calls;
 pub mod listings;
 pub mod searches;

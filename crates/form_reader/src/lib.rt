@@ -1,6 +1,8 @@
 // The readers of compact form, which write pair form and check the variables' numbers as they read. None writes beyond
 // its limit: where what is still due would pass it, the form is malformed, however much of it is left. A list within a
 // list is due its own end, so lists are read no deeper than terms that fit can hold them.
+#![tactic(auto)]
+
 ghost use Rattle.std.specs.Prelude.{false, true, ◌≡◌, ◌+◌, ◌^◌, ◌<◌};
 ghost use Rattle.form_reader.specs.Loading.{met_after, FormRoom, AtTail, ReadsForms, ReadsRest};
 

@@ -1,4 +1,6 @@
 // What a cell stands for, in pair form and in compact form, and what readers and converters answer.
+#![tactic(auto)]
+
 ghost use Rattle.std.specs.Prelude.{◌≡◌, ◌+◌, ◌^◌, ◌≤◌, ◌<◌};
 ghost use Rattle.forms.specs.Cells.{shape_of, arity_of, payload, variable, constant, atomic, integral, callable};
 ghost use Rattle.forms.specs.Converting.{converter_edition, refusal_of};
@@ -7,7 +9,7 @@ ghost use Rattle.forms.specs.Due.{arguments, due_after};
 
 // What a cell of pair form stands for: a symbol that takes some arguments (a variable, an atom and
 // an integer take none), a pair, or nothing legal.
-#[derive(Drop)]
+#[derive(Clone, Copy)]
 pub enum Shape {
     Symbol(usize),
     Pair,
@@ -16,7 +18,7 @@ pub enum Shape {
 
 // What a cell of compact form stands for: a symbol, the beginning of a list (BLIST), what stands
 // before its last element (ELIST) or before the term that it ends in (EPAIR), or nothing legal.
-#[derive(Drop)]
+#[derive(Clone, Copy)]
 pub enum Token {
     Sym(usize),
     Begin,
@@ -26,7 +28,7 @@ pub enum Token {
 }
 
 // Where a reader stands: at the cell that it reads next, before what it writes next, with the variables met so far.
-#[derive(Drop)]
+#[derive(Clone, Copy)]
 pub struct Place {
     pub at: usize,
     pub to: usize,
@@ -35,7 +37,7 @@ pub struct Place {
 
 // What a reader answers: the places behind what it read and behind what it wrote, and how many
 // variables were met; or that the cells are malformed.
-#[derive(Drop)]
+#[derive(Clone, Copy)]
 pub enum Step {
     Done(usize, usize, usize),
     Malformed,
@@ -43,14 +45,14 @@ pub enum Step {
 
 // What reading terms gives: the tokens of their form and the distinct variables in it, or the number
 // of a refusal.
-#[derive(Drop)]
+#[derive(Clone, Copy)]
 pub enum Reading {
     Form(usize, usize),
     Refusal(u32),
 }
 
 // What loading a form gives: the cells of its terms in pair form, or that it is no legal form.
-#[derive(Drop)]
+#[derive(Clone, Copy)]
 pub enum Loading {
     Terms(usize),
     NoForm,
@@ -58,7 +60,7 @@ pub enum Loading {
 
 // What a converter answers: the cells written, the number of a refusal, or, for refusal 12, the
 // cells that out would need.
-#[derive(Drop)]
+#[derive(Clone, Copy)]
 pub enum Answer {
     Cells(usize),
     Refused(u32),

@@ -1,4 +1,6 @@
 // A table that is given other capacities in its place.
+#![tactic(auto)]
+
 pub mod moving;
 
 ghost use Rattle.std.specs.Prelude.{◌≡◌};
@@ -15,7 +17,7 @@ use space::heading::{read_header, write_offsets};
 use space::{FreshAnswer, Head, Header};
 
 // So many cells that stand one after another, and where the first of them stands and is to stand.
-#[derive(Drop)]
+#[derive(Clone, Copy)]
 pub struct Block {
     pub from: usize,
     pub to: usize,

@@ -1,6 +1,8 @@
 // The build of an index: a second array of cells, by which a child is found from its parent and its token. It takes a
 // pass that judges the nodes, one that counts the children to enter and one that enters them, and no memory. No slot is
 // written before it is known that the build is not refused.
+#![tactic(auto)]
+
 mod entering;
 mod filling;
 mod nodes;
@@ -19,7 +21,7 @@ use space::heading::read_header;
 use trie::slots::is_power_of_two;
 
 // The children entered; or the number of the refusal, and the index is as it was.
-#[derive(Drop)]
+#[derive(Clone, Copy)]
 pub enum BuildAnswer {
     Built(u32),
     Refused(u32),

@@ -1,5 +1,7 @@
 // The instance of a subgoal by an answer. The two forms are lent anew at each call (`&form[..]`), not handed on: a
 // slice that is handed on is copied in memory, which took an eighth of the time of a short instance.
+#![tactic(auto)]
+
 ghost use Rattle.std.specs.Prelude.{◌≡◌, ◌+◌, ◌-◌, ◌*◌, ◌≤◌, ◌<◌, length, take};
 ghost use Rattle.convert.specs.Holds.{RoomForTerms};
 ghost use Rattle.instances.specs.Leaving.{InstancesOf};

@@ -1,5 +1,7 @@
 // A check of a whole space: whether its records are those of some table, or which of them is the first that is not. It
 // takes a pass over the nodes, the subgoals and the answers, a search among its siblings for each node, and no memory.
+#![tactic(auto)]
+
 mod chains;
 mod firsts;
 mod nodes;
@@ -20,7 +22,7 @@ use space::Head;
 use space::heading::read_header;
 
 // The space is whole; or its header is broken, or the record of this number, the first that is.
-#[derive(Drop)]
+#[derive(Clone, Copy)]
 pub enum CheckAnswer {
     Whole,
     Header,

@@ -1,5 +1,7 @@
 // The join of two finished subgoals as a call: what is judged, in its order; what the forms of the join need, which a
 // count on trial or crate pairing tells; and the forms entered, each as a single answer is.
+#![tactic(auto)]
+
 pub mod entering;
 pub mod joins;
 pub mod trial;
@@ -7,7 +9,7 @@ pub mod trial;
 use space::Subgoal;
 
 // The numbers of the three subgoals of a join, as they are given.
-#[derive(Drop)]
+#[derive(Clone, Copy)]
 pub struct Numbers {
     pub first: usize,
     pub second: usize,
@@ -15,7 +17,7 @@ pub struct Numbers {
 }
 
 // The three subgoals of a join, by number and record.
-#[derive(Drop)]
+#[derive(Clone, Copy)]
 pub struct Parties {
     pub first: usize,
     pub f: Subgoal,
@@ -26,14 +28,14 @@ pub struct Parties {
 }
 
 // A draft of the forms so far: the nodes in use with it, and how many forms are new.
-#[derive(Drop)]
+#[derive(Clone, Copy)]
 pub struct Tally {
     pub used: usize,
     pub answers: u64,
 }
 
 // One form more on trial: the tally with it; or it needs more nodes than the draft may use; or the draft cannot tell.
-#[derive(Drop)]
+#[derive(Clone, Copy)]
 pub enum TriedForm {
     Counted(Tally),
     Over,
@@ -41,7 +43,7 @@ pub enum TriedForm {
 }
 
 // All forms on trial.
-#[derive(Drop)]
+#[derive(Clone, Copy)]
 pub enum Tried {
     All(Tally),
     Over,

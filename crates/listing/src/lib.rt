@@ -1,5 +1,7 @@
 // Every call of a small size, one after another: the first, and the one after a given one. Nothing is kept but a term
 // of at most eight cells, and which of the numbers below eight are sums of the symbols' arities.
+#![tactic(auto)]
+
 ghost use Rattle.std.specs.Prelude.{◌≡◌, true, ◌+◌, ◌-◌, ◌≤◌, ◌<◌, length, take, drop};
 ghost use Rattle.forms.specs.Numbering.{rank};
 ghost use Rattle.listing.specs.Listing.{is_symbol, are_symbols, listable, GivesFirst, GivesAfter};
@@ -14,7 +16,7 @@ use basis::refusals::{LISTED, LISTING};
 
 // What a call of the listing answers: the cells written, the end of the list, the number of a refusal, or, for refusal
 // 12, the cells that out would need.
-#[derive(Drop)]
+#[derive(Clone, Copy)]
 pub enum Listing {
     Cells(usize),
     End,
@@ -23,7 +25,7 @@ pub enum Listing {
 }
 
 // A place of a term: how many cells stand before it, how many variables are known there, and how many terms are due.
-#[derive(Drop)]
+#[derive(Clone, Copy)]
 struct Spot {
     at: usize,
     known: usize,
@@ -31,7 +33,7 @@ struct Spot {
 }
 
 // The cell to go on with, or that there is none.
-#[derive(Drop)]
+#[derive(Clone, Copy)]
 enum Choice {
     Cell(u32),
     Nothing,

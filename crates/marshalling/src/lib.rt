@@ -1,5 +1,7 @@
 // The converters over little-endian bytes, four to a cell, as the rule engine hands terms over and gets them back: one
 // number is returned, the cells written or a refusal.
+#![tactic(auto)]
+
 ghost use Rattle.std.specs.Prelude.{◌≡◌, ◌++◌, ◌*◌, ◌^◌, ◌/◌, ◌≤◌, ◌<◌, length, take, drop};
 ghost use Rattle.marshalling.specs.Bytes.{cell_of, cells_of, bytes_of};
 ghost use Rattle.marshalling.specs.Export.{CompactRoom, ExpandRoom, Delivers};

@@ -3,13 +3,15 @@
 // Nothing is kept but where the join stands, so its forms are made anew for each pass over them: one that counts what
 // they need by a search of each, one that counts exactly where that does not fit, and, in crate join, one that enters
 // them.
+#![tactic(auto)]
+
 pub mod counting;
 pub mod cursors;
 
 use space::Head;
 
 // A source of a join, once its answers are judged.
-#[derive(Drop)]
+#[derive(Clone, Copy)]
 pub struct Source {
     // The subgoal.
     pub number: usize,
@@ -22,7 +24,7 @@ pub struct Source {
 }
 
 // Both sources, under the header as it stands.
-#[derive(Drop)]
+#[derive(Clone, Copy)]
 pub struct Sides {
     pub h: Head,
     pub first: Source,
@@ -31,7 +33,7 @@ pub struct Sides {
 
 // Where a join stands: the answer of the first to be taken in hand next, and the answer of the second to be compared
 // next with the one in hand; 0 for none.
-#[derive(Drop)]
+#[derive(Clone, Copy)]
 pub struct Cursor {
     pub outer: usize,
     pub inner: usize,
@@ -39,7 +41,7 @@ pub struct Cursor {
 
 // The next answer of the second that matches the one in hand: the answer behind it, and the tokens of the joined
 // answer; or a joined answer of too many cells; or none.
-#[derive(Drop)]
+#[derive(Clone, Copy)]
 pub enum Found {
     At(usize, usize),
     TooLong,
@@ -47,7 +49,7 @@ pub enum Found {
 }
 
 // The same of all pairs that are still to come.
-#[derive(Drop)]
+#[derive(Clone, Copy)]
 pub enum Match {
     At(Cursor, usize),
     TooLong,
@@ -56,21 +58,21 @@ pub enum Match {
 
 // What forms need by a search of each: whether no damaged record was met, the tokens that were not found, and how many
 // forms were not.
-#[derive(Drop)]
+#[derive(Clone, Copy)]
 pub struct Sums {
     pub sound: bool,
     pub missing: u64,
     pub lacking: u64,
 }
 
-#[derive(Drop)]
+#[derive(Clone, Copy)]
 pub enum Counted {
     Sums(Sums),
     TooLong,
 }
 
 // What they need exactly.
-#[derive(Drop)]
+#[derive(Clone, Copy)]
 pub struct Needs {
     pub nodes: u64,
     pub answers: u64,

@@ -2,6 +2,8 @@
 //
 // An answer in hand is a slice: cells 0 to m hold the places where its m terms begin and where the last ends, and from
 // cell HANDED on stand its tokens. Between the places of a term and of the next stand the term's tokens.
+#![tactic(auto)]
+
 mod hands;
 mod tokens;
 
@@ -15,7 +17,7 @@ pub const HANDED: usize = MOST_VARIABLES + 1;
 pub const HAND: usize = HANDED + MOST_TOKENS;
 
 // What putting terms together gives: the tokens of their form, or that they are over 256 cells.
-#[derive(Drop)]
+#[derive(Clone, Copy)]
 pub enum Together {
     Form(usize),
     TooLong,

@@ -2,6 +2,8 @@
 // a legal form, for the crates that judge paths without loading them. A path is gathered in the few cells that suffice
 // for most; only a longer one gets the cells of a whole path, since each is cleared first. Every task goes on from
 // there by one function, so that this choice is made in one place.
+#![tactic(auto)]
+
 ghost use Rattle.std.specs.Prelude.{◌≡◌};
 ghost use Rattle.convert.specs.Holds.{RoomForTerms};
 ghost use Rattle.plain.specs.Coding.{predicate};
@@ -31,7 +33,7 @@ const CALLED: u32 = 3;
 
 // The ends of an answer's path and of its subgoal's, what gathering each in few cells came to, and how many terms the
 // answer has. Where there is one path, it stands twice.
-#[derive(Drop)]
+#[derive(Clone, Copy)]
 pub struct Paths {
     pub end: End,
     pub begun: usize,

@@ -1,1 +1,2 @@
 // The plain table: all of it stands in specs/ and proofs/.
+#![tactic(auto)]

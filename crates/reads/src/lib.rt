@@ -1,4 +1,6 @@
 // Next, load, instance and counts: the calls that only read the space.
+#![tactic(auto)]
+
 ghost use Rattle.std.specs.Prelude.{◌≡◌, true, [], ◌≤◌, ◌<◌};
 ghost use Rattle.plain.specs.Requests.{next, load, instance, counts, lacks_next};
 ghost use Rattle.space.specs.Sound.{Bounds};

@@ -1,5 +1,7 @@
 // Why a term is old or new: the reason for what call would answer. The space is lent to read. The search is call's,
 // with an index; without one it is lent an index of no cells.
+#![tactic(auto)]
+
 ghost use Rattle.std.specs.Prelude.{◌≡◌, [], ℕ, ◌<◌, ◌^◌, length, take};
 ghost use Rattle.plain.specs.Requests as request;
 ghost use Rattle.space.specs.Sound.{Bounds};
@@ -24,7 +26,7 @@ use trie::Walked;
 use trie::walks::walk_tokens;
 
 // Where first children lead: to a node that has none; or a damaged record was met.
-#[derive(Drop)]
+#[derive(Clone, Copy)]
 pub enum Descent {
     Leaf(usize),
     Damaged,

@@ -1,4 +1,6 @@
 // The line printed for what each call answers, put at the start of a text, without its newline.
+#![tactic(auto)]
+
 ghost use Rattle.std.specs.Prelude.{◌≡◌, ◌∷◌, ℕ, ◌+◌, ◌≤◌, ◌<◌, length};
 ghost use Rattle.plain.specs.Requests.{cells, lacks_next};
 ghost use Rattle.store.specs.Replies.{said_state, said_call, said_answer, said_finish, said_next, said_cells, said_counts};

@@ -1,4 +1,6 @@
 // One line of a session in, one line out; and what the session program starts from.
+#![tactic(auto)]
+
 pub mod start;
 
 ghost use Rattle.std.specs.Prelude.{◌≡◌, ◌≤◌, leb, length};
@@ -15,7 +17,7 @@ use replies::{CELL_BYTES, REPLY_BYTES, print_bad};
 use text::fields::{first_end, is_word};
 
 // What a line's first word asks for.
-#[derive(Drop)]
+#[derive(Clone, Copy)]
 pub enum Keyword {
     Call,
     Answer,

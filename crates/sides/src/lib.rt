@@ -1,11 +1,13 @@
 // What a join reads before it writes: the names in its request, the answers of a source, and the search of one form in
 // the target.
+#![tactic(auto)]
+
 pub mod chains;
 pub mod names;
 pub mod searches;
 
 // The answers of a source: a damaged record was met, no form holds a variable, or some form does.
-#[derive(Drop)]
+#[derive(Clone, Copy)]
 pub enum Judged {
     Damaged,
     Ground,
@@ -13,7 +15,7 @@ pub enum Judged {
 }
 
 // One answer of a source: damaged; or sound, with the number of the next one and whether its form holds no variable.
-#[derive(Drop)]
+#[derive(Clone, Copy)]
 pub enum Member {
     Damaged,
     Sound(usize, bool),
@@ -21,7 +23,7 @@ pub enum Member {
 
 // The search of a form among the answers to a subgoal: no damaged record was met, the form is not among them, and how
 // many of its tokens were not found.
-#[derive(Drop)]
+#[derive(Clone, Copy)]
 pub struct Met {
     pub sound: bool,
     pub lacking: bool,
@@ -29,7 +31,7 @@ pub struct Met {
 }
 
 // The most tokens that a form shares with one before it, and whether it is one of those.
-#[derive(Drop)]
+#[derive(Clone, Copy)]
 pub struct Earlier {
     pub shared: usize,
     pub held: bool,

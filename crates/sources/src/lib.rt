@@ -3,6 +3,8 @@
 // answer to no subgoal. Nothing is written: each form is compared with those before it, so the time goes with the
 // square of the subgoals and of the answers to each. A source that passes the check of a whole space needs none of
 // this.
+#![tactic(auto)]
+
 mod comparing;
 mod loading;
 mod names;
@@ -26,14 +28,14 @@ use space::Head;
 use trie::End;
 
 // The records of a kind under a head: the answers, or the subgoals.
-#[derive(Drop)]
+#[derive(Clone, Copy)]
 pub struct Records {
     pub h: Head,
     pub answers: bool,
 }
 
 // Where the form of a record stands: under which subgoal, 0 for a subgoal's own, and the end of its path.
-#[derive(Drop)]
+#[derive(Clone, Copy)]
 pub struct Place {
     pub owner: usize,
     pub end: End,
@@ -41,7 +43,7 @@ pub struct Place {
 
 // A record against those before it: the tokens past the longest prefix that its form shares with one of them under the
 // same subgoal, and whether it is one of those.
-#[derive(Drop)]
+#[derive(Clone, Copy)]
 pub struct Compared {
     pub tokens: usize,
     pub held: bool,

@@ -2,6 +2,8 @@
 // `take_line` and `respond`, and writes; crates/session/specs/Program.antt says what these calls come to. The contracts
 // fix what is held after each function; that the bytes read are the input's, and that the replies are printed, is for
 // the reader to see.
+#![tactic(auto)]
+
 mod usage;
 
 ghost use Rattle.std.specs.Prelude.{◌≤◌, length};
@@ -18,7 +20,7 @@ use usage::say_usage;
 
 // How many bytes of the line that has begun are kept; or that the input has ended; or that reading or
 // printing failed. Both end the program, but only an input that has ended has a last line.
-#[derive(Drop)]
+#[derive(Clone, Copy)]
 pub enum Progress {
     Kept(usize),
     Ended,

@@ -1,4 +1,6 @@
 // Bytes of a line: lines cut from chunks, fields read, digits written.
+#![tactic(auto)]
+
 pub mod digits;
 pub mod fields;
 pub mod lines;
@@ -20,14 +22,14 @@ pub const NUMBER_DIGITS: usize = 7;
 pub const CELL_DIGITS: usize = 8;
 
 // A number and the place at which its field ends, or none.
-#[derive(Drop)]
+#[derive(Clone, Copy)]
 pub enum Numeral {
     Value(u32, usize),
     Bad,
 }
 
 // How many cells were read, or that a field is no cell.
-#[derive(Drop)]
+#[derive(Clone, Copy)]
 pub enum CellsRead {
     Cells(usize),
     Bad,
@@ -35,7 +37,7 @@ pub enum CellsRead {
 
 // A line that has ended: the place behind its newline, and how many bytes are kept of it. Or the chunk has ended
 // before the line: how many are kept of it so far.
-#[derive(Drop)]
+#[derive(Clone, Copy)]
 pub enum Taking {
     Line(usize, usize),
     More(usize),

@@ -1,4 +1,6 @@
 // The converters tried on given cells, and what they answer printed on standard output.
+#![tactic(auto)]
+
 use forms::Answer;
 
 // Writes the bytes.

@@ -1,4 +1,6 @@
 // Tries in a space: search, walk, gather, append.
+#![tactic(auto)]
+
 pub mod appends;
 pub mod lookups;
 pub mod paths;
@@ -7,7 +9,7 @@ pub mod slots;
 pub mod walks;
 
 // The child found, or the last sibling, 0 where there is none.
-#[derive(Drop)]
+#[derive(Clone, Copy)]
 pub enum Search {
     Found(usize),
     Last(usize),
@@ -15,7 +17,7 @@ pub enum Search {
 }
 
 // Whole at a node; or stopped at a node, with its last child and the number of tokens left.
-#[derive(Drop)]
+#[derive(Clone, Copy)]
 pub enum Walked {
     Whole(usize),
     Stopped(usize, usize, usize),
@@ -24,7 +26,7 @@ pub enum Walked {
 
 // The last node of a path and the root that it is to start from; the nodes of the trie, and the count that its links
 // are held to.
-#[derive(Drop)]
+#[derive(Clone, Copy)]
 pub struct End {
     pub nodes: usize,
     pub links: usize,

@@ -1,4 +1,6 @@
 // Runs the published forms through both converters and prints what they answer.
+#![tactic(auto)]
+
 use trials::{back, both};
 
 // Source 000, section 2: variables; terms without any.

@@ -1,4 +1,6 @@
 // The result word of each answer: what was answered in its upper half, the value in its lower.
+#![tactic(auto)]
+
 pub mod detours;
 pub mod listings;
 pub mod reasons;

@@ -1,0 +1,12 @@
+-- `is_callable` meets its contract, one case to each side of its test.
+use borrow.Author.Tests.{eq-eqb, ne_eqb}
+use Rattle.forms.specs.Cells.{callable}
+use Rattle.forms.proofs.is_callable.Goals as goal
+
+pub returns-then-kind-eq2 : goal.returns-then-kind-eq2
+unfolding callable
+returns-then-kind-eq2 c = simp (eq-eqb _ _ c.if-kind-eq2.true)
+
+pub returns : goal.returns
+unfolding callable
+returns c = simp (ne_eqb _ _ c.if-kind-eq2.false)
