@@ -1,0 +1,8 @@
+-- `space::blocks::subgoals_end` meets its contract.
+use borrow.Author.Rules.{rules}
+use native.Mathlib.Omega.{arith}
+use Rattle.space.proofs.WidthLaws.{subgoal-narrow}
+use Rattle.space.proofs.blocks.subgoals_end.Goals as goal
+
+pub returns : goal.returns
+returns c = (rw (subgoal-narrow _), omega arith)

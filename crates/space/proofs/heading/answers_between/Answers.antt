@@ -1,0 +1,7 @@
+-- `space::heading::answers_between` meets its contract.
+use borrow.Author.Rules.{rules}
+use Rattle.space.proofs.WidthLaws.{answer-narrow}
+use Rattle.space.proofs.heading.answers_between.Goals as goal
+
+pub returns : goal.returns
+returns c = rw (answer-narrow _) c.capacity_of.ensures

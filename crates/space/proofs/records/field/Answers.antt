@@ -1,0 +1,6 @@
+-- `space::records::field` meets its contract.
+use borrow.Author.Rules.{rules}
+use Rattle.space.proofs.records.field.Goals as goal
+
+pub returns : goal.returns
+returns c = c.wide.ensures.0

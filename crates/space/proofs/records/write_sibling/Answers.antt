@@ -1,0 +1,7 @@
+-- `space::records::write_sibling` meets its contract.
+use borrow.Author.Rules.{rules}
+use Rattle.space.proofs.FieldLaws.{field-written}
+use Rattle.space.proofs.records.write_sibling.Goals as goal
+
+pub returns : goal.returns
+returns c = field-written c.args.space.now _ c.args.sibling 2 _ _ c.write_field.ensures c.node_place-at.ensures
