@@ -99,7 +99,7 @@ def moments(text):
             if kind is None:
                 return o[0]
             return f"{name}.{word if 'mut' in kind else 'now'}{rest}"
-        return re.sub(r'\((old|new) (\w+)((?:\.\w+)*)\)|\b(old|new) (\w+)((?:\.\w+)*)', moment, signature)
+        return re.sub(r'\((old|new) (\w+)((?:\.\w+)*)\)|(?<![\w.])(old|new) (\w+)((?:\.\w+)*)', moment, signature)
     return re.sub(r'(?m)^ *(?:pub )?(?:unsafe )?(?:extern "C" )?fn \w+.*?^ *\{$', turn, text, flags=re.S | re.M)
 
 

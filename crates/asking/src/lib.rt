@@ -82,7 +82,7 @@ pub fn ask_next(line: &[u8], at: usize, space: &[u32], text: &mut [u8]) -> usize
 
 // load, with a number. What was written to out is printed.
 pub fn ask_load(line: &[u8], at: usize, space: &[u32], out: &mut [u32], text: &mut [u8]) -> usize
-    requires { AskableOut line.now at out.text.old.old }
+    requires { AskableOut line.now at out.old text.old }
     ensures load_prints { LoadPrints line.now at space.now out.old text.old result text.new }
     ensures out_value { out.new ≡ (load_said line.now at space.now out.old).out }
 {
@@ -101,7 +101,7 @@ pub fn ask_instance(
     out: &mut [u32],
     text: &mut [u8],
 ) -> usize
-    requires { AskableOut line.now at out.text.old.old }
+    requires { AskableOut line.now at out.old text.old }
     ensures instance_prints { InstancePrints line.now at space.now out.old text.old result text.new }
     ensures out_value { out.new ≡ (instance_said line.now at space.now out.old).out }
 {

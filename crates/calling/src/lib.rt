@@ -142,7 +142,7 @@ fn call_with(
     index: &[u32],
 ) -> CallAnswer
     requires bounds { Bounds space.old h }
-    requires room_for_form { RoomForForm term.now vars.form.old.old }
+    requires room_for_form { RoomForForm term.now vars.old form.old }
     ensures { AnswersUnder (search_indexed index.now h.nodes) space.old h (request.call term.now) (said_call result)
         space.new }
 {

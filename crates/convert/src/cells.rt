@@ -34,7 +34,7 @@ fn in_order(c: u32, count: usize) -> bool
 
 // Reads the m terms in s, and leaves them numbered at the start of form.
 pub fn read_cells(s: &[u32], m: usize, vars: &mut [u32], form: &mut [u32], edition: u32) -> Reading
-    requires { RoomForForm s.now vars.form.old.old }
+    requires { RoomForForm s.now vars.old form.old }
     ensures { ReadsPairs edition m s.now vars.new form.new result }
 {
     let n = s.len();

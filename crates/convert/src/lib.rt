@@ -27,7 +27,7 @@ pub enum Loaded {
 // Reads the m terms in s, and leaves the form of them that the edition stores at the start of form, and their variables
 // in order of rank at the start of vars.
 pub fn read_terms(s: &[u32], m: usize, vars: &mut [u32], form: &mut [u32], edition: u32) -> Reading
-    requires { RoomForForm s.now vars.form.old.old }
+    requires { RoomForForm s.now vars.old form.old }
     ensures { Reads edition m s.now vars.new form.new result }
 {
     if forms::stores_pairs(edition) {
@@ -38,7 +38,7 @@ pub fn read_terms(s: &[u32], m: usize, vars: &mut [u32], form: &mut [u32], editi
 
 // The same in compact form.
 fn read_compact(s: &[u32], m: usize, vars: &mut [u32], form: &mut [u32], edition: u32) -> Reading
-    requires { RoomForForm s.now vars.form.old.old }
+    requires { RoomForForm s.now vars.old form.old }
     ensures { ReadsLists edition m s.now vars.new form.new result }
 {
     let n = s.len();
@@ -139,7 +139,7 @@ fn compact_with(
     out: &mut [u32],
     edition: u32,
 ) -> Answer
-    requires { RoomForForm s.now vars.form.old.old }
+    requires { RoomForForm s.now vars.old form.old }
     ensures { Compacts edition m s.now out.old result out.new }
 {
     let read = read_terms(s, m, vars, form, edition);

@@ -28,7 +28,7 @@ fn insert(slots: &mut [u32], first: usize, n: u32)
 
 // Node n: if it is a child, it is its parent's last one so far, and takes a slot.
 fn enter(space: &[u32], nodes: usize, n: usize, lasts: &mut [u32], slots: &mut [u32])
-    requires { NodesIn space.now nodes × (n < nodes) × LedgerRoom n lasts.slots.old.old }
+    requires { NodesIn space.now nodes × (n < nodes) × LedgerRoom n lasts.old slots.old }
     ensures { EntersNode space.now n lasts.old slots.old lasts.new slots.new }
 {
     let y = node_in(space, nodes, n);

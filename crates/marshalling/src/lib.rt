@@ -83,7 +83,7 @@ fn compact_with(
     out: &mut [u8],
     edition: u32,
 ) -> u32
-    requires { CompactRoom n input.now cells.vars.old.old form.old }
+    requires { CompactRoom n input.now cells.old vars.old form.old }
     ensures { CompactsBytes edition input.now out.old result out.new }
 {
     decode(input, n, cells);
@@ -136,7 +136,7 @@ fn expand_with(
     out: &mut [u8],
     edition: u32,
 ) -> u32
-    requires { ExpandRoom n input.now form.cells.old.old }
+    requires { ExpandRoom n input.now form.old cells.old }
     ensures { ExpandsBytes edition input.now out.old result out.new }
 {
     decode(input, n, form);

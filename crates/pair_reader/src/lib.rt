@@ -68,7 +68,7 @@ pub fn store(c: u32, vars: &mut [u32], count: usize, out: &mut [u32], to: usize)
 // other cell take no call, and come to stand in out where they stand in s. At the first other cell `scan` goes on with
 // what is due there.
 pub fn terms(s: &[u32], n: usize, vars: &mut [u32], out: &mut [u32], edition: u32) -> Step
-    requires { PairRoom s.now (placed 0 0 0) vars.out.old.old }
+    requires { PairRoom s.now (placed 0 0 0) vars.old out.old }
     ensures { ReadsTerms edition s.now (placed 0 0 0) n vars.old out.old vars.new out.new result }
 {
     if s.len() < n {
@@ -100,7 +100,7 @@ pub fn terms(s: &[u32], n: usize, vars: &mut [u32], out: &mut [u32], edition: u3
 // become due, and the list reader reads both.
 #[cycle(element_list_scan_term)]
 fn scan(s: &[u32], from: Place, n: usize, vars: &mut [u32], out: &mut [u32], edition: u32) -> Step
-    requires { PairRoom s.now from vars.out.old.old × (n ≤ 256) }
+    requires { PairRoom s.now from vars.old out.old × (n ≤ 256) }
     ensures { ReadsTerms edition s.now from n vars.old out.old vars.new out.new result }
 {
     let mut at = from.at;
@@ -148,7 +148,7 @@ fn term(
     to: usize,
     edition: u32,
 ) -> Step
-    requires { PairRoom s.now (placed at to count) vars.out.old.old }
+    requires { PairRoom s.now (placed at to count) vars.old out.old }
     ensures { ReadsTerms edition s.now (placed at to count) 1 vars.old out.old vars.new out.new result }
 {
     let place = Place { at, to, count };
@@ -166,7 +166,7 @@ fn list(
     start: usize,
     edition: u32,
 ) -> Step
-    requires { PairRoom s.now (placed from start known) vars.out.old.old × (2 * start + 1 ≤ 3 * from) }
+    requires { PairRoom s.now (placed from start known) vars.old out.old × (2 * start + 1 ≤ 3 * from) }
     ensures { ReadsList edition s.now (placed from start known) vars.old out.old vars.new out.new result }
 {
     let mut at = from;
@@ -205,7 +205,7 @@ fn element(
     to: usize,
     edition: u32,
 ) -> Step
-    requires { PairRoom s.now (placed at to count) vars.out.old.old }
+    requires { PairRoom s.now (placed at to count) vars.old out.old }
     ensures { ReadsTerms edition s.now (placed at to count) 1 vars.old out.old vars.new out.new result }
 {
     if s.len() <= at {

@@ -36,7 +36,7 @@ fn gather_path(space: &[u32], end: End, cells: &mut [u32]) -> usize
 
 // The answer of m terms whose path ends here, taken in hand. The path is gathered in the cells of a form.
 fn take_path(space: &[u32], end: End, m: usize, held: &mut [u32], form: &mut [u32], edition: u32)
-    requires { PathTakeable space.now end m held.form.old.old edition }
+    requires { PathTakeable space.now end m held.old form.old edition }
     ensures { Takes space.now end m held.old held.new edition }
 {
     let k = gather_path(space, end, form);
@@ -45,7 +45,7 @@ fn take_path(space: &[u32], end: End, m: usize, held: &mut [u32], form: &mut [u3
 
 // The first's answer with this leaf.
 fn take_first(space: &[u32], x: Sides, leaf: usize, hands: &mut [u32], form: &mut [u32])
-    requires { FirstTakeable space.now x leaf hands.form.old.old }
+    requires { FirstTakeable space.now x leaf hands.old form.old }
     ensures { TakesFirst space.now x leaf hands.old hands.new }
 {
     let end = End {
@@ -59,7 +59,7 @@ fn take_first(space: &[u32], x: Sides, leaf: usize, hands: &mut [u32], form: &mu
 
 // The second's answer with this leaf.
 fn take_second(space: &[u32], x: Sides, leaf: usize, hands: &mut [u32], form: &mut [u32])
-    requires { SecondTakeable space.now x leaf hands.form.old.old }
+    requires { SecondTakeable space.now x leaf hands.old form.old }
     ensures { TakesSecond space.now x leaf hands.old hands.new }
 {
     let end = End {
@@ -105,7 +105,7 @@ fn find_match(
     form: &mut [u32],
 ) -> Found
     requires throughout { Throughout space.now x pairs.now copies.now }
-    requires compared { Compared space.now x from hands.form.old.old }
+    requires compared { Compared space.now x from hands.old form.old }
     ensures { Finds space.now x pairs.now copies.now from hands.old hands.new form.new result }
 {
     let mut b = from;
@@ -152,7 +152,7 @@ pub fn advance(
     form: &mut [u32],
 ) -> Match
     requires throughout { Throughout space.now x pairs.now copies.now }
-    requires stands { Stands space.now x from hands.form.old.old }
+    requires stands { Stands space.now x from hands.old form.old }
     ensures { Advances space.now x pairs.now copies.now from hands.old hands.new form.new result }
 {
     let mut outer = from.outer;

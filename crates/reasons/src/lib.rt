@@ -120,7 +120,7 @@ fn why_with(
     index: &[u32],
 ) -> Reason
     requires bounds { Bounds space.now h × (length form.old < 2 ^ 32) }
-    requires room_for_form { RoomForForm term.now vars.form.old.old }
+    requires room_for_form { RoomForForm term.now vars.old form.old }
     ensures answers_under { AnswersUnder (search_indexed index.now h.nodes) space.now h (request.why term.now)
         (said_reason result vars.new) space.now }
     ensures named_in { NamedIn vars.new result }

@@ -1,0 +1,10 @@
+use Rattle.std.proofs.Common.{◌≡◌, ℕ, ◌+◌, ◌-◌, ◌≤◌, ◌++◌, length, drop, refl, ap, ◌∙◌, arith, length-set}
+use Rattle.trie.specs.Runs.{levels}
+use Rattle.trie.proofs.PathCases.{copied-step, copied_none}
+use Rattle.trie.proofs.paths.copy_run.Given as goal
+
+abbrev pub invariant-loop-i : goal.invariant-loop-i
+invariant-loop-i l = (l.i ≤ levels) × (drop (l.from + l.i) l.path ≡ drop l.i l.run ++ drop (l.from + levels) l.initial.path) × (length l.path ≡ length l.initial.path)
+
+abbrev pub decreases-loop-i : goal.decreases-loop-i
+decreases-loop-i l = l.i
