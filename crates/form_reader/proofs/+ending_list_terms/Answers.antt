@@ -223,7 +223,7 @@ terms-loop-due-preserved-then-is_variable t c = let q : variable (get_or c.args.
     }
 
 pub terms-returns-in_default-shape_of : goal.terms-returns-in_default-shape_of
-terms-returns-in_default-shape_of t c = c.loop-due.invariant.goes_on c.loop-due.out Malformed (forms-illegal (arity_of c.args.edition) c.args.s.now c.args.limit c.loop-due.at c.loop-due.due c.loop-due.count c.loop-due.out c.loop-due.to c.loop-due.out (omega arith) c.if-s-at.false c.if-c-eq-BLIST.false ?)
+terms-returns-in_default-shape_of t c = c.loop-due.invariant.goes_on c.loop-due.out Malformed (forms-illegal (arity_of c.args.edition) c.args.s.now c.args.limit c.loop-due.at c.loop-due.due c.loop-due.count c.loop-due.out c.loop-due.to c.loop-due.out (omega arith) c.if-s-at.false c.if-c-eq-BLIST.false (λ k e. c.in_default-shape_of.not-Symbol k (c.shape_of.ensures ∙ e)))
 
 pub terms-overflow_add-to-in-loop-due : goal.terms-overflow_add-to-in-loop-due
 terms-overflow_add-to-in-loop-due t c =

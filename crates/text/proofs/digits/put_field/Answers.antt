@@ -1,0 +1,20 @@
+-- `put_field` meets its contract: what fill made stands behind the space.
+use native.Mathlib.Omega.{arith}
+use lib.ListN.{length-set}
+use Rattle.text.proofs.DigitsLaws.{part_length, field_put}
+use borrow.Author.Rules.{rules}
+use Rattle.text.proofs.digits.put_field.Goals as goal
+
+pub put-requires : goal.put-requires
+put-requires c = simp length-set (omega (arith, part_length c.fill-first.new.buffer c.fill-first.result))
+
+pub shape_of-text : goal.shape_of-text
+shape_of-text c =
+    let a = c.args in
+    omega (arith, length-set a.text.now a.at 32)
+
+pub returns : goal.returns
+returns c =
+    let a = c.args in
+    let f = c.fill-first in
+    field_put a.text.now _ f.new.1.1.1.0 _ a.at f.result _ (search rules) f.ensures.1 c.put.ensures

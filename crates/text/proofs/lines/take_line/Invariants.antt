@@ -1,0 +1,15 @@
+use Prim.Native.Nat.{◌-◌}
+use mathlib.Core.Path.{◌≡◌, refl, ◌∙◌}
+use native.Mathlib.Omega.{arith}
+use lib.ListN.{length, drop}
+use borrow.Author.Rules.{rules}
+use Rattle.text.specs.Cutting.{taking}
+use Rattle.text.proofs.CuttingLaws.{in-range, step-over, step_end, step-turn}
+use Rattle.text.proofs.lines.take_line.Given as goal
+
+abbrev pub invariant-loop-i : goal.invariant-loop-i
+invariant-loop-i l =
+    (length l.line ≡ length l.initial.line) × (taking (drop l.i l.chunk) l.i l.line l.n ≡ taking (drop l.at l.chunk) l.at l.initial.line l.kept)
+
+abbrev pub decreases-loop-i : goal.decreases-loop-i
+decreases-loop-i l = length l.chunk - l.i
