@@ -17,7 +17,7 @@ pub overflow_sub-i : goal.overflow_sub-i
 overflow_sub-i c = omega arith
 
 pub overflow_sub-i-in-loop-i : goal.overflow_sub-i-in-loop-i
-overflow_sub-i-in-loop-i c = place-left c.loop-i.left c.args.width c.loop-i.i c.loop-i.invariant.2 (omega arith) (not_made c.all_made.ensures c.loop-i-test.true)
+overflow_sub-i-in-loop-i c = place-left c.loop-i.left c.args.width c.loop-i.i c.loop-i.invariant.2 (omega arith) (sym c.all_made.ensures ∙ c.loop-i-test.true)
 
 pub nonzero_rem-left : goal.nonzero_rem-left
 nonzero_rem-left c = omega arith
@@ -32,13 +32,13 @@ pub nonzero_div-left : goal.nonzero_div-left
 nonzero_div-left c = omega arith
 
 pub loop-i-smaller : goal.loop-i-smaller
-loop-i-smaller c = omega (arith, place-left c.loop-i.left c.args.width c.loop-i.i c.loop-i.invariant.2 (omega arith) (not_made c.all_made.ensures c.loop-i-test.true))
+loop-i-smaller c = omega (arith, place-left c.loop-i.left c.args.width c.loop-i.i c.loop-i.invariant.2 (omega arith) (sym c.all_made.ensures ∙ c.loop-i-test.true))
 
 pub loop-i-preserved : goal.loop-i-preserved
 loop-i-preserved c =
     let L = c.loop-i in
     let a = c.args in
-    let f = not_made c.all_made.ensures c.loop-i-test.true in
+    let f = sym c.all_made.ensures ∙ c.loop-i-test.true in
     let e : L.i ≡ suc (L.i - 1) = omega (arith, place-left L.left a.width L.i L.invariant.2 (omega arith) f) in (
       omega arith,
       simp length-set L.invariant.1,
@@ -53,4 +53,4 @@ pub returns : goal.returns
 returns c =
     let L = c.loop-i in
     let a = c.args in
-    (omega arith, sym (L.invariant.3 ∙ digits-end a.base L.i (a.width - (10 - L.i)) L.left (drop L.i L.buffer) (sym c.all_made.ensures ∙ not-false _ c.loop-i-test.false)))
+    (omega arith, sym (L.invariant.3 ∙ digits-end a.base L.i (a.width - (10 - L.i)) L.left (drop L.i L.buffer) (sym c.all_made.ensures ∙ c.loop-i-test.false)))

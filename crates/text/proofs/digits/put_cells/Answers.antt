@@ -33,7 +33,7 @@ loop-i-preserved c =
     let p = c.put_field-end.ensures in (
       omega arith,
       cells-next a.cells.now a.text.now _ _ a.at L.i _ _ (omega arith) L.invariant.1 p,
-      omega (arith, p.0, cell-length v (omega (arith, c.shared_slice_known-in-loop-i-1.given L.i))),
+      omega (arith, p.0, cell-length v (omega (arith, c.type_inv.cells L.i))),
       omega arith,
     )
 

@@ -17,4 +17,4 @@ pub returns : goal.returns
 returns c =
     let a = c.args in
     let f = c.fill-first in
-    field_put a.text.now _ f.new.1.1.1.0 _ a.at f.result _ (search rules) f.ensures.1 c.put.ensures
+    field_put a.text.now _ f.new.buffer _ a.at f.result _ (search rules) f.ensures.1 c.put.ensures

@@ -1,0 +1,83 @@
+-- `load_cells` meets its contract: each turn passes one cell, and each answer comes by its law.
+use Prim.Native.Nat.{◌-◌}
+use mathlib.Core.Path.{refl, sym, ◌∙◌}
+use native.Mathlib.Omega.{arith}
+use borrow.Author.Rules.{rules}
+use Rattle.forms.specs.Cells.{arity_of}
+use Rattle.convert.proofs.ScanLaws.{LoadTurn, load-long, load-few, load-start, load-over, load-illegal, load-unordered, load-next, load-short, load_many, load-form}
+use Rattle.convert.proofs.cells.load_cells.Goals as goal
+
+pub returns-then-n-gt-MOST_CELLS : goal.returns-then-n-gt-MOST_CELLS
+returns-then-n-gt-MOST_CELLS c = ((load-long (arity_of c.args.edition) c.args.m c.args.s.now c.if-n-gt-MOST_CELLS.true, tt), tt)
+
+pub returns-then-n-m : goal.returns-then-n-m
+returns-then-n-m c = ((load-few (arity_of c.args.edition) c.args.m c.args.s.now (omega arith) c.if-n-m.true, tt), tt)
+
+pub loop-at-init : goal.loop-at-init
+loop-at-init c = load-start (arity_of c.args.edition) c.args.m c.args.s.now c.args.cells.now _ refl (omega arith) (omega arith) c.requires
+
+pub shape_of-cells-then-due-eq0 : goal.shape_of-cells-then-due-eq0
+shape_of-cells-then-due-eq0 c = c.loop-at.invariant.kept
+
+pub returns-then-due-eq0 : goal.returns-then-due-eq0
+returns-then-due-eq0 c = ((load-over (arity_of c.args.edition) c.args.m c.args.s.now c.args.cells.now _ c.loop-at.cells c.loop-at.at c.loop-at.due c.loop-at.count c.loop-at.invariant (omega arith) c.if-due-eq0.true, tt), tt)
+
+pub offset_bounds-s-at : goal.offset_bounds-s-at
+offset_bounds-s-at c = omega arith
+
+pub bounds-s-at : goal.bounds-s-at
+bounds-s-at c = omega arith
+
+pub due_past-more-requires : goal.due_past-more-requires
+due_past-more-requires c = (omega arith, omega arith)
+
+pub shape_of-cells-then-more-eq0 : goal.shape_of-cells-then-more-eq0
+shape_of-cells-then-more-eq0 c = c.loop-at.invariant.kept
+
+pub returns-then-more-eq0 : goal.returns-then-more-eq0
+returns-then-more-eq0 c = ((load-illegal (arity_of c.args.edition) c.args.m c.args.s.now c.args.cells.now _ c.loop-at.cells c.loop-at.at c.loop-at.due c.loop-at.count c.loop-at.invariant (omega arith) _ c.due_past-more.ensures.0 c.if-more-eq0.true, tt), tt)
+
+pub offset_bounds-cells-at : goal.offset_bounds-cells-at
+offset_bounds-cells-at c = omega arith
+
+pub bounds-cells-at : goal.bounds-cells-at
+bounds-cells-at c = omega arith
+
+pub met_after-count-requires : goal.met_after-count-requires
+met_after-count-requires c = omega arith
+
+pub overflow_sub-due : goal.overflow_sub-due
+overflow_sub-due c = omega arith
+
+pub overflow_add-at : goal.overflow_add-at
+overflow_add-at c = omega arith
+
+pub loop-at-smaller : goal.loop-at-smaller
+loop-at-smaller c = omega arith
+
+pub loop-at-preserved : goal.loop-at-preserved
+loop-at-preserved c = load-next (arity_of c.args.edition) c.args.m c.args.s.now c.args.cells.now _ c.loop-at.cells c.loop-at.at c.loop-at.due c.loop-at.count c.loop-at.invariant (omega arith) (omega arith) _ c.due_past-more.ensures.0 c.if-more-eq0.false c.due_past-more.ensures.1 (omega arith) (sym c.if-in_order.true ∙ c.in_order.ensures) _ c.met_after-count.ensures
+
+pub shape_of-cells-in-loop-at : goal.shape_of-cells-in-loop-at
+shape_of-cells-in-loop-at c = c.loop-at.invariant.kept
+
+pub returns-in-loop-at : goal.returns-in-loop-at
+returns-in-loop-at c = ((load-unordered (arity_of c.args.edition) c.args.m c.args.s.now c.args.cells.now _ c.loop-at.cells c.loop-at.at c.loop-at.due c.loop-at.count c.loop-at.invariant (omega arith) (sym c.if-in_order.false ∙ c.in_order.ensures), tt), tt)
+
+pub shape_of-cells-then-due-gt0 : goal.shape_of-cells-then-due-gt0
+shape_of-cells-then-due-gt0 c = c.loop-at.invariant.kept
+
+pub returns-then-due-gt0 : goal.returns-then-due-gt0
+returns-then-due-gt0 c = ((load-short (arity_of c.args.edition) c.args.m c.args.s.now c.args.cells.now _ c.loop-at.cells c.loop-at.at c.loop-at.due c.loop-at.count c.loop-at.invariant c.loop-at-test.false c.if-due-gt0.true, tt), tt)
+
+pub shape_of-cells-then-count-gt-MOST_VARIABLES : goal.shape_of-cells-then-count-gt-MOST_VARIABLES
+shape_of-cells-then-count-gt-MOST_VARIABLES c = c.loop-at.invariant.kept
+
+pub returns-then-count-gt-MOST_VARIABLES : goal.returns-then-count-gt-MOST_VARIABLES
+returns-then-count-gt-MOST_VARIABLES c = ((load_many (arity_of c.args.edition) c.args.m c.args.s.now c.args.cells.now _ c.loop-at.cells c.loop-at.at c.loop-at.due c.loop-at.count c.loop-at.invariant c.loop-at-test.false c.if-count-gt-MOST_VARIABLES.true, tt), tt)
+
+pub shape_of-cells : goal.shape_of-cells
+shape_of-cells c = c.loop-at.invariant.kept
+
+pub returns : goal.returns
+returns c = load-form (arity_of c.args.edition) c.args.m c.args.s.now c.args.cells.now _ c.loop-at.cells c.loop-at.at c.loop-at.due c.loop-at.count c.loop-at.invariant c.loop-at-test.false c.if-due-gt0.false c.if-count-gt-MOST_VARIABLES.false
