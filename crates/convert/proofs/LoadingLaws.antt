@@ -258,11 +258,11 @@ module _ (arity : ℕ → ℕ) (m : ℕ) (s : List ℕ) where
       pairs_end : length (pair_form arity s) ≡ end
       pairs_end = ap length the-pairs ∙ (omega (arith, v.3.end-at))
 
-      in_order : ordered 0 s ≡ true
-      in_order = rw the_form v.3.numbers
+      order_kept : ordered 0 s ≡ true
+      order_kept = rw the_form v.3.numbers
 
       pub variables : known ≡ length (met [] s)
-      variables = v.3.known ∙ ap (met_in 0) (sym the_form) ∙ (ordered-numbered s in_order).1
+      variables = v.3.known ∙ ap (met_in 0) (sym the_form) ∙ (ordered-numbered s order_kept).1
 
       pub loading-crowded : 32 < known → NoForm ≡ loading (compact_stored arity) m s
       loading-crowded h = none (λ p. omega (arith, p.variables, variables))
@@ -272,7 +272,7 @@ module _ (arity : ℕ → ℕ) (m : ℕ) (s : List ℕ) where
       loading-terms h b k =
           let l : legal_form arity m s ≡ true =
           parts-legal arity m s (record {
-            numbers = (ordered-numbered s in_order).0;
+            numbers = (ordered-numbered s order_kept).0;
             variables = omega (arith, variables);
             forms = are-forms;
             cells = omega (arith, pairs_end, v.4);

@@ -189,11 +189,11 @@ module _ (arity : ℕ → ℕ) (m : ℕ) (s : List ℕ) where
     all-passed : take at s ≡ s
     all-passed = ap (λ (k : ℕ). take k s) whole ∙ take-length s
 
-    in_order : (s ≡ numbered s) × (met_in 0 s ≡ length (met [] s))
-    in_order = ordered-numbered s (subst (λ (l : List ℕ). ordered 0 l ≡ true) all-passed o.numbers)
+    order_kept : (s ≡ numbered s) × (met_in 0 s ≡ length (met [] s))
+    order_kept = ordered-numbered s (subst (λ (l : List ℕ). ordered 0 l ≡ true) all-passed o.numbers)
 
     pub count-is : count ≡ length (met [] s)
-    count-is = o.known ∙ ap (met_in 0) all-passed ∙ in_order.1
+    count-is = o.known ∙ ap (met_in 0) all-passed ∙ order_kept.1
 
     pub load-crowded : 32 < count → NoForm ≡ loading (pair_stored arity) m s
     load-crowded h = cells-none (λ l e. omega (arith, l.variables, count-is))
@@ -202,7 +202,7 @@ module _ (arity : ℕ → ℕ) (m : ℕ) (s : List ℕ) where
         → (Terms n ≡ loading (pair_stored arity) m s) × HoldsTerms (pair_stored arity) s cells (Terms n)
     unfolding loading
     load-terms t short few n e =
-        let l : legal_pairs arity m s ≡ true = pairs-legal arity m s (record { terms = t; cells = short; variables = omega (arith, count-is) }) in_order.0 in (
+        let l : legal_pairs arity m s ≡ true = pairs-legal arity m s (record { terms = t; cells = short; variables = omega (arith, count-is) }) order_kept.0 in (
           rw (l, e),
           ap (take n) (o.copied ∙ ap (λ (x : List ℕ). x ++ drop at cells₀) all-passed) ∙ take_at s (drop at cells₀) n (sym e),
         )

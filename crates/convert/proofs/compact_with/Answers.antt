@@ -21,13 +21,13 @@ returns-then-out-n c =
 
 pub copy-requires : goal.copy-requires
 copy-requires c =
-    let got_here : Form c.read.given.0.0 c.read.given.0.1.0 ≡ reading (arity_of c.args.edition) (stored_of c.args.edition) c.args.m c.args.s.now = sym c.read.given.1 ∙ c.read_terms-read.ensures.0 in
-    let holds_here : take c.read.given.0.0 c.read_terms-read.new.form ≡ (stored_of c.args.edition).form c.args.s.now = rw c.read.given.1 at c.read_terms-read.ensures.1 in
+    let got_here : Form c.in-Form.n c.in-Form.field-1 ≡ reading (arity_of c.args.edition) (stored_of c.args.edition) c.args.m c.args.s.now = sym c.in-Form.is ∙ c.read_terms-read.ensures.0 in
+    let holds_here : take c.in-Form.n c.read_terms-read.new.form ≡ (stored_of c.args.edition).form c.args.s.now = rw c.in-Form.is at c.read_terms-read.ensures.1 in
     (taken-room c.in-Form.n c.read_terms-read.new.form ((stored_of c.args.edition).form c.args.s.now) (holds_here) (reading-length (arity_of c.args.edition) (stored_of c.args.edition) c.args.m c.args.s.now c.in-Form.n c.in-Form.field-1 (got_here)), c.if-out-n.false)
 
 pub returns : goal.returns
 returns c =
-    let got_here : Form c.read.given.0.0 c.read.given.0.1.0 ≡ reading (arity_of c.args.edition) (stored_of c.args.edition) c.args.m c.args.s.now = sym c.read.given.1 ∙ c.read_terms-read.ensures.0 in
-    let holds_here : take c.read.given.0.0 c.read_terms-read.new.form ≡ (stored_of c.args.edition).form c.args.s.now = rw c.read.given.1 at c.read_terms-read.ensures.1 in
+    let got_here : Form c.in-Form.n c.in-Form.field-1 ≡ reading (arity_of c.args.edition) (stored_of c.args.edition) c.args.m c.args.s.now = sym c.in-Form.is ∙ c.read_terms-read.ensures.0 in
+    let holds_here : take c.in-Form.n c.read_terms-read.new.form ≡ (stored_of c.args.edition).form c.args.s.now = rw c.in-Form.is at c.read_terms-read.ensures.1 in
     let f = fitting-cells c.in-Form.n ((stored_of c.args.edition).form c.args.s.now) c.args.out.now c.read_terms-read.new.form c.copy.new.out c.if-out-n.false (holds_here) c.copy.ensures in
     (f.0 ∙ compacting-form (arity_of c.args.edition) (stored_of c.args.edition) c.args.m c.args.s.now c.in-Form.n c.in-Form.field-1 (length c.args.out.now) (got_here), f.1)

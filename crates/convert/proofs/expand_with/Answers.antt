@@ -21,13 +21,13 @@ returns-then-out-k c =
 
 pub copy-requires : goal.copy-requires
 copy-requires c =
-    let got_here : Terms c.k.given.0.0 ≡ loading (stored_of c.args.edition) c.args.m c.args.s.now = sym c.k.given.1 ∙ c.load_terms.ensures.0 in
-    let holds_here : take c.k.given.0.0 c.load_terms.new.cells ≡ (stored_of c.args.edition).cells c.args.s.now = rw c.k.given.1 at c.load_terms.ensures.1 in
+    let got_here : Terms c.in-Terms.k ≡ loading (stored_of c.args.edition) c.args.m c.args.s.now = sym c.in-Terms.is ∙ c.load_terms.ensures.0 in
+    let holds_here : take c.in-Terms.k c.load_terms.new.cells ≡ (stored_of c.args.edition).cells c.args.s.now = rw c.in-Terms.is at c.load_terms.ensures.1 in
     (taken-room c.in-Terms.k c.load_terms.new.cells ((stored_of c.args.edition).cells c.args.s.now) (holds_here) (loading-length (stored_of c.args.edition) c.args.m c.args.s.now c.in-Terms.k (got_here)), c.if-out-k.false)
 
 pub returns : goal.returns
 returns c =
-    let got_here : Terms c.k.given.0.0 ≡ loading (stored_of c.args.edition) c.args.m c.args.s.now = sym c.k.given.1 ∙ c.load_terms.ensures.0 in
-    let holds_here : take c.k.given.0.0 c.load_terms.new.cells ≡ (stored_of c.args.edition).cells c.args.s.now = rw c.k.given.1 at c.load_terms.ensures.1 in
+    let got_here : Terms c.in-Terms.k ≡ loading (stored_of c.args.edition) c.args.m c.args.s.now = sym c.in-Terms.is ∙ c.load_terms.ensures.0 in
+    let holds_here : take c.in-Terms.k c.load_terms.new.cells ≡ (stored_of c.args.edition).cells c.args.s.now = rw c.in-Terms.is at c.load_terms.ensures.1 in
     let f = fitting-cells c.in-Terms.k ((stored_of c.args.edition).cells c.args.s.now) c.args.out.now c.load_terms.new.cells c.copy.new.out c.if-out-k.false (holds_here) c.copy.ensures in
     (f.0 ∙ expanding-terms (stored_of c.args.edition) c.args.m c.args.s.now c.in-Terms.k (length c.args.out.now) (got_here), f.1)
