@@ -1,0 +1,7 @@
+-- `answering::answer` meets its contract.
+use Rattle.store.proofs.FindingLaws.{unindexed-answers}
+use borrow.Author.Rules.{rules}
+use Rattle.answering.proofs.answer.Goals as goal
+
+pub returns : goal.returns
+returns c = unindexed-answers _ _ _ _ _ c.answer_indexed.ensures

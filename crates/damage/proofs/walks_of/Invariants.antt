@@ -1,0 +1,8 @@
+use Rattle.std.proofs.Common.{◌-◌, ◌≤◌, arith, rules}
+use Rattle.damage.proofs.walks_of.Given as goal
+
+abbrev pub invariant-loop-root : goal.invariant-loop-root
+invariant-loop-root l = l.root ≤ l.nodes
+
+abbrev pub decreases-loop-root : goal.decreases-loop-root
+decreases-loop-root l = l.nodes - l.root

@@ -1,0 +1,14 @@
+use native.Mathlib.Omega.{arith}
+use Prim.Native.Nat.{◌-◌, ◌≤◌}
+use mathlib.Core.Path.{◌≡◌}
+use lib.ListN.{length}
+use Prim.Native.Nat.{ℕ}
+use Rattle.drafts.proofs.WipeCases.{Zeros, zeros-none, zeros-more, blank-all}
+use borrow.Author.Rules.{rules}
+use Rattle.drafts.proofs.wiping.is_blank.Given as goal
+
+abbrev pub invariant-loop-i : goal.invariant-loop-i
+invariant-loop-i l = (l.initial.i ≤ l.i) × Zeros l.space l.initial.i l.i × (l.end ≤ length l.space)
+
+abbrev pub decreases-loop-i : goal.decreases-loop-i
+decreases-loop-i l = l.end - l.i

@@ -1,0 +1,20 @@
+-- `growing::grow` meets its contract: the capacities are indices, and each refusal has its law.
+use Rattle.basis.proofs.Tests.{told}
+use Rattle.growing.proofs.GrowingCases.{grow-header, fresh_at, few-at, done_at}
+use borrow.Author.Rules.{rules}
+use Rattle.growing.proofs.grow.Goals as goal
+
+pub returns-in-Refused : goal.returns-in-Refused
+returns-in-Refused c = grow-header _ _ _ _ _ (told c.in-Refused.is c.read_header-t.ensures)
+
+pub rearrange-requires : goal.rearrange-requires
+rearrange-requires c = ((told c.in-Sound.is c.read_header-t.ensures), (told c.fits.ensures c.if-fits.true), (told c.is_enough.ensures c.if-is_enough.true))
+
+pub returns-then-is_enough : goal.returns-then-is_enough
+returns-then-is_enough c = done_at _ _ _ _ _ _ _ c.wide-n.ensures.0 c.wide-f.ensures.0 c.wide-a.ensures.0 _ (told c.in-Sound.is c.read_header-t.ensures) _ ((told c.in-Sound.is c.read_header-t.ensures), (told c.fits.ensures c.if-fits.true), (told c.is_enough.ensures c.if-is_enough.true)) c.rearrange.ensures
+
+pub returns-then-fits : goal.returns-then-fits
+returns-then-fits c = few-at _ _ _ _ _ _ _ c.wide-n.ensures.0 c.wide-f.ensures.0 c.wide-a.ensures.0 _ (told c.in-Sound.is c.read_header-t.ensures) (told c.fits.ensures c.if-fits.true) (told c.is_enough.ensures c.if-is_enough.false)
+
+pub returns-in-Sound : goal.returns-in-Sound
+returns-in-Sound c = fresh_at _ _ _ _ _ _ _ c.wide-n.ensures.0 c.wide-f.ensures.0 c.wide-a.ensures.0 _ (told c.in-Sound.is c.read_header-t.ensures) (told c.fits.ensures c.if-fits.false)

@@ -1,0 +1,14 @@
+-- `growing::moving::move_run` meets its contract.
+use native.Mathlib.Omega.{arith}
+use Rattle.growing.proofs.MovingLaws.{run_length, moved-run}
+use borrow.Author.Rules.{rules}
+use Rattle.growing.proofs.moving.move_run.Goals as goal
+
+pub store_run-requires : goal.store_run-requires
+store_run-requires c =
+    (run_length _ 256 _ _ c.requires.0 c.load_run.ensures, search rules)
+
+pub returns : goal.returns
+returns c =
+    let b = c.before.before.before.before.before in
+    moved-run _ _ 256 _ _ _ b.before.before.before.before.requires.0 b.load-run.ensures c.store_run.ensures

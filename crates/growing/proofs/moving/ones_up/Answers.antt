@@ -1,0 +1,46 @@
+-- `growing::moving::ones_up` meets its contract.
+use Prim.Native.Nat.{◌≤◌, ◌+◌, ◌-◌}
+use mathlib.Core.Path.{◌≡◌, refl}
+use native.Mathlib.Omega.{arith}
+use lib.ListN.{length, length-set}
+use Rattle.growing.specs.Moving.{moved}
+use Rattle.growing.proofs.MovingLaws.{moved-one, up_none, up_more, up-full}
+use Rattle.growing.proofs.moving.ones_up.Goals as goal
+
+pub loop-i-init : goal.loop-i-init
+loop-i-init c = (omega arith, refl, up_none _ _ _ _ (omega arith) (omega arith))
+
+pub overflow_sub-i : goal.overflow_sub-i
+overflow_sub-i c = omega arith
+
+pub overflow_add-space : goal.overflow_add-space
+overflow_add-space c = omega arith
+
+pub offset_bounds-space-from : goal.offset_bounds-space-from
+offset_bounds-space-from c = omega arith
+
+pub bounds-space-from : goal.bounds-space-from
+bounds-space-from c = omega arith
+
+pub overflow_add-space-in-loop-i : goal.overflow_add-space-in-loop-i
+overflow_add-space-in-loop-i c = omega arith
+
+pub offset_bounds-space-to : goal.offset_bounds-space-to
+offset_bounds-space-to c = omega arith
+
+pub bounds-space-to : goal.bounds-space-to
+bounds-space-to c = omega arith
+
+pub loop-i-smaller : goal.loop-i-smaller
+loop-i-smaller c = omega arith
+
+pub loop-i-preserved : goal.loop-i-preserved
+loop-i-preserved c =
+    let b = c.before.before in
+    (omega arith, simp length-set b.loop.invariant.1, up_more _ _ _ _ b.loop.i 1 _ b.loop.space _ (omega arith) (omega arith) (omega arith) (omega arith) b.loop.invariant.2 (moved-one _ _ _ (omega arith) (omega arith)))
+
+pub shape_of-space : goal.shape_of-space
+shape_of-space c = c.loop-i.invariant.1
+
+pub returns : goal.returns
+returns c = up-full _ _ c.loop-i.i _ _ _ c.loop-i.invariant.2 (omega arith)

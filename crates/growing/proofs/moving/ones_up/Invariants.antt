@@ -1,0 +1,13 @@
+use Prim.Native.Nat.{◌≤◌, ◌+◌, ◌-◌}
+use mathlib.Core.Path.{◌≡◌, refl}
+use native.Mathlib.Omega.{arith}
+use lib.ListN.{length, length-set}
+use Rattle.growing.specs.Moving.{moved}
+use Rattle.growing.proofs.MovingLaws.{moved-one, up_none, up_more, up-full}
+use Rattle.growing.proofs.moving.ones_up.Given as goal
+
+abbrev pub invariant-loop-i : goal.invariant-loop-i
+invariant-loop-i l = (l.i ≤ l.count) × (length l.space ≡ length l.initial.space) × (l.space ≡ moved (l.from + l.i) (l.to + l.i) (l.count - l.i) l.initial.space)
+
+abbrev pub decreases-loop-i : goal.decreases-loop-i
+decreases-loop-i l = l.i

@@ -1,0 +1,32 @@
+-- `indexing::entering::count_entering` meets its contract.
+use Rattle.indexing.proofs.EnterCases.{counted-begin, counted-one, counted_none, counted-ended, entering-most}
+use Rattle.indexing.specs.Parts.{tries_in}
+use Rattle.basis.proofs.Tests.{told}
+use Rattle.trie.specs.Index.{entering}
+use Prim.Native.Nat.{◌≤◌, ◌-◌}
+use mathlib.Core.Path.{◌≡◌, ◌∙◌}
+use mathlib.Core.Logic.{⊎_elim}
+use lib.ListN.{length}
+use native.Mathlib.Omega.{arith}
+use Rattle.indexing.proofs.entering.count_entering.Goals as goal
+
+pub loop-n-init : goal.loop-n-init
+loop-n-init c = (omega arith, counted-begin _)
+
+pub enters-requires : goal.enters-requires
+enters-requires c = (c.requires, omega arith)
+
+pub overflow_add-count : goal.overflow_add-count
+overflow_add-count c = let b = c.requires.0 in omega (arith, c.loop-n.invariant.1, entering-most (tries_in c.args.space.now c.args.h) c.loop-n.n)
+
+pub overflow_add-n : goal.overflow_add-n
+overflow_add-n c = let b = c.requires.0 in omega arith
+
+pub loop-n-smaller : goal.loop-n-smaller
+loop-n-smaller c = omega arith
+
+pub loop-n-preserved : goal.loop-n-preserved
+loop-n-preserved c = (omega arith, ⊎_elim (λ w. w.1 ∙ counted-one _ _ _ c.loop-n.invariant.1 (told c.enters.ensures w.0.taken)) (λ w. w.1 ∙ counted_none _ _ _ c.loop-n.invariant.1 (told c.enters.ensures w.0.left)) c.if-enters.branch)
+
+pub returns : goal.returns
+returns c = counted-ended _ _ _ c.loop-n.invariant.1 _ c.loop-n.invariant.0 (omega arith)

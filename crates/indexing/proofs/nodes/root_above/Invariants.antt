@@ -1,0 +1,11 @@
+use Rattle.indexing.proofs.NodeCases.{Climbing, climb-begin, climb-ended, climb-falls, climb-on}
+use Rattle.space.specs.Layout.{sizes, node_in}
+use borrow.Author.Rules.{rules}
+use native.Mathlib.Omega.{arith}
+use Rattle.indexing.proofs.nodes.root_above.Given as goal
+
+abbrev pub invariant-loop-root : goal.invariant-loop-root
+invariant-loop-root l = Climbing (node_in sizes l.space) l.nodes l.n l.root
+
+abbrev pub decreases-loop-root : goal.decreases-loop-root
+decreases-loop-root l = l.root

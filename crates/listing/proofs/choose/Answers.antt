@@ -1,0 +1,42 @@
+-- `choose` meets its contract: the cells that are left give the first that all of them give.
+use native.Mathlib.Omega.{arith}
+use Rattle.basis.proofs.Tests.{told}
+use Prim.Native.Nat.{◌+◌, ◌-◌, ◌<◌}
+use mathlib.Core.Path.{◌≡◌, refl, ◌∙◌, sym}
+use lib.ListN.{length, drop}
+use Rattle.listing.specs.Listing.{alphabet}
+use Rattle.listing.specs.Steps.{can_go_on, first_of}
+use Rattle.listing.proofs.Calls.{given}
+use Rattle.listing.proofs.Turns.{choice-here, choice-later, choice-none}
+use borrow.Author.Rules.{rules}
+use Rattle.listing.proofs.choose.Goals as goal
+
+pub overflow_sub-left : goal.overflow_sub-left
+overflow_sub-left c = omega arith
+
+pub overflow_sub-left-2 : goal.overflow_sub-left-2
+overflow_sub-left-2 c = omega arith
+
+pub loop-j-init : goal.loop-j-init
+loop-j-init c = (refl, omega (arith, given _ _ _ c.requires.0.given))
+
+pub overflow_add-symbols : goal.overflow_add-symbols
+overflow_add-symbols c = omega (arith, given _ _ _ c.requires.0.given)
+
+pub letter-c-requires : goal.letter-c-requires
+letter-c-requires c = omega (arith, given _ _ _ c.requires.0.given)
+
+pub goes_on-requires : goal.goes_on-requires
+goes_on-requires c = let g = given _ _ _ c.requires.0.given in (omega arith, omega arith, omega arith)
+
+pub returns-then-goes_on : goal.returns-then-goes_on
+returns-then-goes_on c = choice-here _ c.args.s c.args.symbols.now c.args.sums.now c.args.place _ c.loop-j.invariant.1 c.requires.0.table c.loop-j.j _ (search rules) c.letter-c.ensures (search told) ∙ sym c.loop-j.invariant.0
+
+pub overflow_add-j : goal.overflow_add-j
+overflow_add-j c = omega (arith, given _ _ _ c.requires.0.given)
+
+pub loop-j-preserved : goal.loop-j-preserved
+loop-j-preserved c = (c.loop-j.invariant.0 ∙ choice-later _ c.args.s c.args.symbols.now c.args.sums.now c.args.place _ c.loop-j.invariant.1 c.requires.0.table c.loop-j.j _ (search rules) c.letter-c.ensures (search told), c.loop-j.invariant.1)
+
+pub returns : goal.returns
+returns c = choice-none _ c.args.s c.args.symbols.now _ _ c.loop-j.j (search rules) ∙ sym c.loop-j.invariant.0

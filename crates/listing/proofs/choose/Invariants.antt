@@ -1,0 +1,17 @@
+use native.Mathlib.Omega.{arith}
+use Rattle.basis.proofs.Tests.{told}
+use Prim.Native.Nat.{◌+◌, ◌-◌, ◌<◌}
+use mathlib.Core.Path.{◌≡◌, refl, ◌∙◌, sym}
+use lib.ListN.{length, drop}
+use Rattle.listing.specs.Listing.{alphabet}
+use Rattle.listing.specs.Steps.{can_go_on, first_of}
+use Rattle.listing.proofs.Calls.{given}
+use Rattle.listing.proofs.Turns.{choice-here, choice-later, choice-none}
+use borrow.Author.Rules.{rules}
+use Rattle.listing.proofs.choose.Given as goal
+
+abbrev pub invariant-loop-j : goal.invariant-loop-j
+invariant-loop-j l = (first_of (can_go_on l.edition l.symbols l.place l.left) (drop l.from (alphabet l.s l.symbols)) ≡ first_of (can_go_on l.edition l.symbols l.place l.left) (drop l.j (alphabet l.s l.symbols))) × (l.left < 8)
+
+abbrev pub decreases-loop-j : goal.decreases-loop-j
+decreases-loop-j l = length l.symbols + l.s - l.j

@@ -1,0 +1,18 @@
+use native.Mathlib.Omega.{arith}
+use Prim.Native.Nat.{◌-◌, ◌≤◌}
+use mathlib.Core.Path.{◌≡◌, refl, ◌∙◌, sym}
+use lib.ListN.{length, take, length-set}
+use lib.Seq.{take-set-le}
+use Rattle.listing.specs.Listing.{alphabet}
+use Rattle.listing.specs.Steps.{prefixed, first_way}
+use Rattle.listing.specs.Clauses.{listed_result}
+use Rattle.listing.proofs.Calls.{given}
+use Rattle.listing.proofs.Filling.{chosen-due, passed-at, fill_step, fill_none, fill_done}
+use borrow.Author.Rules.{rules}
+use Rattle.listing.proofs.fill.Given as goal
+
+abbrev pub invariant-loop-place : goal.invariant-loop-place
+invariant-loop-place l = (l.initial.place.at ≤ l.place.at) × (l.place.at ≤ l.s) × (l.place.due ≤ 8) × (length l.term ≡ 8) × (prefixed (take l.place.at l.term) (first_way l.edition l.symbols (alphabet l.s l.symbols) l.place (l.s - l.place.at)) ≡ prefixed (take l.initial.place.at l.initial.term) (first_way l.edition l.symbols (alphabet l.s l.symbols) l.initial.place (l.s - l.initial.place.at))) × (take l.initial.place.at l.term ≡ take l.initial.place.at l.initial.term)
+
+abbrev pub decreases-loop-place : goal.decreases-loop-place
+decreases-loop-place l = l.s - l.place.at

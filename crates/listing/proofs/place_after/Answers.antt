@@ -1,0 +1,9 @@
+-- `place_after` meets its contract.
+use native.Mathlib.Numerals.{add-one}
+use Rattle.listing.specs.Steps.{passed}
+use borrow.Author.Rules.{rules}
+use Rattle.listing.proofs.place_after.Goals as goal
+
+pub returns : goal.returns
+unfolding passed
+returns c = rw (add-one, c.known_after-known.ensures, c.due_after-due.ensures, c.arguments_of.ensures.0)

@@ -1,0 +1,22 @@
+-- `sums_of` meets its contract: what is written so far is the table so far.
+use native.Mathlib.Omega.{arith}
+use Prim.Native.Nat.{◌-◌, ◌≤◌}
+use mathlib.Core.Path.{◌≡◌, refl, ◌∙◌, sym, ap}
+use lib.ListN.{length, take, length-set}
+use lib.Seq.{take_all}
+use Rattle.listing.specs.Steps.{sums_below}
+use Rattle.listing.proofs.Letters.{sums_first, sums_next}
+use borrow.Author.Rules.{rules}
+use Rattle.listing.proofs.sums_of.Goals as goal
+
+pub loop-t-init : goal.loop-t-init
+loop-t-init c = (omega arith, omega arith, refl, sums_first _ _)
+
+pub loop-t-preserved : goal.loop-t-preserved
+loop-t-preserved c = (search rules, search rules, simp length-set c.loop-t.invariant.2, sums_next _ _ c.loop-t.sums c.loop-t.t (search rules) (search rules) c.loop-t.invariant.3 _ c.is_reached.ensures)
+
+pub returns : goal.returns
+returns c =
+    let e : c.loop-t.t ≡ 8 = omega arith in
+    sym (take_all c.loop-t.t c.loop-t.sums (omega arith)) ∙ c.loop-t.invariant.3
+    ∙ ap (sums_below _ _) e

@@ -1,0 +1,15 @@
+use native.Mathlib.Omega.{arith}
+use Prim.Native.Nat.{◌-◌, ◌≤◌}
+use mathlib.Core.Path.{◌≡◌, refl, ◌∙◌, sym, ap}
+use lib.ListN.{length, take, length-set}
+use lib.Seq.{take_all}
+use Rattle.listing.specs.Steps.{sums_below}
+use Rattle.listing.proofs.Letters.{sums_first, sums_next}
+use borrow.Author.Rules.{rules}
+use Rattle.listing.proofs.sums_of.Given as goal
+
+abbrev pub invariant-loop-t : goal.invariant-loop-t
+invariant-loop-t l = (1 ≤ l.t) × (l.t ≤ 8) × (length l.sums ≡ 8) × (take l.t l.sums ≡ sums_below l.edition l.symbols l.t)
+
+abbrev pub decreases-loop-t : goal.decreases-loop-t
+decreases-loop-t l = 8 - l.t

@@ -1,0 +1,31 @@
+-- `print_cells` meets its contract: the cells behind their word, or a refusal.
+use mathlib.Core.Path.{ap}
+use native.Mathlib.Omega.{arith}
+use lib.ListN.{take}
+use borrow.Author.Rules.{rules}
+use Rattle.store.specs.Replies.{said_cells}
+use Rattle.text.specs.Digits.{cell_texts}
+use Rattle.text.proofs.DigitsLaws.{puts-append}
+use Rattle.replies.specs.Texts.{text_cells, reply_text}
+use Rattle.replies.proofs.print_cells.Goals as goal
+
+pub put_cells-requires : goal.put_cells-requires
+put_cells-requires c =
+    let a = c.answer-1.given in
+    let n = c.requires.by_index a.0.0 (ap said_cells a.1) in
+    (n, omega arith)
+
+pub returns-in-Cells : goal.returns-in-Cells
+unfolding reply_text
+returns-in-Cells c =
+    let a = c.answer-1.given in
+    rw a.1
+    (puts-append text_cells (cell_texts (take a.0.0 c.args.out.now)) c.args.text.now _ _ _ _ _ c.put-end.ensures c.put_cells.ensures)
+
+pub returns-in-Refused : goal.returns-in-Refused
+unfolding reply_text
+returns-in-Refused c = rw c.in-Refused.is c.print_refused.ensures
+
+pub returns-in-Short : goal.returns-in-Short
+unfolding reply_text
+returns-in-Short c = rw c.in-Short.is c.print_refused-in-Short.ensures

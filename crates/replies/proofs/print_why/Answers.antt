@@ -1,0 +1,42 @@
+-- `print_why` meets its contract: the variables after the number of an old subgoal, or two numbers.
+use mathlib.Core.List.{◌∷◌}
+use lib.ListN.{take}
+use native.Mathlib.Omega.{arith}
+use borrow.Author.Rules.{rules}
+use Rattle.store.specs.Replies.{NamedIn}
+use Rattle.store.specs.declared.Reason.TheVariants as reason
+use Rattle.text.specs.Digits.{word_and_number, decimal_text, cell_texts}
+use Rattle.text.proofs.DigitsLaws.{decimal-length, puts-append}
+use Rattle.replies.specs.Texts.{text_old, text_new, reason_text, reply_text}
+use Rattle.replies.proofs.print_why.Goals as goal
+
+pub put_cells-requires : goal.put_cells-requires
+put_cells-requires c =
+    let held_here : NamedIn c.args.t1.variables (reason.Old c.in-Old.n c.in-Old.m) = rw c.in-Old.is at c.requires.0.1 in
+    let k = held_here in
+    (k.0, omega (arith, decimal-length c.in-Old.n, k.1))
+
+pub returns-in-Old : goal.returns-in-Old
+unfolding reply_text reason_text
+returns-in-Old c = λ out.
+    let a = c.reason-1.given in
+    let g = c.args in
+    rw a.1
+    (puts-append (word_and_number text_old a.0.0) (cell_texts (take a.0.1.0 g.t1.variables)) g.text.now _ _ _ _ _
+    c.put_numbered-end.ensures c.put_cells.ensures)
+
+pub put_field-requires : goal.put_field-requires
+put_field-requires c = omega (arith, decimal-length c.in-New.k)
+
+pub returns-in-New : goal.returns-in-New
+unfolding reply_text reason_text
+returns-in-New c = λ out.
+    let a = c.reason-in-New-1.given in
+    let g = c.args in
+    rw a.1
+    (puts-append (word_and_number text_new a.0.0) (32 ∷ decimal_text a.0.1.0) g.text.now _ _ _ _ _
+    c.put_numbered-end-in-New.ensures c.put_field.ensures)
+
+pub returns-in-Refused : goal.returns-in-Refused
+unfolding reply_text
+returns-in-Refused c = λ out. rw c.in-Refused.is c.print_refused.ensures
