@@ -21,7 +21,7 @@ pub width_of-sum-requires : goal.width_of-sum-requires
 width_of-sum-requires c = c.requires.2 c.loop-i.i (omega arith)
 
 pub overflow_add-sum : goal.overflow_add-sum
-overflow_add-sum c = omega (arith, c.width_of_lem.ensures, width-limit c.args.starts.now (get_or c.args.cells.now c.loop-i.i 0) (c.requires.2 c.loop-i.i (omega arith)))
+overflow_add-sum c = omega (arith, c.width_of-sum.ensures, width-limit c.args.starts.now (get_or c.args.cells.now c.loop-i.i 0) (c.requires.2 c.loop-i.i (omega arith)))
 
 pub overflow_add-i : goal.overflow_add-i
 overflow_add-i c = omega arith
@@ -33,7 +33,7 @@ pub loop-i-preserved : goal.loop-i-preserved
 loop-i-preserved c =
     let l = width-limit c.args.starts.now (get_or c.args.cells.now c.loop-i.i 0) (c.requires.2 c.loop-i.i (omega arith)) in
     let s = need-step c.args.starts.now c.args.cells.now c.args.n c.loop-i.i (omega arith) (omega arith) in
-    (omega arith, omega (arith, c.width_of_lem.ensures, l), omega (arith, c.width_of_lem.ensures, s, c.loop-i.invariant.2))
+    (omega arith, omega (arith, c.width_of-sum.ensures, l), omega (arith, c.width_of-sum.ensures, s, c.loop-i.invariant.2))
 
 pub returns : goal.returns
 returns c = omega (arith, c.loop-i.invariant.2, need-end c.args.starts.now c.args.cells.now c.args.n c.loop-i.i (omega arith) (omega arith))

@@ -12,25 +12,6 @@ use Rattle.instances.proofs.InstanceLaws.{no_start, start-noted, terms-few, Scan
 use Rattle.instances.proofs.InstanceTerms.{cells-grow}
 use Rattle.instances.proofs.note_starts.Goals as goal
 
--- a turn of the loop
-abbrev Turn : Type 0
-Turn = lts.In-loop (arguments-of-reads.Asked, arguments-of-reads.Learnt, due-after-reads.Asked, due-after-reads.Learnt) reads.Pre reads.Post invariant-loop decreases-loop
-
--- the scan stands within the cells, something is due, and all is small
-turn : (c : Turn) → (c.before.loop.at < length c.before.before.before.before.args.s.now) × (c.before.loop.at < 256) × (0 < c.before.loop.due)
-    × (c.before.loop.due ≤ 256 + 254 * 256) × (c.before.before.before.before.args.m ≤ 256)
-turn c =
-    let a = c.before.before.before.before.args in
-    let p = c.before.before.before.before.requires in
-    let l = c.before.loop in
-    let arity : ℕ → ℕ = arity_of a.edition in
-    let few : a.m ≤ cells_of a.m (terms_at arity a.s.now 0) = terms-few arity a.s.now a.m p.0 in
-    let inside : l.at < length a.s.now = scan-inside arity a.s.now a.m p.0 l.at l.due l.i l.invariant.1 (omega arith) in
-    let w : l.at < cells_of (l.i + 1) (terms_at arity a.s.now 0) = l.invariant.1.within (omega arith) in
-    let end : l.at < 256 = omega (arith, w, cells-grow (terms_at arity a.s.now 0) (l.i + 1) a.m (omega arith), p.2, p.3) in
-    let most : l.due ≤ a.m + 254 * l.at = scan-small arity a.s.now a.m p.0 l.at l.due l.i l.invariant.1 (omega arith) (arity-small a.edition) in
-    (inside, end, scan-due arity a.s.now a.m p.0 l.at l.due l.i l.invariant.1 (omega arith), omega (arith, few, p.2, p.3), omega (arith, few, p.2, p.3))
-
 pub bounds-starts-0 : goal.bounds-starts-0
 bounds-starts-0 c = omega arith
 
@@ -45,22 +26,94 @@ pub overflow_add-i : goal.overflow_add-i
 overflow_add-i c = omega arith
 
 pub offset_bounds-s-at : goal.offset_bounds-s-at
-offset_bounds-s-at c = omega (arith, turn c)
+offset_bounds-s-at c =
+    let turn_here : (c.loop-i.at < length c.args.s.now) × (c.loop-i.at < 256) × (0 < c.loop-i.due)
+    × (c.loop-i.due ≤ 256 + 254 * 256) × (c.args.m ≤ 256) = let a = c.args in
+    let p = c.requires in
+    let l = c.loop-i in
+    let arity : ℕ → ℕ = arity_of a.edition in
+    let few : a.m ≤ cells_of a.m (terms_at arity a.s.now 0) = terms-few arity a.s.now a.m p.0 in
+    let inside : l.at < length a.s.now = scan-inside arity a.s.now a.m p.0 l.at l.due l.i l.invariant.1 (omega arith) in
+    let w : l.at < cells_of (l.i + 1) (terms_at arity a.s.now 0) = l.invariant.1.within (omega arith) in
+    let end : l.at < 256 = omega (arith, w, cells-grow (terms_at arity a.s.now 0) (l.i + 1) a.m (omega arith), p.2, p.3) in
+    let most : l.due ≤ a.m + 254 * l.at = scan-small arity a.s.now a.m p.0 l.at l.due l.i l.invariant.1 (omega arith) (arity-small a.edition) in
+    (inside, end, scan-due arity a.s.now a.m p.0 l.at l.due l.i l.invariant.1 (omega arith), omega (arith, few, p.2, p.3), omega (arith, few, p.2, p.3)) in
+    omega (arith, turn_here)
 
 pub bounds-s-at : goal.bounds-s-at
-bounds-s-at c = omega (arith, turn c.before)
+bounds-s-at c =
+    let turn_here : (c.loop-i.at < length c.args.s.now) × (c.loop-i.at < 256) × (0 < c.loop-i.due)
+    × (c.loop-i.due ≤ 256 + 254 * 256) × (c.args.m ≤ 256) = let a = c.args in
+    let p = c.requires in
+    let l = c.loop-i in
+    let arity : ℕ → ℕ = arity_of a.edition in
+    let few : a.m ≤ cells_of a.m (terms_at arity a.s.now 0) = terms-few arity a.s.now a.m p.0 in
+    let inside : l.at < length a.s.now = scan-inside arity a.s.now a.m p.0 l.at l.due l.i l.invariant.1 (omega arith) in
+    let w : l.at < cells_of (l.i + 1) (terms_at arity a.s.now 0) = l.invariant.1.within (omega arith) in
+    let end : l.at < 256 = omega (arith, w, cells-grow (terms_at arity a.s.now 0) (l.i + 1) a.m (omega arith), p.2, p.3) in
+    let most : l.due ≤ a.m + 254 * l.at = scan-small arity a.s.now a.m p.0 l.at l.due l.i l.invariant.1 (omega arith) (arity-small a.edition) in
+    (inside, end, scan-due arity a.s.now a.m p.0 l.at l.due l.i l.invariant.1 (omega arith), omega (arith, few, p.2, p.3), omega (arith, few, p.2, p.3)) in
+    omega (arith, turn_here)
 
 pub due_after-due-requires : goal.due_after-due-requires
-due_after-due-requires c = omega (arith, turn c.before.before, c.arguments_of.ensures)
+due_after-due-requires c =
+    let turn_here : (c.loop-i.at < length c.args.s.now) × (c.loop-i.at < 256) × (0 < c.loop-i.due)
+    × (c.loop-i.due ≤ 256 + 254 * 256) × (c.args.m ≤ 256) = let a = c.args in
+    let p = c.requires in
+    let l = c.loop-i in
+    let arity : ℕ → ℕ = arity_of a.edition in
+    let few : a.m ≤ cells_of a.m (terms_at arity a.s.now 0) = terms-few arity a.s.now a.m p.0 in
+    let inside : l.at < length a.s.now = scan-inside arity a.s.now a.m p.0 l.at l.due l.i l.invariant.1 (omega arith) in
+    let w : l.at < cells_of (l.i + 1) (terms_at arity a.s.now 0) = l.invariant.1.within (omega arith) in
+    let end : l.at < 256 = omega (arith, w, cells-grow (terms_at arity a.s.now 0) (l.i + 1) a.m (omega arith), p.2, p.3) in
+    let most : l.due ≤ a.m + 254 * l.at = scan-small arity a.s.now a.m p.0 l.at l.due l.i l.invariant.1 (omega arith) (arity-small a.edition) in
+    (inside, end, scan-due arity a.s.now a.m p.0 l.at l.due l.i l.invariant.1 (omega arith), omega (arith, few, p.2, p.3), omega (arith, few, p.2, p.3)) in
+    omega (arith, turn_here, c.arguments_of.ensures)
 
 pub overflow_add-at : goal.overflow_add-at
-overflow_add-at c = omega (arith, turn c.before.before.before)
+overflow_add-at c =
+    let turn_here : (c.loop-i.at < length c.args.s.now) × (c.loop-i.at < 256) × (0 < c.loop-i.due)
+    × (c.loop-i.due ≤ 256 + 254 * 256) × (c.args.m ≤ 256) = let a = c.args in
+    let p = c.requires in
+    let l = c.loop-i in
+    let arity : ℕ → ℕ = arity_of a.edition in
+    let few : a.m ≤ cells_of a.m (terms_at arity a.s.now 0) = terms-few arity a.s.now a.m p.0 in
+    let inside : l.at < length a.s.now = scan-inside arity a.s.now a.m p.0 l.at l.due l.i l.invariant.1 (omega arith) in
+    let w : l.at < cells_of (l.i + 1) (terms_at arity a.s.now 0) = l.invariant.1.within (omega arith) in
+    let end : l.at < 256 = omega (arith, w, cells-grow (terms_at arity a.s.now 0) (l.i + 1) a.m (omega arith), p.2, p.3) in
+    let most : l.due ≤ a.m + 254 * l.at = scan-small arity a.s.now a.m p.0 l.at l.due l.i l.invariant.1 (omega arith) (arity-small a.edition) in
+    (inside, end, scan-due arity a.s.now a.m p.0 l.at l.due l.i l.invariant.1 (omega arith), omega (arith, few, p.2, p.3), omega (arith, few, p.2, p.3)) in
+    omega (arith, turn_here)
 
 pub overflow_add-due : goal.overflow_add-due
-overflow_add-due c = omega (arith, turn c.before.before.before, c.due_after-due.ensures, due-after-requires c.before c.due_after-due.lifetimes)
+overflow_add-due c =
+    let turn_here : (c.loop-i.at < length c.args.s.now) × (c.loop-i.at < 256) × (0 < c.loop-i.due)
+    × (c.loop-i.due ≤ 256 + 254 * 256) × (c.args.m ≤ 256) = let a = c.args in
+    let p = c.requires in
+    let l = c.loop-i in
+    let arity : ℕ → ℕ = arity_of a.edition in
+    let few : a.m ≤ cells_of a.m (terms_at arity a.s.now 0) = terms-few arity a.s.now a.m p.0 in
+    let inside : l.at < length a.s.now = scan-inside arity a.s.now a.m p.0 l.at l.due l.i l.invariant.1 (omega arith) in
+    let w : l.at < cells_of (l.i + 1) (terms_at arity a.s.now 0) = l.invariant.1.within (omega arith) in
+    let end : l.at < 256 = omega (arith, w, cells-grow (terms_at arity a.s.now 0) (l.i + 1) a.m (omega arith), p.2, p.3) in
+    let most : l.due ≤ a.m + 254 * l.at = scan-small arity a.s.now a.m p.0 l.at l.due l.i l.invariant.1 (omega arith) (arity-small a.edition) in
+    (inside, end, scan-due arity a.s.now a.m p.0 l.at l.due l.i l.invariant.1 (omega arith), omega (arith, few, p.2, p.3), omega (arith, few, p.2, p.3)) in
+    omega (arith, turn_here, c.due_after-due.ensures, due-after-requires c.before c.due_after-due.lifetimes)
 
 pub loop-i-smaller-then-m-due : goal.loop-i-smaller-then-m-due
-loop-i-smaller-then-m-due c = omega (arith, turn c.before.before.before.before)
+loop-i-smaller-then-m-due c =
+    let turn_here : (c.loop-i.at < length c.args.s.now) × (c.loop-i.at < 256) × (0 < c.loop-i.due)
+    × (c.loop-i.due ≤ 256 + 254 * 256) × (c.args.m ≤ 256) = let a = c.args in
+    let p = c.requires in
+    let l = c.loop-i in
+    let arity : ℕ → ℕ = arity_of a.edition in
+    let few : a.m ≤ cells_of a.m (terms_at arity a.s.now 0) = terms-few arity a.s.now a.m p.0 in
+    let inside : l.at < length a.s.now = scan-inside arity a.s.now a.m p.0 l.at l.due l.i l.invariant.1 (omega arith) in
+    let w : l.at < cells_of (l.i + 1) (terms_at arity a.s.now 0) = l.invariant.1.within (omega arith) in
+    let end : l.at < 256 = omega (arith, w, cells-grow (terms_at arity a.s.now 0) (l.i + 1) a.m (omega arith), p.2, p.3) in
+    let most : l.due ≤ a.m + 254 * l.at = scan-small arity a.s.now a.m p.0 l.at l.due l.i l.invariant.1 (omega arith) (arity-small a.edition) in
+    (inside, end, scan-due arity a.s.now a.m p.0 l.at l.due l.i l.invariant.1 (omega arith), omega (arith, few, p.2, p.3), omega (arith, few, p.2, p.3)) in
+    omega (arith, turn_here)
 
 pub loop-i-preserved-then-m-due : goal.loop-i-preserved-then-m-due
 loop-i-preserved-then-m-due c =
@@ -74,7 +127,19 @@ pub overflow_add-i-in-loop-i : goal.overflow_add-i-in-loop-i
 overflow_add-i-in-loop-i c = omega arith
 
 pub overflow_cast-starts : goal.overflow_cast-starts
-overflow_cast-starts c = omega (arith, turn c.before.before.before.before)
+overflow_cast-starts c =
+    let turn_here : (c.loop-i.at < length c.args.s.now) × (c.loop-i.at < 256) × (0 < c.loop-i.due)
+    × (c.loop-i.due ≤ 256 + 254 * 256) × (c.args.m ≤ 256) = let a = c.args in
+    let p = c.requires in
+    let l = c.loop-i in
+    let arity : ℕ → ℕ = arity_of a.edition in
+    let few : a.m ≤ cells_of a.m (terms_at arity a.s.now 0) = terms-few arity a.s.now a.m p.0 in
+    let inside : l.at < length a.s.now = scan-inside arity a.s.now a.m p.0 l.at l.due l.i l.invariant.1 (omega arith) in
+    let w : l.at < cells_of (l.i + 1) (terms_at arity a.s.now 0) = l.invariant.1.within (omega arith) in
+    let end : l.at < 256 = omega (arith, w, cells-grow (terms_at arity a.s.now 0) (l.i + 1) a.m (omega arith), p.2, p.3) in
+    let most : l.due ≤ a.m + 254 * l.at = scan-small arity a.s.now a.m p.0 l.at l.due l.i l.invariant.1 (omega arith) (arity-small a.edition) in
+    (inside, end, scan-due arity a.s.now a.m p.0 l.at l.due l.i l.invariant.1 (omega arith), omega (arith, few, p.2, p.3), omega (arith, few, p.2, p.3)) in
+    omega (arith, turn_here)
 
 pub offset_bounds-starts-i : goal.offset_bounds-starts-i
 offset_bounds-starts-i c = omega arith
@@ -83,7 +148,19 @@ pub bounds-starts-i : goal.bounds-starts-i
 bounds-starts-i c = omega arith
 
 pub loop-i-smaller : goal.loop-i-smaller
-loop-i-smaller c = omega (arith, turn c.before.before.before.before)
+loop-i-smaller c =
+    let turn_here : (c.loop-i.at < length c.args.s.now) × (c.loop-i.at < 256) × (0 < c.loop-i.due)
+    × (c.loop-i.due ≤ 256 + 254 * 256) × (c.args.m ≤ 256) = let a = c.args in
+    let p = c.requires in
+    let l = c.loop-i in
+    let arity : ℕ → ℕ = arity_of a.edition in
+    let few : a.m ≤ cells_of a.m (terms_at arity a.s.now 0) = terms-few arity a.s.now a.m p.0 in
+    let inside : l.at < length a.s.now = scan-inside arity a.s.now a.m p.0 l.at l.due l.i l.invariant.1 (omega arith) in
+    let w : l.at < cells_of (l.i + 1) (terms_at arity a.s.now 0) = l.invariant.1.within (omega arith) in
+    let end : l.at < 256 = omega (arith, w, cells-grow (terms_at arity a.s.now 0) (l.i + 1) a.m (omega arith), p.2, p.3) in
+    let most : l.due ≤ a.m + 254 * l.at = scan-small arity a.s.now a.m p.0 l.at l.due l.i l.invariant.1 (omega arith) (arity-small a.edition) in
+    (inside, end, scan-due arity a.s.now a.m p.0 l.at l.due l.i l.invariant.1 (omega arith), omega (arith, few, p.2, p.3), omega (arith, few, p.2, p.3)) in
+    omega (arith, turn_here)
 
 pub loop-i-preserved : goal.loop-i-preserved
 loop-i-preserved c =

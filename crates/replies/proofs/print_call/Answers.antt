@@ -18,9 +18,9 @@ put_state-requires c = omega (arith, decimal-length c.in-Old.n)
 pub returns-in-Old : goal.returns-in-Old
 unfolding reply_text
 returns-in-Old c = λ out.
-    let a = c.answer-in-Old-1.given in
-    rw a.1
-    (puts-append (word_and_number text_old a.0.0) (32 ∷ state_text (said_state a.0.1.0)) c.args.text.now _ _ _ _ _ c.put_numbered-end.ensures c.put_state.ensures)
+    
+    rw c.in-Old.is
+    (puts-append (word_and_number text_old c.in-Old.n) (32 ∷ state_text (said_state c.in-Old.state)) c.args.text.now _ _ _ _ _ c.put_numbered-end.ensures c.put_state.ensures)
 
 pub returns-in-Refused : goal.returns-in-Refused
 unfolding reply_text

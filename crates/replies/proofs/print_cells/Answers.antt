@@ -11,16 +11,16 @@ use Rattle.replies.proofs.print_cells.Goals as goal
 
 pub put_cells-requires : goal.put_cells-requires
 put_cells-requires c =
-    let a = c.answer-1.given in
-    let n = c.requires.by_index a.0.0 (ap said_cells a.1) in
+    
+    let n = c.requires.by_index c.in-Cells.n (ap said_cells c.in-Cells.is) in
     (n, omega arith)
 
 pub returns-in-Cells : goal.returns-in-Cells
 unfolding reply_text
 returns-in-Cells c =
-    let a = c.answer-1.given in
-    rw a.1
-    (puts-append text_cells (cell_texts (take a.0.0 c.args.out.now)) c.args.text.now _ _ _ _ _ c.put-end.ensures c.put_cells.ensures)
+    
+    rw c.in-Cells.is
+    (puts-append text_cells (cell_texts (take c.in-Cells.n c.args.out.now)) c.args.text.now _ _ _ _ _ c.put-end.ensures c.put_cells.ensures)
 
 pub returns-in-Refused : goal.returns-in-Refused
 unfolding reply_text

@@ -19,10 +19,10 @@ put_cells-requires c =
 pub returns-in-Old : goal.returns-in-Old
 unfolding reply_text reason_text
 returns-in-Old c = λ out.
-    let a = c.reason-1.given in
+    
     let g = c.args in
-    rw a.1
-    (puts-append (word_and_number text_old a.0.0) (cell_texts (take a.0.1.0 g.t1.variables)) g.text.now _ _ _ _ _
+    rw c.in-Old.is
+    (puts-append (word_and_number text_old c.in-Old.n) (cell_texts (take c.in-Old.m g.t1.variables)) g.text.now _ _ _ _ _
     c.put_numbered-end.ensures c.put_cells.ensures)
 
 pub put_field-requires : goal.put_field-requires
@@ -31,10 +31,10 @@ put_field-requires c = omega (arith, decimal-length c.in-New.k)
 pub returns-in-New : goal.returns-in-New
 unfolding reply_text reason_text
 returns-in-New c = λ out.
-    let a = c.reason-in-New-1.given in
+    
     let g = c.args in
-    rw a.1
-    (puts-append (word_and_number text_new a.0.0) (32 ∷ decimal_text a.0.1.0) g.text.now _ _ _ _ _
+    rw c.in-New.is
+    (puts-append (word_and_number text_new c.in-New.k) (32 ∷ decimal_text c.in-New.s) g.text.now _ _ _ _ _
     c.put_numbered-end-in-New.ensures c.put_field.ensures)
 
 pub returns-in-Refused : goal.returns-in-Refused

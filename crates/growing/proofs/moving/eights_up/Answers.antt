@@ -25,8 +25,8 @@ loop-i-smaller c = omega arith
 
 pub loop-i-preserved : goal.loop-i-preserved
 loop-i-preserved c =
-    let b = c.before.before.before.before.before in
-    (omega arith, search rules, up_more _ _ _ _ b.loop.i 8 _ _ _ (omega arith) (omega arith) (omega arith) (omega arith) b.loop.invariant.2 c.move_eight.ensures)
+    
+    (omega arith, search rules, up_more _ _ _ _ c.loop-i.i 8 _ _ _ (omega arith) (omega arith) (omega arith) (omega arith) c.loop-i.invariant.2 c.move_eight.ensures)
 
 pub shape_of-space : goal.shape_of-space
 shape_of-space c = c.loop-i.invariant.1

@@ -32,7 +32,7 @@ pub loop-i-smaller : goal.loop-i-smaller
 loop-i-smaller c = omega arith
 
 pub loop-i-preserved : goal.loop-i-preserved
-loop-i-preserved c = let b = c.before.before in (omega arith, simp length-set b.loop.invariant.1, loaded-more c.args.from b.loop.i c.args.space.now b.loop.run (omega arith) (omega arith) b.loop.invariant.2)
+loop-i-preserved c = (omega arith, simp length-set c.loop-i.invariant.1, loaded-more c.args.from c.loop-i.i c.args.space.now c.loop-i.run (omega arith) (omega arith) c.loop-i.invariant.2)
 
 pub returns : goal.returns
 returns c = loaded-full c.args.from c.loop-i.i 256 c.args.space.now _ c.loop-i.invariant.1 (omega arith) (omega arith) c.loop-i.invariant.2

@@ -10,5 +10,5 @@ store_run-requires c =
 
 pub returns : goal.returns
 returns c =
-    let b = c.before.before.before.before.before in
-    moved-run _ _ 256 _ _ _ b.before.before.before.before.requires.0 b.load-run.ensures c.store_run.ensures
+    
+    moved-run _ _ 256 _ _ _ c.requires.0 c.load_run.ensures c.store_run.ensures

@@ -36,8 +36,8 @@ loop-i-smaller c = omega arith
 
 pub loop-i-preserved : goal.loop-i-preserved
 loop-i-preserved c =
-    let b = c.before.before in
-    (omega arith, simp length-set b.loop.invariant.1, up_more _ _ _ _ b.loop.i 1 _ b.loop.space _ (omega arith) (omega arith) (omega arith) (omega arith) b.loop.invariant.2 (moved-one _ _ _ (omega arith) (omega arith)))
+    
+    (omega arith, simp length-set c.loop-i.invariant.1, up_more _ _ _ _ c.loop-i.i 1 _ c.loop-i.space _ (omega arith) (omega arith) (omega arith) (omega arith) c.loop-i.invariant.2 (moved-one _ _ _ (omega arith) (omega arith)))
 
 pub shape_of-space : goal.shape_of-space
 shape_of-space c = c.loop-i.invariant.1

@@ -31,8 +31,8 @@ loop-i-smaller c = omega arith
 
 pub loop-i-preserved : goal.loop-i-preserved
 loop-i-preserved c =
-    let b = c.before.before.before.before.before in
-    (omega arith, search rules, down-more _ _ _ 256 _ _ _ (omega arith) (omega arith) b.loop.invariant.2 c.move_run.ensures)
+    
+    (omega arith, search rules, down-more _ _ _ 256 _ _ _ (omega arith) (omega arith) c.loop-i.invariant.2 c.move_run.ensures)
 
 pub shape_of-space : goal.shape_of-space
 shape_of-space c = c.loop-i.invariant.1

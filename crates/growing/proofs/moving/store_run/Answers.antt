@@ -33,7 +33,7 @@ pub loop-i-smaller : goal.loop-i-smaller
 loop-i-smaller c = omega arith
 
 pub loop-i-preserved : goal.loop-i-preserved
-loop-i-preserved c = let b = c.before.before in (omega arith, simp length-set b.loop.invariant.1, stored_more c.args.to b.loop.i c.args.space.now c.args.run.now b.loop.space (omega arith) (omega arith) b.loop.invariant.2)
+loop-i-preserved c = (omega arith, simp length-set c.loop-i.invariant.1, stored_more c.args.to c.loop-i.i c.args.space.now c.args.run.now c.loop-i.space (omega arith) (omega arith) c.loop-i.invariant.2)
 
 pub shape_of-space : goal.shape_of-space
 shape_of-space c = c.loop-i.invariant.1
