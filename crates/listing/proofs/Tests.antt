@@ -1,9 +1,8 @@
 -- Tests joined by `pick`, and tests over the cells of a list.
 use Prim.Native.Nat.{ℕ}
-use mathlib.Core.Bool.{Bool, true, false, not}
+use mathlib.Core.Bool.{Bool, true, false}
 use mathlib.Core.List.{List, [], ◌∷◌, Memᴰ}
 use mathlib.Core.Path.{◌≡◌, refl, sym, ap, ◌∙◌}
-use borrow.Author.Tests.{not-true, not-false}
 use Rattle.basis.specs.Choice.{pick}
 use Rattle.basis.proofs.Tests.{true-not-false}
 use Rattle.listing.specs.Steps.{any_cell}
@@ -43,9 +42,9 @@ cell-some test (Memᴰ.tail {x} {xs} m) h = go (test x) (cell-some test m h)
     go true g = refl
     go false g = g
 
--- what a value was told to be, and what a negated test says of it
-pub refuted : {r s : Bool} → r ≡ s → not r ≡ true → s ≡ false
-refuted {r} e h = sym e ∙ not-true r h
+-- what a value was told to be, and what a test says of it
+pub refuted : {r s : Bool} → r ≡ s → r ≡ false → s ≡ false
+refuted e h = sym e ∙ h
 
-pub confirmed : {r s : Bool} → r ≡ s → not r ≡ false → s ≡ true
-confirmed {r} e h = sym e ∙ not-false r h
+pub confirmed : {r s : Bool} → r ≡ s → r ≡ true → s ≡ true
+confirmed e h = sym e ∙ h

@@ -16,7 +16,7 @@ pub returns-then-cells_rung-le-FEW_CELLS : goal.returns-then-cells_rung-le-FEW_C
 returns-then-cells_rung-le-FEW_CELLS c = call-answers _ _ _ _ _ (steps-indexed _ _ _ (told c.in-Sound.is c.read_header-read.ensures) _ _ _ c.call_with.ensures)
 
 pub call_with-requires-in-Sound : goal.call_with-requires-in-Sound
-call_with-requires-in-Sound c = (header-bounds _ _ (told c.in-Sound.is c.read_header-read.ensures), search rules)
+call_with-requires-in-Sound c = record { bounds = header-bounds _ _ (told c.in-Sound.is c.read_header-read.ensures); room_for_form = search rules }
 
 pub returns-in-Sound : goal.returns-in-Sound
 returns-in-Sound c = call-answers _ _ _ _ _ (steps-indexed _ _ _ (told c.in-Sound.is c.read_header-read.ensures) _ _ _ c.call_with-in-Sound.ensures)

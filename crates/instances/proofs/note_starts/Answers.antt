@@ -98,7 +98,7 @@ overflow_add-due c =
     let end : l.at < 256 = omega (arith, w, cells-grow (terms_at arity a.s.now 0) (l.i + 1) a.m (omega arith), p.2, p.3) in
     let most : l.due ≤ a.m + 254 * l.at = scan-small arity a.s.now a.m p.0 l.at l.due l.i l.invariant.1 (omega arith) (arity-small a.edition) in
     (inside, end, scan-due arity a.s.now a.m p.0 l.at l.due l.i l.invariant.1 (omega arith), omega (arith, few, p.2, p.3), omega (arith, few, p.2, p.3)) in
-    omega (arith, turn_here, c.due_after-due.ensures, due-after-requires c.before c.due_after-due.lifetimes)
+    omega (arith, turn_here, c.arguments_of.ensures, c.due_after-due.ensures)
 
 pub loop-i-smaller-then-m-due : goal.loop-i-smaller-then-m-due
 loop-i-smaller-then-m-due c =

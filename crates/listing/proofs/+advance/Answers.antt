@@ -38,7 +38,7 @@ advance-requires t c =
     let w = next-goes c.args.edition c.args.s c.args.symbols.now c.args.place c.args.term.now (omega (arith, c.requires.long)) (search rules) _ refl _ c.place_after.ensures c.requires.ends in
     let l = next-letters c.args.edition c.args.s c.args.symbols.now c.args.place c.args.term.now (omega (arith, c.requires.long)) (search rules) _ refl _ c.place_after.ensures c.requires.letters in
     let z = passed-at _ _ _ _ c.place_after.ensures in (
-      omega (arith, z.0, c.requires.0),
+      omega (arith, z.0, c.decreases),
       record {
         room = record { given = c.requires.room.given; table = c.requires.room.table; within = omega (arith, z.0); few = omega (arith, w.1) };
         long = c.requires.long;

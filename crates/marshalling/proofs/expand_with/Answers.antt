@@ -15,16 +15,14 @@ use Rattle.marshalling.proofs.expand_with.Goals as goal
 
 pub slice_bounds-load_terms-end-2 : goal.slice_bounds-load_terms-end-2
 slice_bounds-load_terms-end-2 c =
-    let start_here : lts.Start (decode-reads.Asked, decode-reads.Learnt, load-terms-reads.Asked, load-terms-reads.Learnt, deliver-reads.Asked, deliver-reads.Learnt) reads.Pre reads.Post = x.before.before.before.before.before.before in
-    let cells_here : take (start_here).args.n c.decode.last.1.1.0 ≡ cells_of (start_here).args.input.now = cells-decoded (start_here).args.n (start_here).args.input.now (start_here).args.form.now c.decode.last.1.1.0 (start_here).pre.0 c.decode.ensures in
-    let count_here : length (take (start_here).args.n c.decode.last.1.1.0) ≡ (start_here).args.n = ap length (cells_here) ∙ omega (arith, cells-length (start_here).args.input.now, (start_here).pre.0) in
+    let cells_here : take c.args.n c.decode.new.cells ≡ cells_of c.args.input.now = cells-decoded c.args.n c.args.input.now c.args.form.now c.decode.new.cells c.requires.0 c.decode.ensures in
+    let count_here : length (take c.args.n c.decode.new.cells) ≡ c.args.n = ap length (cells_here) ∙ omega (arith, cells-length c.args.input.now, c.requires.0) in
     sym (count_here)
 
 pub load_terms-requires : goal.load_terms-requires
 load_terms-requires c =
-    let start_here : lts.Start (decode-reads.Asked, decode-reads.Learnt, load-terms-reads.Asked, load-terms-reads.Learnt, deliver-reads.Asked, deliver-reads.Learnt) reads.Pre reads.Post = x.before.before.before.before.before.before in
-    let cells_here : take (start_here).args.n c.decode.last.1.1.0 ≡ cells_of (start_here).args.input.now = cells-decoded (start_here).args.n (start_here).args.input.now (start_here).args.form.now c.decode.last.1.1.0 (start_here).pre.0 c.decode.ensures in
-    let count_here : length (take (start_here).args.n c.decode.last.1.1.0) ≡ (start_here).args.n = ap length (cells_here) ∙ omega (arith, cells-length (start_here).args.input.now, (start_here).pre.0) in
+    let cells_here : take c.args.n c.decode.new.cells ≡ cells_of c.args.input.now = cells-decoded c.args.n c.args.input.now c.args.form.now c.decode.new.cells c.requires.0 c.decode.ensures in
+    let count_here : length (take c.args.n c.decode.new.cells) ≡ c.args.n = ap length (cells_here) ∙ omega (arith, cells-length c.args.input.now, c.requires.0) in
     (λ h. omega (arith, count_here, c.requires.2 h))
 
 pub overflow_add-result : goal.overflow_add-result
@@ -32,25 +30,22 @@ overflow_add-result c = omega arith
 
 pub returns-in_default : goal.returns-in_default
 returns-in_default c =
-    let start_here : lts.Start (decode-reads.Asked, decode-reads.Learnt, load-terms-reads.Asked, load-terms-reads.Learnt, deliver-reads.Asked, deliver-reads.Learnt) reads.Pre reads.Post = x.before.before.before.before.before.before in
-    let whole_here : length (start_here).args.input.now % 4 ≡ 0 = omega (arith, (start_here).pre.0) in
-    let cells_here : take (start_here).args.n c.decode.last.1.1.0 ≡ cells_of (start_here).args.input.now = cells-decoded (start_here).args.n (start_here).args.input.now (start_here).args.form.now c.decode.last.1.1.0 (start_here).pre.0 c.decode.ensures in
-    let refused_here : NoForm ≡ loading (stored_of (start_here).args.edition) 1 (cells_of (start_here).args.input.now) = sym c.in_default.is ∙ c.load_terms.ensures.0 ∙ ap (loading (stored_of (start_here).args.edition) 1) (cells_here) in
+    let whole_here : length c.args.input.now % 4 ≡ 0 = omega (arith, c.requires.0) in
+    let cells_here : take c.args.n c.decode.new.cells ≡ cells_of c.args.input.now = cells-decoded c.args.n c.args.input.now c.args.form.now c.decode.new.cells c.requires.0 c.decode.ensures in
+    let refused_here : NoForm ≡ loading (stored_of c.args.edition) 1 (cells_of c.args.input.now) = sym c.in_default.is ∙ c.load_terms.ensures.0 ∙ ap (loading (stored_of c.args.edition) 1) (cells_here) in
     expand-refused _ _ _ (whole_here) (refused_here)
 
 pub deliver-requires : goal.deliver-requires
 deliver-requires c =
-    let start_here : lts.Start (decode-reads.Asked, decode-reads.Learnt, load-terms-reads.Asked, load-terms-reads.Learnt, deliver-reads.Asked, deliver-reads.Learnt) reads.Pre reads.Post = x.before.before.before.before.before.before in
-    let cells_here : take (start_here).args.n c.decode.last.1.1.0 ≡ cells_of (start_here).args.input.now = cells-decoded (start_here).args.n (start_here).args.input.now (start_here).args.form.now c.decode.last.1.1.0 (start_here).pre.0 c.decode.ensures in
-    let got_here : Terms c.in-Terms.k ≡ loading (stored_of (start_here).args.edition) 1 (cells_of (start_here).args.input.now) = sym c.in-Terms.is ∙ c.load_terms.ensures.0 ∙ ap (loading (stored_of (start_here).args.edition) 1) (cells_here) in
-    let holds_here : take c.in-Terms.k c.load_terms.new.cells ≡ (stored_of (start_here).args.edition).cells (cells_of (start_here).args.input.now) = (rw c.in-Terms.is at c.load_terms.ensures.1) ∙ ap (stored_of (start_here).args.edition).cells (cells_here) in
+    let cells_here : take c.args.n c.decode.new.cells ≡ cells_of c.args.input.now = cells-decoded c.args.n c.args.input.now c.args.form.now c.decode.new.cells c.requires.0 c.decode.ensures in
+    let got_here : Terms c.in-Terms.k ≡ loading (stored_of c.args.edition) 1 (cells_of c.args.input.now) = sym c.in-Terms.is ∙ c.load_terms.ensures.0 ∙ ap (loading (stored_of c.args.edition) 1) (cells_here) in
+    let holds_here : take c.in-Terms.k c.load_terms.new.cells ≡ (stored_of c.args.edition).cells (cells_of c.args.input.now) = (rw c.in-Terms.is at c.load_terms.ensures.1) ∙ ap (stored_of c.args.edition).cells (cells_here) in
     let r = taken-room _ c.load_terms.new.cells _ (holds_here) (loading-length _ _ _ _ (got_here)) in (r, omega (arith, r, c.requires))
 
 pub returns : goal.returns
 returns c =
-    let start_here : lts.Start (decode-reads.Asked, decode-reads.Learnt, load-terms-reads.Asked, load-terms-reads.Learnt, deliver-reads.Asked, deliver-reads.Learnt) reads.Pre reads.Post = x.before.before.before.before.before.before in
-    let whole_here : length (start_here).args.input.now % 4 ≡ 0 = omega (arith, (start_here).pre.0) in
-    let cells_here : take (start_here).args.n c.decode.last.1.1.0 ≡ cells_of (start_here).args.input.now = cells-decoded (start_here).args.n (start_here).args.input.now (start_here).args.form.now c.decode.last.1.1.0 (start_here).pre.0 c.decode.ensures in
-    let got_here : Terms c.in-Terms.k ≡ loading (stored_of (start_here).args.edition) 1 (cells_of (start_here).args.input.now) = sym c.in-Terms.is ∙ c.load_terms.ensures.0 ∙ ap (loading (stored_of (start_here).args.edition) 1) (cells_here) in
-    let holds_here : take c.in-Terms.k c.load_terms.new.cells ≡ (stored_of (start_here).args.edition).cells (cells_of (start_here).args.input.now) = (rw c.in-Terms.is at c.load_terms.ensures.1) ∙ ap (stored_of (start_here).args.edition).cells (cells_here) in
+    let whole_here : length c.args.input.now % 4 ≡ 0 = omega (arith, c.requires.0) in
+    let cells_here : take c.args.n c.decode.new.cells ≡ cells_of c.args.input.now = cells-decoded c.args.n c.args.input.now c.args.form.now c.decode.new.cells c.requires.0 c.decode.ensures in
+    let got_here : Terms c.in-Terms.k ≡ loading (stored_of c.args.edition) 1 (cells_of c.args.input.now) = sym c.in-Terms.is ∙ c.load_terms.ensures.0 ∙ ap (loading (stored_of c.args.edition) 1) (cells_here) in
+    let holds_here : take c.in-Terms.k c.load_terms.new.cells ≡ (stored_of c.args.edition).cells (cells_of c.args.input.now) = (rw c.in-Terms.is at c.load_terms.ensures.1) ∙ ap (stored_of c.args.edition).cells (cells_here) in
     c.deliver.ensures ∙ expand-terms _ _ _ (whole_here) _ _ (got_here) (holds_here)

@@ -12,7 +12,7 @@ use Rattle.replies.proofs.print_why.Goals as goal
 
 pub put_cells-requires : goal.put_cells-requires
 put_cells-requires c =
-    let held_here : NamedIn c.args.t1.variables (reason.Old c.in-Old.n c.in-Old.m) = rw c.in-Old.is at c.requires.0.1 in
+    let held_here : NamedIn c.args.answer.variables (reason.Old c.in-Old.n c.in-Old.m) = rw c.in-Old.is at c.requires.0.1 in
     let k = held_here in
     (k.0, omega (arith, decimal-length c.in-Old.n, k.1))
 
@@ -22,7 +22,7 @@ returns-in-Old c = λ out.
     
     let g = c.args in
     rw c.in-Old.is
-    (puts-append (word_and_number text_old c.in-Old.n) (cell_texts (take c.in-Old.m g.t1.variables)) g.text.now _ _ _ _ _
+    (puts-append (word_and_number text_old c.in-Old.n) (cell_texts (take c.in-Old.m g.answer.variables)) g.text.now _ _ _ _ _
     c.put_numbered-end.ensures c.put_cells.ensures)
 
 pub put_field-requires : goal.put_field-requires

@@ -9,6 +9,7 @@ use mathlib.Core.Logic.{⊎_elim}
 use lib.ListN.{length}
 use native.Mathlib.Omega.{arith}
 use Rattle.indexing.proofs.entering.count_entering.Goals as goal
+use Rattle.indexing.proofs.entering.count_entering.Goals.{then-enters, else-enters}
 
 pub loop-n-init : goal.loop-n-init
 loop-n-init c = (omega arith, counted-begin _)
@@ -26,7 +27,9 @@ pub loop-n-smaller : goal.loop-n-smaller
 loop-n-smaller c = omega arith
 
 pub loop-n-preserved : goal.loop-n-preserved
-loop-n-preserved c = (omega arith, ⊎_elim (λ w. w.1 ∙ counted-one _ _ _ c.loop-n.invariant.1 (told c.enters.ensures w.0.taken)) (λ w. w.1 ∙ counted_none _ _ _ c.loop-n.invariant.1 (told c.enters.ensures w.0.left)) c.if-enters.branch)
+loop-n-preserved c = (omega arith, elim c.if-enters.branch [
+    then-enters w ↦ w.count-is ∙ counted-one _ _ _ c.loop-n.invariant.1 (told c.enters.ensures w.if-enters.true)
+    | else-enters w ↦ w.count-is ∙ counted_none _ _ _ c.loop-n.invariant.1 (told c.enters.ensures w.if-enters.false) ])
 
 pub returns : goal.returns
 returns c = counted-ended _ _ _ c.loop-n.invariant.1 _ c.loop-n.invariant.0 (omega arith)
