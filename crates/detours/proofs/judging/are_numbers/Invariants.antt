@@ -1,0 +1,14 @@
+use Prim.Native.Nat.{ℕ, suc, ◌+◌, ◌-◌, ◌≤◌}
+use mathlib.Core.Path.{◌≡◌, refl, sym, ap, ◌∙◌}
+use native.Mathlib.Omega.{arith}
+use borrow.Author.Rules.{rules}
+use lib.ListN.{length, drop}
+use Rattle.plain.specs.Detours.{all_within}
+use Rattle.detours.proofs.GoalCases.{within-zero, within-above, within_on, within-ended}
+use Rattle.detours.proofs.judging.are_numbers.Given as goal
+
+abbrev pub invariant-loop-i : goal.invariant-loop-i
+invariant-loop-i l = (l.i ≤ length l.goals) × (all_within l.subgoals l.goals ≡ all_within l.subgoals (drop l.i l.goals))
+
+abbrev pub decreases-loop-i : goal.decreases-loop-i
+decreases-loop-i l = length l.goals - l.i

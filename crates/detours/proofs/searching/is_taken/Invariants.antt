@@ -1,0 +1,13 @@
+use Prim.Native.Nat.{◌≤◌}
+use mathlib.Core.Path.{◌≡◌, refl}
+use native.Mathlib.Omega.{arith}
+use borrow.Author.Rules.{rules}
+use Rattle.detours.specs.Searching.{among, diverters_in}
+use Rattle.detours.proofs.WorkLaws.{among-found, among-lower, among-ended}
+use Rattle.detours.proofs.searching.is_taken.Given as goal
+
+abbrev pub invariant-loop-i : goal.invariant-loop-i
+invariant-loop-i l = (l.i ≤ l.goals) × (among l.diverter (diverters_in l.work l.goals) ≡ among l.diverter (diverters_in l.work l.i))
+
+abbrev pub decreases-loop-i : goal.decreases-loop-i
+decreases-loop-i l = l.i

@@ -1,0 +1,11 @@
+use Rattle.store.proofs.ChainMeasure.{ahead, ahead-less}
+use Rattle.integrity.proofs.ChainCases.{Counting, next-rises, counting-begin, counting-less, counting-on, counting-ended}
+use native.Mathlib.Omega.{arith}
+use borrow.Author.Rules.{rules}
+use Rattle.integrity.proofs.chains.chain_length.Given as goal
+
+abbrev pub invariant-loop-a : goal.invariant-loop-a
+invariant-loop-a l = Counting l.space l.h l.first l.a l.count
+
+abbrev pub decreases-loop-a : goal.decreases-loop-a
+decreases-loop-a l = ahead l.h.answers l.a

@@ -1,0 +1,11 @@
+use Rattle.store.proofs.ChainMeasure.{ahead, ahead-less}
+use Rattle.integrity.proofs.ChainCases.{Searching, next-rises, searching-begin, searching-found, searching-on, searching-ended}
+use native.Mathlib.Omega.{arith}
+use borrow.Author.Rules.{rules}
+use Rattle.integrity.proofs.chains.is_after.Given as goal
+
+abbrev pub invariant-loop-b : goal.invariant-loop-b
+invariant-loop-b l = Searching l.space l.h l.first l.a l.b
+
+abbrev pub decreases-loop-b : goal.decreases-loop-b
+decreases-loop-b l = ahead l.h.answers l.b

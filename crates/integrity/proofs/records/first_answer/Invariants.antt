@@ -1,0 +1,13 @@
+use Rattle.integrity.proofs.CheckCases.{pass-begin, pass-ended, later-failed, later-on}
+use Rattle.integrity.specs.Tests.{answer_test, AnswersWhole}
+use Prim.Native.Nat.{◌≤◌, ◌-◌}
+use Rattle.basis.proofs.Tests.{told}
+use borrow.Author.Tests.{not-true, not-false}
+use native.Mathlib.Omega.{arith}
+use Rattle.integrity.proofs.records.first_answer.Given as goal
+
+abbrev pub invariant-loop-i : goal.invariant-loop-i
+invariant-loop-i l = (l.i ≤ l.h.answers) × AnswersWhole l.space l.h l.i
+
+abbrev pub decreases-loop-i : goal.decreases-loop-i
+decreases-loop-i l = l.h.answers - l.i

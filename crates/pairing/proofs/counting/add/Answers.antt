@@ -1,0 +1,7 @@
+-- `pairing::counting::add` meets its contract.
+use Rattle.pairing.proofs.CountCases.{sums-added}
+use borrow.Author.Rules.{rules}
+use Rattle.pairing.proofs.counting.add.Goals as goal
+
+pub returns : goal.returns
+returns c = sums-added c.args.y c.args.m _ _ c.both-sound.ensures c.one_if.ensures.0

@@ -1,0 +1,19 @@
+use Prim.Native.Nat.{◌≤◌}
+use mathlib.Core.Path.{refl, sym, ap, subst}
+use native.Mathlib.Omega.{arith}
+use lib.ListN.{length, take}
+use lib.Seq.{length-take-le}
+use Rattle.trie.specs.Index.{search_indexed}
+use Rattle.trie.proofs.IndexLaws.{indexes-find}
+use borrow.Author.Rules.{rules}
+use Rattle.pairing.specs.declared.Cursor.{Cursor}
+use Rattle.pairing.specs.declared.Match.TheVariants as match
+use Rattle.pairing.specs.Pairing.{to_come, Advances}
+use Rattle.pairing.proofs.CountLaws.{Counting, no_sums, counting-begun, counted-end, counted-long, counting-on, sums-small, missing-most, all-few}
+use Rattle.pairing.proofs.counting.count.Given as goal
+
+abbrev pub invariant-loop-behind : goal.invariant-loop-behind
+invariant-loop-behind l = Counting (search_indexed l.index l.x.h.nodes) l.space l.x l.root l.pairs l.copies l.at l.hands l.form l.sums
+
+abbrev pub decreases-loop-behind : goal.decreases-loop-behind
+decreases-loop-behind l = length (to_come l.space l.x l.pairs l.copies l.at l.hands)

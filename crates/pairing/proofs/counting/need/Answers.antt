@@ -1,0 +1,7 @@
+-- `pairing::counting::need` meets its contract.
+use Rattle.pairing.proofs.CountCases.{needs-added}
+use borrow.Author.Rules.{rules}
+use Rattle.pairing.proofs.counting.need.Goals as goal
+
+pub returns : goal.returns
+returns c = needs-added c.args.y c.args.m c.args.e c.args.n _ _ c.smaller.ensures.0 c.one_new.ensures.0

@@ -1,0 +1,10 @@
+use Rattle.pairing.proofs.GatherLaws.{Gathering, gathering-begun, gathered-all, gathered-root, gathering-on}
+use native.Mathlib.Omega.{arith}
+use borrow.Author.Rules.{rules}
+use Rattle.pairing.proofs.cursors.gather_path.Given as goal
+
+abbrev pub invariant-loop-at : goal.invariant-loop-at
+invariant-loop-at l = Gathering l.space l.end l.initial.cells l.cells l.n l.at
+
+abbrev pub decreases-loop-at : goal.decreases-loop-at
+decreases-loop-at l = l.at

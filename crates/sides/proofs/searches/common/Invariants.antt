@@ -1,0 +1,14 @@
+use Rattle.sides.proofs.SearchCases.{common-first, common-second, common-other, common-next}
+use Rattle.plain.specs.Words.{common}
+use lib.ListN.{length, drop}
+use mathlib.Core.Path.{◌≡◌}
+use Prim.Native.Nat.{◌≤◌, ◌-◌, ◌+◌}
+use native.Mathlib.Omega.{arith}
+use borrow.Author.Rules.{rules}
+use Rattle.sides.proofs.searches.common.Given as goal
+
+abbrev pub invariant-loop-i : goal.invariant-loop-i
+invariant-loop-i l = (l.i ≤ length l.a) × (l.i + common (drop l.i l.a) (drop l.i l.b) ≡ common l.a l.b)
+
+abbrev pub decreases-loop-i : goal.decreases-loop-i
+decreases-loop-i l = length l.a - l.i

@@ -1,0 +1,30 @@
+-- `sources::loading::subgoal_loads` meets its contract.
+use borrow.Author.Rules.{rules}
+use native.Mathlib.Omega.{arith}
+use Rattle.basis.proofs.Tests.{told}
+use Rattle.space.proofs.HeaderLaws.{bounds-nodes}
+use Rattle.sources.proofs.LoadCases.{subgoal-damaged, subgoal-within, subgoal-formed}
+use Rattle.sources.proofs.loading.subgoal_loads.Goals as goal
+
+pub returns-in_default : goal.returns-in_default
+returns-in_default c =
+    let p = c.args in
+    subgoal-damaged p.source.now p.h p.s (told c.in_default.is c.read_subgoal.ensures)
+
+pub path_worth-requires : goal.path_worth-requires
+path_worth-requires c =
+    let p = c.args in
+    let e = told c.in-Sound.is c.read_subgoal.ensures in
+    (bounds-nodes _ _ c.requires.0, (subgoal-within p.source.now p.h p.s c.in-Sound.g e).0)
+
+pub overflow_add-result : goal.overflow_add-result
+overflow_add-result c =
+    let p = c.args in
+    let e = told c.in-Sound.is c.read_subgoal.ensures in
+    omega (arith, (subgoal-within p.source.now p.h p.s c.in-Sound.g e).1)
+
+pub returns : goal.returns
+returns c =
+    let p = c.args in
+    let e = told c.in-Sound.is c.read_subgoal.ensures in
+    subgoal-formed p.source.now p.h p.s c.in-Sound.g e _ c.path_worth.ensures

@@ -1,0 +1,13 @@
+use Prim.Native.Nat.{◌≤◌, ◌-◌}
+use native.Mathlib.Omega.{arith}
+use lib.ListN.{length}
+use borrow.Author.Tests.{not-true, not-false}
+use Rattle.basis.proofs.Tests.{told}
+use Rattle.sources.proofs.NameCases.{Rest, rest-begin, rest-unnamed, rest-on, rest_ended}
+use Rattle.sources.proofs.names.form_named.Given as goal
+
+abbrev pub invariant-loop-i : goal.invariant-loop-i
+invariant-loop-i l = (l.i ≤ length l.form) × Rest l.form l.i
+
+abbrev pub decreases-loop-i : goal.decreases-loop-i
+decreases-loop-i l = length l.form - l.i

@@ -1,0 +1,12 @@
+-- `sources::tokens::is_named` meets its contract, one case to each side of its test.
+use borrow.Author.Tests.{eq-eqb, ne_eqb}
+use Rattle.carrying.specs.Recoding.{name_fits}
+use Rattle.sources.proofs.tokens.is_named.Goals as goal
+
+pub returns-then-x-eq4 : goal.returns-then-x-eq4
+unfolding name_fits
+returns-then-x-eq4 c = simp (eq-eqb _ _ c.if-x-eq4.true)
+
+pub returns : goal.returns
+unfolding name_fits
+returns c = simp (ne_eqb _ _ c.if-x-eq4.false)
