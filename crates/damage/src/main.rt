@@ -8,6 +8,7 @@ ghost use Rattle.trie.specs.Runs.{Ends};
 use space::heading::read_header;
 use space::records::{read_answer, read_node, read_subgoal};
 use space::{Answer, AnswerRead, Head, Header, Node, NodeRead, Subgoal, SubgoalRead};
+use std::io;
 use trie::paths::{CELLS, LEVELS, few_path, whole_path};
 use trie::walks::walk_tokens;
 use trie::{End, Walked};
@@ -315,67 +316,61 @@ fn all_paths(space: &[u32], h: Head) -> Tally
     paths_of(space, h.nodes, h.answers, t)
 }
 
-fn show(t: Tally) {
-    io::write_all(1, b" ");
-    io::print_decimal(1, t.damaged);
-    io::write_all(1, b" ");
-    io::print_decimal(1, t.sum);
+fn show(rt: &impl Print, t: Tally) -> io::Result<()> {
+    print!(rt; " {} {}", t.damaged, t.sum)
 }
 
 // What the readers of records answer under a sound header.
-fn records(space: &[u32], h: Head)
+fn records(rt: &impl Print, space: &[u32], h: Head) -> io::Result<()>
     requires { Bounds space.now h }
 {
     let nodes = nodes_of(space, h.nodes, h.subgoals, started());
-    show(nodes_of(space, h.nodes, h.answers, nodes));
-    show(subgoals_of(space, h));
-    show(answers_of(space, h));
-    show(all_walks(space, h));
-    show(all_paths(space, h));
+    show(rt, nodes_of(space, h.nodes, h.answers, nodes))?;
+    show(rt, subgoals_of(space, h))?;
+    show(rt, answers_of(space, h))?;
+    show(rt, all_walks(space, h))?;
+    show(rt, all_paths(space, h))
 }
 
 // What every reader answers on the space.
-fn readings(space: &[u32]) {
+fn readings(rt: &impl Print, space: &[u32]) -> io::Result<()> {
     let Header::Sound(h) = read_header(space) else {
-        io::write_all(1, b" refused 1\n");
-        return;
+        return println!(rt; " refused 1");
     };
-    show(with_head(started(), h));
-    records(space, h);
-    io::write_all(1, b"\n");
+    show(rt, with_head(started(), h))?;
+    records(rt, space, h)?;
+    println!(rt)
 }
 
 // The readings with cell i set to the value.
-fn trial(space: &mut [u32; CELLS_IN_ALL], i: usize, value: u32)
+fn trial(rt: &impl Print, space: &mut [u32; CELLS_IN_ALL], i: usize, value: u32) -> io::Result<()>
     requires { i < 116 }
 {
+    print!(rt; "{i} {value}")?;
     let old = space[i];
     space[i] = value;
-    io::print_decimal(1, i as u64);
-    io::write_all(1, b" ");
-    io::print_decimal(1, value as u64);
-    readings(space);
+    let read = readings(rt, space);
     space[i] = old;
+    read
 }
 
-fn trials(space: &mut [u32; CELLS_IN_ALL], i: usize)
+fn trials(rt: &impl Print, space: &mut [u32; CELLS_IN_ALL], i: usize) -> io::Result<()>
     requires { i < 116 }
 {
     let old = space[i];
-    trial(space, i, 0);
-    trial(space, i, 1);
-    trial(space, i, std::num::wrapping_sub_u32(old, 1));
-    trial(space, i, std::num::wrapping_add_u32(old, 1));
-    trial(space, i, 4294967295);
+    trial(rt, space, i, 0)?;
+    trial(rt, space, i, 1)?;
+    trial(rt, space, i, std::num::wrapping_sub_u32(old, 1))?;
+    trial(rt, space, i, std::num::wrapping_add_u32(old, 1))?;
+    trial(rt, space, i, 4294967295)
 }
 
-fn main() {
+fn main(rt: HostRuntime) -> io::Result<()> {
     let mut space = small();
-    io::write_all(1, b"whole");
-    readings(&space);
-    let mut i = 0;
-    while i < CELLS_IN_ALL {
-        trials(&mut space, i);
-        i += 1;
+    print!(rt; "whole")?;
+    readings(&rt, &space)?;
+    for i in 0..CELLS_IN_ALL {
+        trials(&rt, &mut space, i)?;
     }
+    Ok(())
 }

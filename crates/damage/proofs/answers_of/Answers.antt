@@ -1,5 +1,5 @@
 -- `damage::answers_of` meets its contract.
-use Rattle.std.proofs.Common.{◌+◌, ◌-◌, ◌≤◌, arith, rules}
+use Rattle.std.proofs.Common.{arith}
 use Rattle.damage.proofs.answers_of.Goals as goal
 
 pub loop-a-init : goal.loop-a-init

@@ -1,5 +1,5 @@
 -- `damage::nodes_of` meets its contract.
-use Rattle.std.proofs.Common.{◌-◌, ◌≤◌, arith, rules}
+use Rattle.std.proofs.Common.{arith}
 use Rattle.damage.proofs.nodes_of.Goals as goal
 
 pub loop-n-init : goal.loop-n-init

@@ -1,4 +1,4 @@
-use Rattle.std.proofs.Common.{◌-◌, ◌≤◌, arith, rules}
+use Rattle.std.proofs.Common.{◌-◌, ◌≤◌}
 use Rattle.damage.proofs.nodes_of.Given as goal
 
 abbrev pub invariant-loop-n : goal.invariant-loop-n

@@ -1,6 +1,6 @@
 -- `damage::one_path` meets its contract.
 use Rattle.trie.proofs.PathCases.{gathers-within}
-use Rattle.std.proofs.Common.{arith, rules}
+use Rattle.std.proofs.Common.{arith}
 use Rattle.damage.proofs.one_path.Goals as goal
 
 pub offset_bounds-path-k : goal.offset_bounds-path-k

@@ -1,5 +1,5 @@
 -- `damage::paths_of` meets its contract.
-use Rattle.std.proofs.Common.{◌-◌, ◌≤◌, arith, rules}
+use Rattle.std.proofs.Common.{arith}
 use Rattle.damage.proofs.paths_of.Goals as goal
 
 pub loop-root-init : goal.loop-root-init

@@ -1,5 +1,5 @@
 -- `damage::paths_to` meets its contract.
-use Rattle.std.proofs.Common.{◌-◌, ◌≤◌, arith, rules}
+use Rattle.std.proofs.Common.{arith}
 use Rattle.damage.proofs.paths_to.Goals as goal
 
 pub loop-n-init : goal.loop-n-init

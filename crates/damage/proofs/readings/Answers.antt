@@ -1,7 +1,6 @@
 -- `damage::readings` meets its contract.
 use Rattle.space.proofs.HeaderLaws.{header-bounds}
-use Rattle.std.proofs.Common.{rules}
 use Rattle.damage.proofs.readings.Goals as goal
 
 pub records-requires : goal.records-requires
-records-requires c = header-bounds c.args.space.now c.in-Sound.h (cc)
+records-requires g c = header-bounds c.args.space.now c.in-Sound.h (cc)

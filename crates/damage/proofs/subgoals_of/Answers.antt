@@ -1,5 +1,5 @@
 -- `damage::subgoals_of` meets its contract.
-use Rattle.std.proofs.Common.{◌+◌, ◌-◌, ◌≤◌, arith, rules}
+use Rattle.std.proofs.Common.{arith}
 use Rattle.damage.proofs.subgoals_of.Goals as goal
 
 pub loop-s-init : goal.loop-s-init

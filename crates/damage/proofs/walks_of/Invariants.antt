@@ -1,4 +1,4 @@
-use Rattle.std.proofs.Common.{◌-◌, ◌≤◌, arith, rules}
+use Rattle.std.proofs.Common.{◌-◌, ◌≤◌}
 use Rattle.damage.proofs.walks_of.Given as goal
 
 abbrev pub invariant-loop-root : goal.invariant-loop-root

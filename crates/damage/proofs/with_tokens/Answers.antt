@@ -1,5 +1,5 @@
 -- `damage::with_tokens` meets its contract.
-use Rattle.std.proofs.Common.{◌-◌, ◌≤◌, length, arith, rules}
+use Rattle.std.proofs.Common.{arith}
 use Rattle.damage.proofs.with_tokens.Goals as goal
 
 pub loop-i-init : goal.loop-i-init
