@@ -1,0 +1,14 @@
+use Prim.Native.Nat.{◌≤◌, ◌<◌, ◌-◌}
+use mathlib.Core.Path.{◌≡◌, refl, sym}
+use native.Mathlib.Omega.{arith}
+use lib.ListN.{length}
+use Rattle.copying.specs.Clauses.{with_states}
+use Rattle.copying.proofs.StateCases.{states-none, states-ended, state-room, record-bounds, states-next}
+use Rattle.copying.proofs.writing.carry_states.Given as goal
+
+abbrev pub invariant-loop-i : goal.invariant-loop-i
+invariant-loop-i l =
+    (l.i ≤ l.h.subgoals) × (l.target ≡ with_states l.source l.h l.offset l.initial.target l.i) × (length l.initial.target ≡ length l.target)
+
+abbrev pub decreases-loop-i : goal.decreases-loop-i
+decreases-loop-i l = l.h.subgoals - l.i

@@ -1,0 +1,22 @@
+-- `answer_word` meets its contract: each variant by its word.
+use native.Mathlib.Omega.{arith}
+use Rattle.store.specs.Replies.{said_answer}
+use Rattle.words.specs.Words.{word}
+use Rattle.words.proofs.WordLaws.{said-word, said-bounded}
+use borrow.Author.Rules.{rules}
+use Rattle.words.proofs.answer_word.Goals as goal
+
+pub returns-in-New : goal.returns-in-New
+unfolding word
+returns-in-New c = said-word said_answer c.in-New.is _ c.result_word.ensures
+
+pub returns-in-Old : goal.returns-in-Old
+unfolding word
+returns-in-Old c = said-word said_answer c.in-Old.is _ c.result_word-in-Old.ensures
+
+pub refusal_word-requires : goal.refusal_word-requires
+refusal_word-requires c = let h = said-bounded said_answer c.in-Refused.is c.requires in omega arith
+
+pub returns-in-Refused : goal.returns-in-Refused
+unfolding word
+returns-in-Refused c = said-word said_answer c.in-Refused.is _ c.refusal_word.ensures
