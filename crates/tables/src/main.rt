@@ -10,13 +10,18 @@ ghost use Rattle.std.specs.Prelude.{◌≤◌, length};
 ghost use Rattle.session.specs.Program.{starts};
 ghost use Rattle.tables.specs.Progress.{Within, Answered, program_holds, TakesChunk, ReadsSome, ReadsOn};
 
-use libc::{STDERR_FILENO, STDIN_FILENO, STDOUT_FILENO};
 use session::respond;
 use session::start::{new_line, new_out, new_space, new_text, start};
 use space::FreshAnswer;
+use std::env::{Env, FillError};
+use std::io;
+use std::io::Read;
 use text::Taking;
 use text::lines::take_line;
-use usage::say_usage;
+use usage::{say, say_usage};
+
+// How many bytes are read at once, at most.
+const READ_AT_ONCE: usize = 65_536;
 
 // How many bytes of the line that has begun are kept; or that the input has ended; or that reading or
 // printing failed. Both end the program, but only an input that has ended has a last line.
@@ -27,20 +32,39 @@ pub enum Progress {
     Failed,
 }
 
+// Says on standard error which stream failed and why, without the number that an error's text ends with. Nothing is
+// left to do where that cannot be said either.
+fn say_failed(rt: &HostRuntime, stream: &[u8], error: io::Error) {
+    say(rt, stream);
+    say(rt, b": ");
+    if let Ok(reason) = format!(in rt.alloc(); "{error}") {
+        let bytes = reason.as_bytes();
+        let end = match reason.find(" (os error ") {
+            Some(at) => at,
+            None => bytes.len(),
+        };
+        say(rt, &bytes[..end]);
+    }
+    say(rt, b"\n");
+}
+
 // Answers a line and prints the reply at once, so that a caller who waits for it gets it.
-fn answer(line: &[u8], space: &mut [u32], out: &mut [u32], text: &mut [u8]) -> bool
+fn answer(rt: &HostRuntime, line: &[u8], space: &mut [u32], out: &mut [u32], text: &mut [u8]) -> bool
     ensures { Answered line.now text.old space.old out.old text.new space.new out.new }
 {
     let n = respond(line, space, out, text);
-    let is_written = io::write_all(STDOUT_FILENO, &text[..n]);
-    if !is_written {
-        os::fail(b"standard output");
+    match rt.stdout().write_all(&text[..n]) {
+        Ok(()) => true,
+        Err(e) => {
+            say_failed(rt, b"standard output", e);
+            false
+        }
     }
-    is_written
 }
 
 // Answers the lines that end in a chunk.
 fn take_chunk(
+    rt: &HostRuntime,
     chunk: &[u8],
     line: &mut [u8],
     kept: usize,
@@ -59,7 +83,7 @@ fn take_chunk(
         match take_line(chunk, at, line, n) {
             Taking::More(k) => return Progress::Kept(k),
             Taking::Line(next, end) => {
-                if !answer(&line[..end], space, out, text) {
+                if !answer(rt, &line[..end], space, out, text) {
                     return Progress::Failed;
                 }
                 at = next;
@@ -73,6 +97,7 @@ fn take_chunk(
 // Reads once. At the end of the input a line without newline counts if it is not empty; a line that
 // an error cut off does not.
 fn read_some(
+    rt: &HostRuntime,
     read: &mut [u8],
     line: &mut [u8],
     kept: usize,
@@ -85,24 +110,26 @@ fn read_some(
     ensures reads_some { ReadsSome read.new (program_holds line.old kept text.old space.old out.old) result line.new text.new
         space.new out.new }
 {
-    let got = libc::read(STDIN_FILENO, read);
-    if got < 0 {
-        os::fail(b"standard input");
-        return Progress::Failed;
-    }
-    if got == 0 {
+    let n = match rt.stdin().read(read) {
+        Ok(n) => n,
+        Err(e) => {
+            say_failed(rt, b"standard input", e);
+            return Progress::Failed;
+        }
+    };
+    if n == 0 {
         if 0 < kept {
-            answer(&line[..kept], space, out, text);
+            answer(rt, &line[..kept], space, out, text);
         }
         return Progress::Ended;
     }
-    let n = io::count(got, read);
-    take_chunk(&read[..n], line, kept, space, out, text)
+    take_chunk(rt, &read[..n], line, kept, space, out, text)
 }
 
 // Reads to the end. A proved loop has to end, and nothing says that the input does, so the loop counts
 // down from a number that no run uses up.
 fn run(
+    rt: &HostRuntime,
     read: &mut [u8],
     line: &mut [u8],
     space: &mut [u32],
@@ -115,7 +142,7 @@ fn run(
     let mut kept = 0;
     let mut turns = u64::MAX;
     while turns > 0 {
-        let progress = read_some(read, line, kept, space, out, text);
+        let progress = read_some(rt, read, line, kept, space, out, text);
         let Progress::Kept(n) = progress else {
             return progress;
         };
@@ -127,24 +154,32 @@ fn run(
 
 // A table in a space of this length is never refused (`Started` in crates/session/specs/Program.antt); what `start`
 // answers is looked at all the same.
-fn serve() {
+fn serve(rt: &HostRuntime) {
     let mut space = new_space();
     let FreshAnswer::Done = start(&mut space) else {
-        io::write_all(STDERR_FILENO, b"no table could be made\n");
+        say(rt, b"no table could be made\n");
         return;
     };
     let mut out = new_out();
     let mut text = new_text();
     let mut line = new_line();
-    let mut read = io::large_buffer();
-    run(&mut read, &mut line, &mut space, &mut out, &mut text);
+    let mut read = [0u8; READ_AT_ONCE];
+    run(rt, &mut read, &mut line, &mut space, &mut out, &mut text);
 }
 
-// The program's own name is the first argument.
-fn main() {
-    if os::arg_count() > 1 {
-        say_usage();
+// Is there an argument after the program's own name?
+fn has_argument(rt: &HostRuntime) -> bool {
+    let mut first = [0u8; 1];
+    match rt.arg(1, &mut first) {
+        Err(FillError::NotPresent) => false,
+        _ => true,
+    }
+}
+
+fn main(rt: HostRuntime) {
+    if has_argument(&rt) {
+        say_usage(&rt);
         return;
     }
-    serve();
+    serve(&rt);
 }
