@@ -1,13 +1,13 @@
 #!/bin/sh
-# Installs what `rt check tables` and `rt staticlib engine` built: install.sh PREFIX [ARCHIVE [PROGRAM]], both seen from
-# the root. Below the prefix go the archive as lib/libtables.a, the header, the program, its page and the file of
-# pkg-config. DESTDIR, if set, stands before the prefix where files are written, not in what is written into them.
+# Installs what `rt lib` in crates/engine and `rt run` in crates/tables built: install.sh PREFIX [ARCHIVE [PROGRAM]], both
+# seen from the root. Below the prefix go the archive as lib/libtables.a, the header, the program, its page and the file
+# of pkg-config. DESTDIR, if set, stands before the prefix where files are written, not in what is written into them.
 set -eu
 cd "$(dirname "$0")"
 
 prefix=${1:-}
-archive=${2:-target/staticlib/libengine.a}
-program=${3:-target/bin/tables}
+archive=${2:-crates/engine/out/libengine.a}
+program=${3:-crates/tables/out/tables}
 root=${DESTDIR:-}$prefix
 
 case $prefix in
@@ -21,7 +21,7 @@ if [ -z "$prefix" ]; then
 fi
 for file in "$archive" "$program"; do
     if [ ! -f "$file" ]; then
-        echo "install.sh: there is no $file: run 'rt check tables' and 'rt staticlib engine' first" >&2
+        echo "install.sh: there is no $file: run 'rt lib' in crates/engine and 'rt run <stdin' in crates/tables first" >&2
         exit 1
     fi
 done

@@ -522,7 +522,7 @@ static void test_inputs(void)
 int main(int count, char **arguments)
 {
     static void (*const tests[])(void) = {test_usage, test_outputs, test_readers, test_inputs};
-    path = count > 1 ? arguments[1] : "target/bin/tables";
+    path = count > 1 ? arguments[1] : "crates/tables/out/tables";
     signal(SIGPIPE, SIG_IGN);
     take_first_three();
     hold(access(path, X_OK) == 0, path);

@@ -308,7 +308,7 @@ int main(int count, char **arguments)
         test_line_by_line,       test_long_why,    test_long_lines, test_pieces, test_single_bytes,
         test_many_lines_at_once, test_even_pieces, test_ends,       test_time,
     };
-    path = count > 1 ? arguments[1] : "target/bin/tables";
+    path = count > 1 ? arguments[1] : "crates/tables/out/tables";
     for (size_t i = 0; i < sizeof tests / sizeof *tests && failures < MOST_FAILURES; i++)
         tests[i]();
     printf("session pipe test: %s\n", failures == 0 ? "passed" : "FAILED");

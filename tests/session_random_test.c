@@ -18,7 +18,7 @@ enum {
     SHOWN = 120
 };
 
-static const char *path = "target/bin/tables";
+static const char *path = "crates/tables/out/tables";
 static const char *const kept = "target/tests/failed_session.in";
 static uint64_t seed = 1;
 static unsigned failures;
