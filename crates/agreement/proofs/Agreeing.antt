@@ -13,7 +13,7 @@ use Rattle.forms.specs.Compact.{same}
 use Rattle.plain.specs.Words.{Word}
 use Rattle.plain.specs.Coding.{Coding}
 use Rattle.plain.specs.CodingLaws.{CodingLaws}
-use Rattle.plain.specs.Requests.{finish, next, load, instance, counts, Reply, at, used, refused, Result}
+use Rattle.plain.specs.Requests.{finish, next, load, instance, counts, Reply, used, refused, Result}
 use Rattle.plain.specs.Table as table
 use Rattle.plain.specs.Table.{Table, subgoal_at, answer_at, subgoal_of_answer, called_forms, number, subgoal_of, answer_of, following, with_finished, stays, writes, step}
 use Rattle.plain.proofs.AfterLaws.{after-found}

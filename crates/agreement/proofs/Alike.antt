@@ -3,7 +3,7 @@ use Prim.Native.Nat.{ℕ}
 use mathlib.Core.List.{List}
 use mathlib.Core.Path.{◌≡◌, refl, sym, ap, ◌∙◌, subst}
 use Rattle.forms.specs.Cells.{arity_of}
-use Rattle.forms.specs.Stored.{StoredForm, stored_of, compact_stored, pair_stored}
+use Rattle.forms.specs.Stored.{stored_of}
 use Rattle.forms.proofs.StoredLaws.{StoredLaws, stored_of_lem}
 use Rattle.plain.specs.Coding.{Coding, coded_as, coding_of, compact_coding, pair_coding}
 use Rattle.plain.specs.Requests.{Request, Result, Seen}

@@ -1,8 +1,7 @@
 -- Gathering with a higher bound decides alike (specs/Bounds.antt).
 use Prim.Native.Nat.{ℕ, suc, ◌<◌, ◌≤◌}
 use mathlib.Core.Bool.{Bool, true, false}
-use mathlib.Core.List.{List}
-use mathlib.Core.Path.{◌≡◌, refl, sym, ap, ◌∙◌}
+use mathlib.Core.Path.{◌≡◌, refl, ap}
 use native.Mathlib.Omega.{arith}
 use lib.Dec.{leb}
 use lib.ListN.{length}
@@ -15,7 +14,7 @@ use Rattle.trie.specs.Siblings.{Trie}
 use Rattle.trie.specs.Paths.{Path, none, tokens, gather}
 use Rattle.trie.specs.Runs.{Climb, lost, to_root, cut, climbed}
 use Rattle.trie.proofs.PathLaws.{Tells, climbed-tells}
-use Rattle.store.specs.Decisions.{Decision, Chain, broken, unbroken, on_path, headed, sound}
+use Rattle.store.specs.Decisions.{Decision, Chain, broken, unbroken, on_path, headed}
 use Rattle.agreement.specs.Bounds.{BoundFree}
 
 -- what is done with a path, where nothing is done with one that fails the test

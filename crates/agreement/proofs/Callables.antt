@@ -1,6 +1,6 @@
 -- Every subgoal that calls make is a term to call: its form begins with an atom or a functor.
 use Prim.Native.Nat.{ℕ, suc, ◌≤◌, ◌<◌}
-use mathlib.Core.Path.{◌≡◌, sym, ap, ◌∙◌, subst}
+use mathlib.Core.Path.{◌≡◌}
 use mathlib.Core.Bool.{true}
 use mathlib.Core.List.{List, [], ◌∷◌}
 use native.Mathlib.Omega.{arith}
@@ -11,7 +11,7 @@ use Rattle.basis.proofs.Cases.{by_cases}
 use Rattle.plain.specs.Words.{Word}
 use Rattle.plain.specs.Coding.{Coding, predicate}
 use Rattle.plain.specs.Requests.{Request, left}
-use Rattle.plain.specs.Table.{Table, Subgoal, fresh, subgoal_at, with_subgoal, with_finished, with_entry, step}
+use Rattle.plain.specs.Table.{Table, fresh, subgoal_at, with_subgoal, with_finished, with_entry, step}
 use Rattle.plain.proofs.RecordLaws.{subgoal_at-before, subgoal_at-new, subgoals-count, subgoal_at-lasts, finished-count, entry-lasts, entry-subgoals}
 use Rattle.plain.proofs.Changes.{SubgoalEnters, AnswerEnters, AnswersEnter, no-more, one_more_lem, Changed, stayed, subgoal-enters, answer-enters, finishes, answers-enter, step-changed}
 use Rattle.agreement.specs.Whole.{ReadingAgain}

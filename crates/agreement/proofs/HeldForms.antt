@@ -1,14 +1,14 @@
 -- Forms that are held while others are entered, on any records, sound or damaged: one view before a form is entered and one
 -- after it.
-use Prim.Native.Nat.{ℕ, zero, suc, ◌+◌, ◌-◌, ◌<◌, ◌≤◌}
+use Prim.Native.Nat.{ℕ, ◌+◌, ◌-◌, ◌<◌, ◌≤◌}
 use mathlib.Core.Path.{◌≡◌, refl, sym, ap, ◌∙◌, subst}
-use mathlib.Core.Bool.{true, false, ◌&&◌}
-use mathlib.Core.List.{List, [], ◌∷◌, ◌++◌}
+use mathlib.Core.Bool.{true, false}
+use mathlib.Core.List.{List, [], ◌∷◌}
 use mathlib.Core.Logic.{◌⊎◌, inl, inr}
 use native.Mathlib.Omega.{arith}
 use lib.Dec.{eqb}
 use lib.ListN.{length}
-use borrow.Author.Tests.{eqb-true, eqb-false, eq-eqb, ne_eqb, lt-ltb, le-leb}
+use borrow.Author.Tests.{eqb-true, eq-eqb, ne_eqb, lt-ltb, le-leb}
 use Rattle.basis.specs.Choice.{pick}
 use Rattle.basis.proofs.Cases.{by_cases}
 use Rattle.plain.specs.Words.{Word}
@@ -25,7 +25,7 @@ use Rattle.trie.specs.Index.{search_indexed}
 use Rattle.trie.specs.Entered.{Relinked}
 use Rattle.trie.proofs.StayLaws.{Keeps, keeps_then, walk_kept, with_tokens, tokens-nodes, tokens-links, tokens-at, After, given-keeps, given-whole, given-after, linked-keeps, linked-walk}
 use Rattle.store.specs.Views.{View, answer_trie}
-use Rattle.store.specs.Decisions.{says, enters_answer, sound_answer, sound_answer_of, sound_last, answered_old, answered_at, walk_to_by}
+use Rattle.store.specs.Decisions.{says, enters_answer, sound_answer, sound_last, answered_old, answered_at, walk_to_by}
 use Rattle.agreement.specs.Records.{Alike, with_link, with_last, with_next, updated, changed_view}
 use Rattle.agreement.proofs.SameBut.{follows-wider}
 

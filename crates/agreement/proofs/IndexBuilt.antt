@@ -1,6 +1,6 @@
 -- A build on cells that hold a table: every child that enters is found again, and no node is judged damaged.
 use mathlib.Core.Path.{◌≡◌, refl, sym, ap, ◌∙◌, subst}
-use mathlib.Core.Bool.{true, false, false≢true}
+use mathlib.Core.Bool.{true, false≢true}
 use mathlib.Core.List.{List, [], ◌∷◌, ◌++◌, head-eq_of_cons-eq}
 use Prim.Native.Nat.{ℕ, zero, suc, ◌≤◌, ◌<◌}
 use native.Mathlib.Omega.{arith}
@@ -10,7 +10,6 @@ use borrow.Author.Tests.{eqb-false, eq-eqb, ne_eqb}
 use Rattle.basis.specs.Choice.{pick}
 use Rattle.basis.specs.Editions.{known_edition}
 use Rattle.basis.proofs.Cases.{by_cases}
-use Rattle.forms.specs.Cells.{arity_of}
 use Rattle.plain.specs.Words.{Word}
 use Rattle.plain.specs.Coding.{Coding, coding_of}
 use Rattle.plain.specs.CodingLaws.{CodingLaws}

@@ -6,7 +6,6 @@ use mathlib.Core.List.{List, [], ◌∷◌}
 use Prim.Native.Nat.{ℕ}
 use native.Mathlib.Omega.{arith}
 use Rattle.basis.specs.Editions.{known_edition}
-use Rattle.forms.specs.Cells.{arity_of}
 use Rattle.plain.specs.Coding.{Coding, coding_of}
 use Rattle.plain.specs.CodingLaws.{CodingLaws}
 use Rattle.plain.specs.Requests.{Request, Result, Seen, trace, left}

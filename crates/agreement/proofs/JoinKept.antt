@@ -1,8 +1,8 @@
 -- A join that is accepted leaves out none of its forms: at each turn every form before it is held, and each that is to come is
 -- held or its walk stopped, with no more tokens left than were counted.
-use Prim.Native.Nat.{ℕ, zero, suc, ◌+◌, ◌-◌, ◌<◌, ◌≤◌, min, max}
+use Prim.Native.Nat.{ℕ, zero, suc, ◌+◌, ◌<◌, ◌≤◌}
 use mathlib.Core.Path.{◌≡◌, refl, sym, ap, ◌∙◌, subst}
-use mathlib.Core.Bool.{Bool, true, false, ◌&&◌, ◌||◌}
+use mathlib.Core.Bool.{Bool, true, false, ◌&&◌}
 use mathlib.Core.List.{List, [], ◌∷◌, ◌++◌}
 use native.Mathlib.Omega.{arith}
 use lib.Dec.{eqb, leb, ltb}
@@ -46,12 +46,12 @@ use Rattle.store.specs.Changes.{answer_given, form_given_by, forms_given_by, cha
 use Rattle.store.specs.Calls.{used_answers, reply, under_by, under_any_by, space_step_by, indexed_way}
 use Rattle.store.proofs.CallsWalks.{walk-whole}
 use Rattle.store.proofs.JoinCases.{given-written}
-use Rattle.agreement.specs.Records.{Wide, Alike, with_link, changed_view, Fits}
+use Rattle.agreement.specs.Records.{Alike, with_link, changed_view, Fits}
 use Rattle.agreement.specs.JoinKept.{AllKept, JoinedEnters, JoinKeepsAll}
 use Rattle.agreement.proofs.Theorem.{header-any}
 use Rattle.agreement.proofs.CellChanges.{sizes-wide, cells-change}
 use Rattle.agreement.proofs.Frame.{from-left, decision-leaves, space-read}
-use Rattle.agreement.proofs.HeldForms.{Way, from, Rooted, to-root, HeldAt, held-says, Grew, grew, rooted_on, last_on, open-on, held_new, held_on, after_on, answer-made}
+use Rattle.agreement.proofs.HeldForms.{from, Rooted, to-root, HeldAt, held-says, Grew, grew, rooted_on, last_on, open-on, held_new, held_on, after_on, answer-made}
 
 -- ---- lists
 

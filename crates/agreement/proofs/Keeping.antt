@@ -5,9 +5,8 @@ use mathlib.Core.Bool.{true}
 use mathlib.Core.List.{List, [], ◌∷◌, map}
 use mathlib.Core.Path.{◌≡◌, refl, sym, ap, ◌∙◌, subst}
 use Rattle.basis.specs.Editions.{known_edition}
-use Rattle.forms.specs.Cells.{arity_of}
 use Rattle.plain.specs.Coding.{coding_of}
-use Rattle.plain.specs.Requests.{Request, Reply, Result, Seen, trace, left}
+use Rattle.plain.specs.Requests.{Request, Result, trace, left}
 use Rattle.plain.specs.Table.{Table, fresh, step}
 use Rattle.plain.proofs.StoredCoding.{coding-laws}
 use Rattle.space.specs.Layout.{sizes_of, node_in}
@@ -22,7 +21,7 @@ use Rattle.store.specs.Views.{subgoal_trie, view_of}
 use Rattle.store.specs.Decisions.{Decision, decide}
 use Rattle.store.specs.Changes.{change}
 use Rattle.store.specs.Building.{nodes_under, nodes_of}
-use Rattle.store.specs.Calls.{space_step, space_step_by, Answers, AnswersBy, counted_cells}
+use Rattle.store.specs.Calls.{space_step, space_step_by, Answers}
 use Rattle.store.specs.Keeping.{kept_step, ledger_of}
 use Rattle.agreement.specs.Keeping.{TrueOf, SameKept, KeptSame, ShortKept, KeptShort, KeptWhole, BlankTrue, Aid, unaided, indexed, kept, way_by, ledger_left, Aided, KeptMade, MeetsKept, KeptHistory, asked_kept, seen_kept, KeptHistories, KeptOnwards, KeptLived}
 use Rattle.agreement.specs.Whole.{edition_of, table_of}

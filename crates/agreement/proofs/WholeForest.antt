@@ -12,7 +12,7 @@ use Rattle.forms.specs.Compact.{same}
 use Rattle.plain.specs.Words.{Word, has, inits, all_inits, prefixes}
 use Rattle.plain.specs.Coding.{Coding}
 use Rattle.plain.specs.Requests.{Open}
-use Rattle.plain.specs.Table.{Table, Subgoal, Answer, called_forms, answers_to, nodes, after, with_subgoal}
+use Rattle.plain.specs.Table.{Table, Subgoal, Answer, called_forms, answers_to, after, with_subgoal}
 use Rattle.plain.proofs.WordLaws.{has-append, has-union}
 use Rattle.plain.proofs.PrefixLaws.{starts, begins, has-prefixes, has-begins, begins-witness, begins-append}
 use Rattle.plain.proofs.Entries.{under, begins-under}

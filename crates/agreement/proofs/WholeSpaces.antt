@@ -5,7 +5,6 @@ use mathlib.Core.Bool.{true, false≢true}
 use mathlib.Core.List.{List}
 use Rattle.basis.specs.Editions.{known_edition}
 use Rattle.basis.proofs.Cases.{by_cases}
-use Rattle.forms.specs.Cells.{arity_of}
 use Rattle.plain.specs.Coding.{Coding, coding_of}
 use Rattle.plain.specs.CodingLaws.{CodingLaws}
 use Rattle.plain.specs.Requests.{Request, Result, left}

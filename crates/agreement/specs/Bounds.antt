@@ -1,6 +1,6 @@
 -- The bound of a path: gathering may allow more tokens than a legal form has, and nothing is answered otherwise. So the
 -- one bound of 383 serves every stored form, and a path of numbered pair form is held to its 256 by what is legal.
-use Rattle.std.specs.Prelude.{ℕ, ◌≤◌, Bool, true, ◌≡◌, length}
+use Rattle.std.specs.Prelude.{ℕ, ◌≤◌, Bool, true, ◌≡◌}
 use Rattle.forms.specs.Stored.{StoredForm}
 use Rattle.plain.specs.Words.{Word}
 use Rattle.trie.specs.Siblings.{Trie}

@@ -1,14 +1,11 @@
 -- Then the states, as recorded: the cells hold the table.
 use Prim.Native.Nat.{ℕ, zero, suc, ◌+◌, ◌≤◌, ◌<◌}
 use mathlib.Core.Path.{◌≡◌, refl, sym, ap, ◌∙◌, subst}
-use mathlib.Core.Bool.{true, false}
-use mathlib.Core.List.{List, [], ◌∷◌, ◌++◌, map, append-nil}
+use mathlib.Core.List.{List, [], ◌∷◌, ◌++◌, append-nil}
 use native.Mathlib.Omega.{arith}
-use lib.Dec.{eqb}
 use lib.ListN.{length, get_or}
-use borrow.Author.Tests.{eqb-true, eqb-false, eq-eqb, ne_eqb}
+use borrow.Author.Tests.{eq-eqb, ne_eqb}
 use Rattle.basis.specs.Choice.{pick}
-use Rattle.basis.proofs.Cases.{by_cases}
 use Rattle.forms.specs.Compact.{same}
 use Rattle.plain.specs.Words.{Word}
 use Rattle.plain.specs.Coding.{Coding}
@@ -21,7 +18,6 @@ use Rattle.plain.proofs.Counted.{Forest}
 use Rattle.plain.proofs.Soundness.{Sound}
 use Rattle.plain.proofs.ReasonLaws.{lowest-forms}
 use Rattle.space.specs.Layout.{Sizes, subgoal_offset_of}
-use Rattle.space.specs.Heading.{header_of}
 use Rattle.space.specs.Fresh.{fresh_answer, fresh_space}
 use Rattle.space.specs.declared.Head.{Head}
 use Rattle.space.specs.declared.FreshAnswer.TheVariants.{Done}

@@ -1,17 +1,15 @@
 -- What a table stores, and that a carried table stores the same.
 use Prim.Native.Nat.{ℕ, zero, suc, ◌≤◌, ◌<◌}
 use mathlib.Core.Path.{◌≡◌, refl, sym, ap, ◌∙◌}
-use mathlib.Core.Bool.{Bool, true, false, ◌&&◌}
-use mathlib.Core.List.{List, [], ◌∷◌, map}
+use mathlib.Core.Bool.{true, ◌&&◌}
+use mathlib.Core.List.{List, [], ◌∷◌}
 use native.Mathlib.Omega.{arith}
 use lib.Dec.{leb}
 use lib.ListN.{length, get_or, length-map, get_or-map}
 use borrow.Author.Tests.{leb-true, le-leb}
-use Rattle.forms.specs.Numbering.{met}
 use Rattle.plain.specs.Words.{Word}
 use Rattle.plain.specs.Coding.{Coding}
 use Rattle.plain.specs.Table.{Table, Subgoal, Answer, no_subgoal, no_answer, subgoal_at, answer_at, subgoal_of_answer, called_forms, nodes}
-use Rattle.plain.specs.Consequences.{Kept}
 use Rattle.plain.proofs.Soundness.{Sound, Fit}
 use Rattle.carrying.specs.Recoding.{Recoding, recoded, takes_word}
 use Rattle.carrying.specs.Carrying.{carried_subgoal, carried_answer, carried, answer_forms, takes_words, takes_table, holdable}

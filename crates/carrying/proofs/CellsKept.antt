@@ -1,13 +1,11 @@
 -- What a decision that fits writes stays within the end of the space.
-use Prim.Native.Nat.{ℕ, ◌+◌, ◌-◌, ◌*◌, ◌≤◌, ◌<◌}
-use mathlib.Core.Path.{◌≡◌, refl, sym, ap, ◌∙◌, subst}
-use mathlib.Core.Bool.{true, false}
+use Prim.Native.Nat.{ℕ, ◌+◌, ◌-◌, ◌≤◌, ◌<◌}
+use mathlib.Core.Path.{◌≡◌, refl, ◌∙◌}
 use mathlib.Core.List.{List, [], ◌∷◌, ◌++◌}
 use native.Mathlib.Omega.{arith}
 use lib.Dec.{eqb}
-use lib.ListN.{length, get_or, set}
+use lib.ListN.{length, set}
 use borrow.Author.Tests.{eqb-false}
-use Rattle.basis.specs.Choice.{pick}
 use Rattle.basis.specs.Writes.{Write, put, writes}
 use Rattle.basis.proofs.Cases.{by_cases}
 use Rattle.basis.proofs.WritesLaws.{Apart}
@@ -15,7 +13,7 @@ use Rattle.plain.specs.Words.{Word}
 use Rattle.space.specs.Layout.{Sizes, subgoal_offset_of, answer_offset_of, end_offset, nodes_cell, subgoals_cell, answers_cell, node_at, child_cell, sibling_cell, link_cell, subgoal_at, first_cell, last_cell, answer_at, next_cell, node_to, subgoal_to, answer_to, subgoal_in}
 use Rattle.space.specs.declared.Head.{Head}
 use Rattle.trie.specs.Append.{new_node, new_root, lead_cell, append_node, append_path}
-use Rattle.store.specs.Views.{View, view_of}
+use Rattle.store.specs.Views.{view_of}
 use Rattle.store.specs.Decisions.{Decision}
 use Rattle.store.specs.Changes.{new_subgoal, subgoal_entered, answer_entered, change, change_by}
 use Rattle.agreement.specs.Records.{Wide, Fits, says-fits, gives_fits, subgoal-fits, answer-fits, empty-fits, finish-fits}

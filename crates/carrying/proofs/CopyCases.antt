@@ -1,36 +1,30 @@
 -- One law for each case of the copy, for the code to cite where it returns.
-use Prim.Native.Nat.{ℕ, suc, ◌+◌, ◌≤◌, ◌<◌}
-use mathlib.Core.Path.{◌≡◌, refl, sym, ap, ◌∙◌, subst}
-use mathlib.Core.Bool.{Bool, true, false, ◌&&◌}
-use mathlib.Core.List.{List, []}
-use native.Mathlib.Omega.{arith}
+use Prim.Native.Nat.{ℕ}
+use mathlib.Core.Path.{◌≡◌, sym, ◌∙◌}
+use mathlib.Core.Bool.{true, false, ◌&&◌}
+use mathlib.Core.List.{List}
 use lib.Dec.{eqb, leb}
-use lib.ListN.{length}
 use borrow.Author.Tests.{eq-eqb}
 use Rattle.forms.specs.Cells.{arity_of}
 use Rattle.forms.specs.Stored.{stores_pairs}
-use Rattle.plain.specs.Words.{brings}
 use Rattle.plain.specs.Coding.{coding_of}
-use Rattle.plain.specs.Table.{Table, subgoal_of_answer, called_forms, nodes}
 use Rattle.space.specs.Layout.{sizes_of}
 use Rattle.space.specs.Heading.{space_header}
 use Rattle.space.specs.Fresh.{fresh_answer_in}
 use Rattle.space.specs.declared.FreshAnswer.{FreshAnswer}
 use Rattle.space.specs.declared.FreshAnswer.TheVariants.{Done, Refused}
 use Rattle.space.specs.declared.Head.{Head}
-use Rattle.space.specs.declared.Header.{Header}
 use Rattle.space.specs.declared.Header.TheVariants as header
 use Rattle.store.specs.Views.{View, view_of}
 use Rattle.agreement.specs.Whole.{table_read, whole_space}
 use Rattle.agreement.proofs.WholeTable.{subgoals-length, answers-length}
 use Rattle.carrying.specs.Recoding.{Recoding}
 use Rattle.carrying.specs.Carrying.{carried, takes_table, holdable, carrying}
-use Rattle.carrying.specs.Copying.{source_loads, built, where_fresh, copy_under, copy_reply, copy_built, copy_space}
+use Rattle.carrying.specs.Copying.{source_loads, built, copy_under, copy_reply, copy_built, copy_space}
 use Rattle.carrying.specs.Clauses.{CopiesInto, slow_fits}
-use Rattle.carrying.specs.Needs.{answers_bring}
 use Rattle.carrying.specs.Quick.{takes_nodes, quick_reply}
 use Rattle.carrying.proofs.RecodingLaws.{Recodes}
-use Rattle.carrying.proofs.CarriedLaws.{Stored, carried-subgoals, carried-answers}
+use Rattle.carrying.proofs.CarriedLaws.{carried-subgoals, carried-answers}
 use Rattle.carrying.proofs.NodeCounts.{nodes-carried}
 use Rattle.carrying.proofs.LoadingLaws.{loads-stored}
 use Rattle.carrying.proofs.Needs.{needs}

@@ -1,13 +1,12 @@
 -- The loops of the copy: what each turn adds, and that the target holds a table before each.
-use Prim.Native.Nat.{ℕ, zero, suc, ◌+◌, ◌≤◌, ◌<◌}
+use Prim.Native.Nat.{ℕ, zero, suc, ◌+◌, ◌≤◌}
 use mathlib.Core.Path.{◌≡◌, refl, sym, ap, ◌∙◌, subst}
 use mathlib.Core.List.{List, [], ◌∷◌, ◌++◌, map, append-nil, append_assoc, map-append}
 use native.Mathlib.Omega.{arith}
 use lib.Dec.{eqb}
-use lib.ListN.{length, set, length-append}
+use lib.ListN.{length, set}
 use borrow.Author.Tests.{eqb-true, eqb-false}
 use Rattle.basis.proofs.Cases.{by_cases}
-use Rattle.plain.specs.Words.{Word}
 use Rattle.plain.specs.Coding.{Coding}
 use Rattle.plain.specs.CodingLaws.{CodingLaws}
 use Rattle.plain.specs.Table.{Table, Subgoal, Answer}
@@ -32,7 +31,7 @@ use Rattle.carrying.specs.Carrying.{carried_subgoal, carried_answer, carried}
 use Rattle.carrying.specs.Copying.{subgoal_given, subgoals_given, answers_given, state_number, states_given, built}
 use Rattle.carrying.specs.Clauses.{first_subgoals, first_answers, after_subgoals, after_answers, after_states}
 use Rattle.carrying.proofs.Building.{begun, subgoals-hold}
-use Rattle.carrying.proofs.BuildingAnswers.{Partly, begun-partly, Entered, answers-hold}
+use Rattle.carrying.proofs.BuildingAnswers.{Partly, begun-partly, answers-hold}
 
 -- ---- lists by number
 

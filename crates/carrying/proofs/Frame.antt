@@ -2,13 +2,12 @@
 use Prim.Native.Nat.{ℕ, zero, suc, ◌+◌, ◌-◌, ◌≤◌, ◌<◌}
 use mathlib.Core.Path.{◌≡◌, refl, sym, ap, ◌∙◌, subst}
 use mathlib.Core.Bool.{Bool, true, false, ◌&&◌}
-use mathlib.Core.List.{List, [], ◌∷◌, ◌++◌, map, append_assoc}
+use mathlib.Core.List.{List, [], ◌∷◌, ◌++◌, append_assoc}
 use native.Mathlib.Omega.{arith}
 use lib.Dec.{leb}
 use lib.ListN.{length, get_or, set, drop, replicate, length-append, length-replicate, length-drop}
 use lib.Seq.{get_or-append-add}
 use borrow.Author.Tests.{leb-true}
-use Rattle.basis.specs.Choice.{pick}
 use Rattle.basis.specs.Writes.{put}
 use Rattle.basis.proofs.Cases.{by_cases}
 use Rattle.forms.specs.Cells.{arity_of}
@@ -19,17 +18,15 @@ use Rattle.plain.specs.CodingLaws.{CodingLaws}
 use Rattle.plain.specs.Table.{Table, Subgoal, Answer, subgoal_at, answer_at, subgoal_of_answer}
 use Rattle.plain.proofs.StoredCoding.{coding-laws}
 use Rattle.plain.proofs.Soundness.{Sound, Fit}
-use Rattle.space.specs.Layout as layout
 use Rattle.space.specs.Layout.{Sizes, sizes_of, subgoal_offset_of, end_offset, state_cell}
 use Rattle.space.specs.Heading.{in_range, header_of}
 use Rattle.space.specs.Fresh.{fresh_header, fresh_cells, fresh_fits, fresh_answer, fresh_space}
 use Rattle.space.specs.declared.FreshAnswer.{FreshAnswer}
 use Rattle.space.specs.declared.FreshAnswer.TheVariants.{Done, Refused}
-use Rattle.space.specs.declared.Head.{Head}
 use Rattle.store.specs.Views.{View, view_of}
 use Rattle.store.specs.Decisions as decisions
 use Rattle.store.specs.Decisions.{answered_at, walk_to}
-use Rattle.store.specs.Changes.{answer_given, form_given, form_given_by, change}
+use Rattle.store.specs.Changes.{form_given, form_given_by, change}
 use Rattle.store.proofs.JoinCases.{given-written}
 use Rattle.trie.specs.Siblings.{search_children}
 use Rattle.agreement.specs.Records.{Wide, Fits}
@@ -42,18 +39,17 @@ use Rattle.agreement.proofs.Holding.{Holds}
 use Rattle.agreement.proofs.ReadingAgain.{coding-again}
 use Rattle.agreement.proofs.Theorem.{fresh_in}
 use Rattle.agreement.proofs.WholeTable.{subgoals-length, answers-length, subgoal-at, answer_at_lem}
-use Rattle.carrying.specs.Recoding.{Recoding, recoded, unchanged, widening}
+use Rattle.carrying.specs.Recoding.{Recoding, recoded}
 use Rattle.carrying.specs.Carrying.{carried_subgoal, carried_answer, carried}
 use Rattle.carrying.specs.Copying.{subgoal_given, state_number, states_given, built, copy_reply, copy_space}
-use Rattle.carrying.specs.Clauses.{first_subgoals, first_answers, after_subgoals, after_answers}
+use Rattle.carrying.specs.Clauses.{first_subgoals, after_subgoals, after_answers}
 use Rattle.carrying.specs.Promises.{CopyFrames}
 use Rattle.carrying.proofs.RecodingLaws.{Recodes}
 use Rattle.carrying.proofs.CarriedLaws.{carried-subgoal, carried-answer, carried-subgoals, carried-answers}
 use Rattle.carrying.proofs.Building.{begun}
-use Rattle.carrying.proofs.BuildingAnswers.{Partly}
 use Rattle.carrying.proofs.CopySteps.{subgoals-next, answers_next, subgoals-held, answers-held, subgoals-first, answers-first, subgoals-all, answers-all}
 use Rattle.carrying.proofs.CellsKept.{Framed, framed-same, framed_then, writes-framed, subgoal-row, change-framed}
-use Rattle.carrying.proofs.Theorems.{Went, went, went-space, went-sound, copies}
+use Rattle.carrying.proofs.Theorems.{went, went-space, went-sound, copies}
 
 -- ---- one decision on cells that hold a table
 

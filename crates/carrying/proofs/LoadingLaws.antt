@@ -1,8 +1,8 @@
 -- What loads of a source is stored, and a source that holds a table loads.
 use Prim.Native.Nat.{ℕ, zero, suc, ◌≤◌, ◌<◌}
-use mathlib.Core.Path.{◌≡◌, refl, sym, ap, ◌∙◌, subst}
+use mathlib.Core.Path.{◌≡◌, refl, sym, ap, ◌∙◌}
 use mathlib.Core.Bool.{Bool, true, false, ◌&&◌, not, true≢false, false≢true}
-use mathlib.Core.List.{List, [], ◌∷◌, map, head-eq_of_cons-eq, tail-eq_of_cons-eq}
+use mathlib.Core.List.{List, [], ◌∷◌, head-eq_of_cons-eq, tail-eq_of_cons-eq}
 use native.Mathlib.Omega.{arith}
 use native.Mathlib.Nat.{le_of_suc-le-suc}
 use lib.Dec.{eqb}
@@ -21,7 +21,7 @@ use Rattle.space.proofs.JudgingLaws.{subgoal-bounds, answer-bounds}
 use Rattle.trie.specs.Paths.{Path, none, tokens}
 use Rattle.store.specs.Views.{View}
 use Rattle.store.specs.Decisions.{sound_subgoal, sound_answer, sound_pair}
-use Rattle.agreement.specs.Whole.{every_below, word_of, path_passes, subgoal_path, answer_path, subgoal_read, answer_read, table_read}
+use Rattle.agreement.specs.Whole.{every_below, word_of, path_passes, subgoal_path, answer_path, table_read}
 use Rattle.agreement.proofs.SameRecords.{Same, variables-met, subgoal-judged, gather-subgoal, own-low, own-high, answer-judged, gather-answer}
 use Rattle.agreement.proofs.TableRead.{same-table}
 use Rattle.agreement.proofs.WholeTable.{subgoals-length, answers-length, subgoal-at, answer_at_lem, owner_at}

@@ -1,14 +1,13 @@
 -- The count of what a copy stores.
-use Prim.Native.Nat.{ℕ, zero, suc, ◌+◌, ◌-◌, ◌≤◌, ◌<◌, max}
+use Prim.Native.Nat.{ℕ, zero, suc, ◌+◌, ◌≤◌, ◌<◌, max}
 use mathlib.Core.Path.{◌≡◌, refl, sym, ap, ◌∙◌, subst}
 use mathlib.Core.List.{List, [], ◌∷◌, ◌++◌, append-nil, append_assoc}
 use native.Mathlib.Omega.{arith}
 use lib.Dec.{eqb}
-use lib.ListN.{length, get_or, length-append}
-use lib.Seq.{get_or_at}
+use lib.ListN.{length, get_or}
 use Rattle.basis.proofs.Cases.{by_cases}
-use Rattle.plain.specs.Words.{Word, distinct, prefixes, all_inits, union, common, most, brings}
-use Rattle.plain.specs.Table.{Table, Subgoal, Answer, no_answer, answer_at, subgoal_of_answer, called_forms, answers_to, answer_nodes, nodes, with_answer}
+use Rattle.plain.specs.Words.{Word, distinct, prefixes, all_inits, union, most, brings}
+use Rattle.plain.specs.Table.{Table, Answer, no_answer, answer_at, called_forms, answers_to, answer_nodes, nodes}
 use Rattle.plain.proofs.LongestShared.{brought}
 use Rattle.plain.proofs.EnteringLaws.{nodes-brought}
 use Rattle.carrying.specs.Needs.{answers_bring, Needs}

@@ -1,15 +1,14 @@
 -- The nodes of a table: more with more words, and as many where the words are recoded.
-use Prim.Native.Nat.{ℕ, zero, suc, ◌+◌, ◌-◌, ◌≤◌, max}
+use Prim.Native.Nat.{ℕ, zero, suc, ◌≤◌}
 use mathlib.Core.Path.{◌≡◌, refl, sym, ap, ◌∙◌, subst}
-use mathlib.Core.Bool.{Bool, true, false, ◌&&◌}
+use mathlib.Core.Bool.{true}
 use mathlib.Core.List.{List, [], ◌∷◌, ◌++◌, map, append-nil, append_assoc, map-append}
 use native.Mathlib.Omega.{arith}
 use lib.Dec.{eqb}
 use lib.ListN.{length, length-map}
 use borrow.Author.Tests.{eqb-true, eqb-false, eq-eqb, ne_eqb}
-use Rattle.basis.specs.Choice.{pick}
 use Rattle.basis.proofs.Cases.{by_cases}
-use Rattle.plain.specs.Words.{Word, distinct, prefixes, all_inits, union, common, most}
+use Rattle.plain.specs.Words.{Word, distinct, common, most}
 use Rattle.plain.specs.Table.{Table, Subgoal, Answer, called_forms, answers_to, answer_nodes, nodes}
 use Rattle.plain.proofs.LongestShared.{brought}
 use Rattle.carrying.specs.Recoding.{Recoding, recoded, takes_word}

@@ -1,28 +1,27 @@
 -- Every node of a space that passes is on the path of a form, so what holds of all forms' tokens holds of all nodes'.
 use Prim.Native.Nat.{ℕ, zero, suc, ◌≤◌, ◌<◌}
 use mathlib.Core.Path.{◌≡◌, refl, sym, ap, ◌∙◌, subst}
-use mathlib.Core.Bool.{Bool, true, false, ◌&&◌, true≢false, false≢true}
-use mathlib.Core.List.{List, [], ◌∷◌, ◌++◌, map}
+use mathlib.Core.Bool.{true, true≢false, false≢true}
+use mathlib.Core.List.{List, [], ◌∷◌, ◌++◌}
 use native.Mathlib.Omega.{arith}
-use lib.Dec.{eqb, leb, ltb}
+use lib.Dec.{eqb, ltb}
 use lib.ListN.{length, get_or, length-map, get_or-map}
 use borrow.Author.Tests.{eqb-true, eqb-false, ltb-true, ltb-false}
-use Rattle.basis.specs.Choice.{pick}
 use Rattle.basis.specs.Editions.{known_edition}
 use Rattle.basis.proofs.Cases.{by_cases}
 use Rattle.forms.specs.Cells.{arity_of}
 use Rattle.forms.specs.Stored.{stores_pairs}
-use Rattle.plain.specs.Words.{Word, has, prefixes}
+use Rattle.plain.specs.Words.{Word, has}
 use Rattle.plain.specs.Coding.{Coding, coding_of}
 use Rattle.plain.specs.CodingLaws.{CodingLaws}
-use Rattle.plain.specs.Table.{Table, Subgoal, Answer, no_subgoal, no_answer, subgoal_at, answer_at, subgoal_of_answer, called_forms, answers_to, nodes}
+use Rattle.plain.specs.Table.{Table, Subgoal, Answer, no_subgoal, no_answer, subgoal_at, answer_at, subgoal_of_answer, called_forms, answers_to}
 use Rattle.plain.proofs.StoredCoding.{coding-laws}
 use Rattle.plain.proofs.Entries.{under, begins-under}
 use Rattle.plain.proofs.Keys.{key, has-place, place-has}
 use Rattle.plain.proofs.PrefixLaws.{begins, has-prefixes, begins-witness}
 use Rattle.plain.proofs.StoredForms.{starts-rest}
 use Rattle.space.specs.Layout.{sizes_of}
-use Rattle.space.specs.Heading.{header_of, space_header}
+use Rattle.space.specs.Heading.{header_of}
 use Rattle.space.specs.Fresh.{fresh_answer_in}
 use Rattle.space.specs.declared.Head.{Head}
 use Rattle.space.specs.declared.Header.TheVariants as header
@@ -31,16 +30,16 @@ use Rattle.trie.specs.Siblings.{Trie, sound}
 use Rattle.trie.specs.Paths.{Path, none, tokens, below, gather, longest}
 use Rattle.trie.proofs.PathLaws.{gather-unsound, gather-root, gather-other, gather-deep, gather-up}
 use Rattle.store.specs.Views.{View, view_of}
-use Rattle.agreement.specs.Whole.{every_below, whole_space, table_of, edition_of}
+use Rattle.agreement.specs.Whole.{table_of, edition_of}
 use Rattle.agreement.proofs.TrieNodes.{par, Kind, is_root, is_child}
 use Rattle.agreement.proofs.TrieWalks.{key-some}
 use Rattle.agreement.proofs.SameRecords.{Same, nodes-count, gather-subgoal, gather-answer}
 use Rattle.agreement.proofs.Theorem.{header-any}
 use Rattle.agreement.proofs.WholeSpaces.{space-holds, whole-known}
-use Rattle.agreement.proofs.WholeTests.{and_both, and-of, every-below, below-every}
+use Rattle.agreement.proofs.WholeTests.{and-of, every-below, below-every}
 use Rattle.carrying.specs.Recoding.{Recoding, takes_word}
-use Rattle.carrying.specs.Carrying.{carried, answer_forms, takes_words, takes_table, holdable, carrying}
-use Rattle.carrying.specs.Copying.{where_fresh, copy_reply}
+use Rattle.carrying.specs.Carrying.{answer_forms, takes_words, takes_table, holdable, carrying}
+use Rattle.carrying.specs.Copying.{where_fresh}
 use Rattle.carrying.specs.Quick.{takes_nodes, quick_reply, CopyQuick}
 use Rattle.carrying.proofs.RecodingLaws.{Recodes, both}
 use Rattle.carrying.proofs.CarriedLaws.{carried-subgoals, carried-answers, takes_at}

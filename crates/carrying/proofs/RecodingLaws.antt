@@ -1,24 +1,23 @@
 -- Recoding keeps forms legal, and distinct.
-use Prim.Native.Nat.{ℕ, zero, suc, ◌+◌, ◌*◌, ◌/◌, ◌%◌, ◌^◌, ◌<◌}
+use Prim.Native.Nat.{ℕ, zero, suc, ◌+◌, ◌*◌, ◌/◌, ◌%◌, ◌<◌}
 use mathlib.Core.Path.{◌≡◌, refl, sym, ap, ◌∙◌}
-use mathlib.Core.Bool.{Bool, true, false, ◌&&◌, true≢false, false≢true}
-use mathlib.Core.List.{List, [], ◌∷◌, ◌++◌, map, head-eq_of_cons-eq, tail-eq_of_cons-eq}
+use mathlib.Core.Bool.{Bool, true, false, ◌&&◌, false≢true}
+use mathlib.Core.List.{List, [], ◌∷◌, map, head-eq_of_cons-eq, tail-eq_of_cons-eq}
 use native.Mathlib.Omega.{arith}
 use lib.Dec.{eqb, ltb}
 use lib.ListN.{length, length-map}
 use borrow.Author.Tests.{eqb-true, eqb-false, eq-eqb, ne_eqb, ltb-true}
-use Rattle.basis.specs.Choice.{pick}
 use Rattle.basis.proofs.Cases.{by_cases}
 use Rattle.forms.specs.declared.Token.{Token}
 use Rattle.forms.specs.declared.Token.TheVariants.{Sym, Begin, Last, Tail, Other}
 use Rattle.forms.specs.Cells.{kind, payload, tag, nil, BLIST, ELIST, EPAIR, variable, callable, shape_of, symbolic, token_of, arity_of}
-use Rattle.forms.specs.Terms.{Term, cell, arg, pair, pairs, every, reads, are_terms}
-use Rattle.forms.specs.Numbering.{rank, seen, met, renamed, numbered}
+use Rattle.forms.specs.Terms.{Term, cell, arg, pair, every, reads, are_terms}
+use Rattle.forms.specs.Numbering.{seen, met, renamed, numbered}
 use Rattle.forms.specs.Compact.{compact, Item, term, last, tail, filled, last_of, tail_of, inside, into, collected, whole, entered, items, front, form_terms, pair_form, are_forms, legal_form}
 use Rattle.forms.specs.Stored.{legal_pairs, stores_pairs, stored_of}
 use Rattle.forms.proofs.NumberingLaws.{mapped, every-size, begun-map}
 use Rattle.forms.proofs.FormLaws.{KeepsMarks, every-mapped}
-use Rattle.forms.proofs.RoundTrip.{LegalParts, parts-legal, legal-parts}
+use Rattle.forms.proofs.RoundTrip.{parts-legal, legal-parts}
 use Rattle.forms.proofs.PairForms.{pairs-legal, legal-pairs}
 use Rattle.forms.proofs.StoredLaws.{pairs-stored, lists-stored}
 use Rattle.plain.specs.Words.{Word}

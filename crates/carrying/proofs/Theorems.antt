@@ -1,11 +1,11 @@
 -- The promises of a copy, proved.
-use Prim.Native.Nat.{ℕ, zero, suc, ◌≤◌, ◌<◌}
+use Prim.Native.Nat.{ℕ, suc}
 use mathlib.Core.Path.{◌≡◌, refl, sym, ap, ◌∙◌, subst}
 use mathlib.Core.Bool.{Bool, true, false}
-use mathlib.Core.List.{List, [], ◌∷◌, map}
+use mathlib.Core.List.{List, [], ◌∷◌}
 use native.Mathlib.Omega.{arith}
 use lib.Dec.{eqb, leb, ltb}
-use lib.ListN.{length, get_or, drop}
+use lib.ListN.{length, drop}
 use borrow.Author.Tests.{eqb-true, eq-eqb}
 use Rattle.basis.specs.Choice.{pick}
 use Rattle.basis.specs.Editions.{known_edition}
@@ -13,9 +13,8 @@ use Rattle.basis.proofs.Cases.{by_cases}
 use Rattle.forms.specs.Cells.{arity_of}
 use Rattle.forms.specs.Stored.{stores_pairs}
 use Rattle.plain.specs.Coding.{coding_of}
-use Rattle.plain.specs.Requests.{Request, Reply, next, lacks_next, at, refused, Seen, trace, left}
-use Rattle.plain.specs.Table as table
-use Rattle.plain.specs.Table.{Table, Subgoal, fresh, subgoal_at, subgoal_of_answer, after, following, starting, onward, known, becomes, nodes, step, table_trace}
+use Rattle.plain.specs.Requests.{Request, Reply, next, refused, Seen, trace, left}
+use Rattle.plain.specs.Table.{Table, subgoal_of_answer, after, following, starting, onward, step}
 use Rattle.plain.proofs.AfterLaws.{after_cong}
 use Rattle.plain.proofs.StoredCoding.{coding-laws}
 use Rattle.plain.proofs.Soundness.{Sound}
@@ -28,25 +27,24 @@ use Rattle.space.specs.declared.Head.{Head}
 use Rattle.space.specs.declared.Header.{Header}
 use Rattle.space.specs.declared.Header.TheVariants as header
 use Rattle.store.specs.Views.{View, view_of}
-use Rattle.store.specs.Calls.{space_step, counted_cells}
+use Rattle.store.specs.Calls.{space_step}
 use Rattle.agreement.specs.Whole.{whole_space, table_read, table_under, table_any, table_of, edition_of}
-use Rattle.agreement.specs.History.{Made, History, asked, seen_of}
+use Rattle.agreement.specs.History.{asked}
 use Rattle.agreement.proofs.CellChanges.{sizes-wide}
 use Rattle.agreement.proofs.HeaderTests.{header_read}
 use Rattle.agreement.proofs.Holding.{Holds}
 use Rattle.agreement.proofs.ReadingAgain.{coding-again}
 use Rattle.agreement.proofs.SameRecords.{Same}
-use Rattle.agreement.proofs.TableRead.{same-table}
 use Rattle.agreement.proofs.Theorem.{cells-hold, header-any, deciding, fresh_in}
 use Rattle.agreement.proofs.CallLists.{trace-same}
 use Rattle.agreement.proofs.Histories.{history-shown}
 use Rattle.agreement.proofs.WholeSpaces.{held-says, space-holds, whole-known, space-callable, space-checking}
 use Rattle.carrying.specs.Recoding.{Recoding, unchanged, widening, recoding_of}
-use Rattle.carrying.specs.Carrying.{carried_subgoal, carried, takes_table, holdable, carrying}
-use Rattle.carrying.specs.Copying.{source_loads, built, where_fresh, where_done, copy_under, copy_reply, copy_built, copy_space}
-use Rattle.carrying.specs.Promises.{AllCallable, Says, Copied, due, CopyBuilds, CopyRefused, CopyOblivious, CopyAnswers, CopyPasses, CopyGoesOn, CopyHistories, CopyNext, CopyOfCalls, CopyNodes, CopyPromises, Carries, CarriesBetween, Resizes}
+use Rattle.carrying.specs.Carrying.{carried, takes_table, holdable, carrying}
+use Rattle.carrying.specs.Copying.{source_loads, built, where_fresh, copy_under, copy_reply, copy_built, copy_space}
+use Rattle.carrying.specs.Promises.{AllCallable, Says, Copied, CopyBuilds, CopyRefused, CopyOblivious, CopyAnswers, CopyPasses, CopyGoesOn, CopyHistories, CopyNext, CopyOfCalls, CopyPromises, Carries, CarriesBetween, Resizes}
 use Rattle.carrying.proofs.RecodingLaws.{Recodes, unchanged-recodes, widening-recodes, recoding-recodes, stored-recoded}
-use Rattle.carrying.proofs.CarriedLaws.{Stored, Roomy, holdable-roomy, stored-sound, sound-stored, carried-subgoal, carried-owner, carried-subgoals, carried-answers, carried-stored, carried-callable}
+use Rattle.carrying.proofs.CarriedLaws.{holdable-roomy, stored-sound, sound-stored, carried-subgoal, carried-owner, carried-subgoals, carried-answers, carried-stored, carried-callable}
 use Rattle.carrying.proofs.NodeCounts.{nodes-carried}
 use Rattle.carrying.proofs.BuildingStates.{built-holds}
 use Rattle.carrying.proofs.LoadingLaws.{loads-stored, same-loads}

@@ -1,14 +1,14 @@
 -- The contracts of the code that copies: of the copy itself, which has no `requires`, and of the loops below it.
-use Rattle.std.specs.Prelude.{ℕ, suc, ◌+◌, ◌≡◌, Bool, ◌&&◌, List, [], leb, length}
+use Rattle.std.specs.Prelude.{ℕ, suc, ◌+◌, ◌≡◌, Bool, ◌&&◌, List, [], leb}
 use Rattle.plain.specs.Words.{brings}
-use Rattle.plain.specs.Table.{Table, Subgoal, Answer, called_forms}
+use Rattle.plain.specs.Table.{Subgoal, Answer, called_forms}
 use Rattle.space.specs.Layout.{Sizes, subgoal_offset_of}
 use Rattle.space.specs.Fresh.{fresh_space}
 use Rattle.space.specs.declared.FreshAnswer.{FreshAnswer}
 use Rattle.store.specs.Views.{View}
 use Rattle.agreement.specs.Whole.{up_to, subgoal_read, answer_read, table_read}
 use Rattle.carrying.specs.Recoding.{Recoding}
-use Rattle.carrying.specs.Carrying.{carried_subgoal, carried_answer, carried}
+use Rattle.carrying.specs.Carrying.{carried_subgoal, carried_answer}
 use Rattle.carrying.specs.Copying.{subgoals_given, answers_given, states_given, copy_reply, copy_space}
 use Rattle.carrying.specs.Needs.{answers_bring}
 

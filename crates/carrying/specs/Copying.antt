@@ -17,7 +17,7 @@ use Rattle.store.specs.Views.{View, view_of}
 use Rattle.store.specs.Decisions.{sound_subgoal, sound_pair, called}
 use Rattle.store.specs.Changes.{form_given, change}
 use Rattle.agreement.specs.Whole.{every_below, path_passes, subgoal_path, answer_path, table_read}
-use Rattle.carrying.specs.Recoding.{Recoding, recoding_of, widening, unchanged}
+use Rattle.carrying.specs.Recoding.{Recoding, widening, unchanged}
 use Rattle.carrying.specs.Carrying.{carried, carrying, none_alike}
 
 -- ---- what is read of the source (9)

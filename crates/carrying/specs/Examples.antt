@@ -1,5 +1,5 @@
 -- The copy on small spaces: what it leaves, each refusal in its place, states as recorded, damage that it passes by.
-use Rattle.std.specs.Prelude.{true, false, List, [], ◌∷◌, map, ◌≡◌, refl, ℕ, ◌+◌, ◌*◌, set}
+use Rattle.std.specs.Prelude.{true, false, List, [], ◌∷◌, ◌≡◌, refl, ℕ, ◌+◌, ◌*◌, set}
 use Rattle.basis.specs.Editions.{known_edition}
 use Rattle.forms.specs.Cells.{tag, arity_of, callable, shape_of, symbolic, token_of}
 use Rattle.forms.specs.Terms.{pairs, every}

@@ -1,28 +1,25 @@
 -- Laws of the scan over cells of pair form: each step, and what it tells of the terms.
 use Prim.Native.Nat.{ℕ, suc, ◌+◌, ◌*◌, ◌-◌, ◌≤◌, ◌<◌}
 use mathlib.Core.List.{List, [], ◌∷◌, ◌++◌}
-use mathlib.Core.Bool.{Bool, true, false}
+use mathlib.Core.Bool.{true, false}
 use mathlib.Core.Path.{◌≡◌, refl, sym, ap, ◌∙◌, subst}
 use native.Mathlib.Omega.{arith}
-use native.Mathlib.Numerals.{add-one}
 use lib.ListN.{length, take, drop, get_or, set, length-set, take-append-drop}
 use lib.Seq.{sets, take-length, take_at, length-take-le, drop-cons}
-use lib.Dec.{eqb, leb, ltb}
+use lib.Dec.{eqb, ltb}
 use borrow.Author.Tests.{eqb-true, eqb-false, ltb-true, ltb-false}
-use Rattle.basis.specs.Choice.{pick}
 use Rattle.basis.proofs.Cases.{by_cases}
 use Rattle.forms.specs.declared.Shape.{Shape}
 use Rattle.forms.specs.declared.Shape.TheVariants.{Symbol, Pair, Illegal}
 use Rattle.forms.specs.declared.Reading.TheVariants.{Form, Refusal}
 use Rattle.forms.specs.declared.Loading.TheVariants.{Terms, NoForm}
-use Rattle.forms.specs.Cells.{variable, shape_of, arity_of}
-use Rattle.forms.specs.Terms.{pairs, every, reads, are_terms}
-use Rattle.forms.specs.Due.{arguments, due_after, due_of, LegalCells, EndsAtLast}
+use Rattle.forms.specs.Cells.{shape_of}
+use Rattle.forms.specs.Terms.{reads, are_terms}
+use Rattle.forms.specs.Due.{arguments, due_after, due_of}
 use Rattle.forms.specs.Numbering.{met, numbered}
 use Rattle.forms.specs.Stored.{pair_stored, legal_pairs}
 use Rattle.forms.specs.Converting.{reading, loading}
 use Rattle.forms.specs.Promises.{Legal}
-use Rattle.forms.proofs.ShapeLaws.{symbol-small, arity-small}
 use Rattle.forms.proofs.FormLaws.{every-pairs-least}
 use Rattle.forms.proofs.NumberingLaws.{numbered-length, met-length}
 use Rattle.forms.proofs.ExactLaws.{terms-pairs}

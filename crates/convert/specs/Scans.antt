@@ -1,6 +1,6 @@
 -- The scan over cells of pair form that are stored as they are numbered: what is due after the cells passed, and what
 -- is known of them.
-use Rattle.std.specs.Prelude.{ℕ, ◌+◌, ◌*◌, ◌≤◌, ◌<◌, List, [], Bool, true, ◌≡◌, length, take, drop, get_or}
+use Rattle.std.specs.Prelude.{ℕ, ◌+◌, ◌*◌, ◌≤◌, ◌<◌, List, ◌≡◌, length, take, get_or}
 use Rattle.forms.specs.declared.Shape.{Shape}
 use Rattle.forms.specs.declared.Shape.TheVariants.{Symbol, Pair, Illegal}
 use Rattle.forms.specs.Cells.{shape_of}

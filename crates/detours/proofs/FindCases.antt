@@ -1,24 +1,22 @@
 -- A law for each case of what a search found, and of detours as a call.
-use Prim.Native.Nat.{ℕ, zero, suc, ◌+◌, ◌-◌, ◌≤◌, ◌<◌}
+use Prim.Native.Nat.{ℕ, zero, suc, ◌-◌, ◌≤◌}
 use mathlib.Core.Path.{◌≡◌, refl, sym, ap, ◌∙◌}
 use mathlib.Core.Bool.{Bool, true, false}
 use mathlib.Core.List.{List, [], ◌∷◌, ◌++◌}
 use native.Mathlib.Omega.{arith}
-use lib.Dec.{eqb}
 use lib.ListN.{length, take, get_or, set, replicate}
-use borrow.Author.Tests.{eq-eqb, ne_eqb}
 use Rattle.basis.specs.Choice.{pick}
 use Rattle.plain.specs.Coding.{coding_of}
-use Rattle.plain.specs.Requests.{Request, Reply, Best, none_found, found, Detour, detours, detoured, refused, lent}
+use Rattle.plain.specs.Requests.{Reply, Best, none_found, found, detours, detoured, refused, lent}
 use Rattle.plain.specs.Detours.{Option, diverts, total_of, Progress, trying, tries, search, detour, all_within}
 use Rattle.space.specs.Heading.{space_header}
 use Rattle.space.specs.declared.Head.{Head}
 use Rattle.space.specs.declared.Header.TheVariants as header
 use Rattle.store.specs.Clauses.{view_in}
 use Rattle.store.specs.Changes.{change_by}
-use Rattle.store.specs.Decisions.{Decision, says, refuses, decide, decide_by, goals_in, detours_in}
+use Rattle.store.specs.Decisions.{says, refuses, decide, decide_by, goals_in, detours_in}
 use Rattle.store.specs.Calls.{Answers, reply, out_after, under_by, under_any_by, space_step_by}
-use Rattle.detours.specs.Searching.{no_total, cells_at, best_in, progress_in, Chosen, goals_from, Searches}
+use Rattle.detours.specs.Searching.{no_total, cells_at, progress_in, Chosen, goals_from, Searches}
 use Rattle.detours.specs.Judging.{Ready, GoalsTold}
 use Rattle.detours.specs.Finding.{detour_in}
 use Rattle.detours.proofs.WorkLaws.{best_none, best-found}

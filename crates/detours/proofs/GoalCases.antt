@@ -1,5 +1,5 @@
 -- A law for each case of judging goals.
-use Prim.Native.Nat.{ℕ, zero, suc, ◌+◌, ◌-◌, ◌≤◌, ◌<◌}
+use Prim.Native.Nat.{ℕ, zero, suc, ◌≤◌, ◌<◌}
 use mathlib.Core.Path.{◌≡◌, refl, sym, ap, ◌∙◌, subst}
 use mathlib.Core.Bool.{Bool, true, false, ◌&&◌, ◌||◌, false≢true}
 use mathlib.Core.List.{List, [], ◌∷◌, ◌++◌, map}
@@ -7,13 +7,13 @@ use native.Mathlib.Omega.{arith}
 use lib.Dec.{eqb, leb, ltb}
 use lib.ListN.{length, take, drop, get_or, length-map, drop_of_length-le}
 use lib.Seq.{take-suc, take_all, drop-cons}
-use borrow.Author.Tests.{eq-eqb, ne_eqb, eqb-true, eqb-false, lt-ltb, le-ltb, le-leb, lt-leb, ltb-true, leb-true, leb-false}
+use borrow.Author.Tests.{eqb-true, eqb-false, lt-ltb, le-leb, lt-leb, ltb-true, leb-true}
 use Rattle.basis.specs.Choice.{pick}
 use Rattle.basis.proofs.Cases.{by_cases}
 use Rattle.trie.proofs.WalkLaws.{both_true}
-use Rattle.plain.specs.Coding.{Coding, coding_of}
+use Rattle.plain.specs.Coding.{coding_of}
 use Rattle.plain.specs.Joins.{is_open}
-use Rattle.plain.specs.Requests.{Open, Finished, detoured, refused}
+use Rattle.plain.specs.Requests.{detoured, refused}
 use Rattle.plain.specs.Detours.{Live, Goal, Option, options_of, all_offer, goals_fit, any_open, few_goals, detours_of, detour, all_within}
 use Rattle.space.specs.Sound.{subgoal_under}
 use Rattle.space.specs.declared.Head.{Head}
@@ -21,10 +21,10 @@ use Rattle.space.specs.declared.Subgoal.{Subgoal}
 use Rattle.space.specs.declared.SubgoalRead.TheVariants as subgoal
 use Rattle.space.proofs.JudgingLaws.{subgoal-bounds, read-subgoal-sound}
 use Rattle.store.specs.Clauses.{view_in}
-use Rattle.store.specs.Decisions.{says, refuses, state_of, sound_subgoal, Lives, severed, lives, lives_of, Goals, unsound, goals, goal_before, goals_in, detours_in}
+use Rattle.store.specs.Decisions.{says, state_of, sound_subgoal, Lives, severed, lives, lives_of, Goals, unsound, goals, goal_before, goals_in, detours_in}
 use Rattle.store.proofs.CallsRecords.{reads-subgoal, read-subgoal-damaged}
 use Rattle.detours.specs.Searching.{Searched, lives_in, answers_in, options_in, goals_from}
-use Rattle.detours.specs.Judging.{variables_of, goal_fits, AnswersHeld, goal_in, goal_severed, GoalSevered, GoalSound, GoalTold, ruled, Ready, GoalsTold}
+use Rattle.detours.specs.Judging.{variables_of, goal_fits, AnswersHeld, goal_in, goal_severed, GoalSevered, GoalSound, GoalTold, ruled, GoalsTold}
 use Rattle.detours.specs.declared.GoalJudged.{GoalJudged}
 use Rattle.detours.specs.declared.GoalJudged.TheVariants as goal
 

@@ -1,20 +1,19 @@
 -- The answers of a goal one after another, as the search tries them.
-use Prim.Native.Nat.{ℕ, zero, suc, ◌+◌, ◌-◌, ◌*◌, ◌^◌, ◌≤◌, ◌<◌}
+use Prim.Native.Nat.{ℕ, zero, suc, ◌+◌, ◌-◌, ◌≤◌, ◌<◌}
 use mathlib.Core.Path.{◌≡◌, refl, sym, ap, ◌∙◌, subst}
-use mathlib.Core.Bool.{Bool, true, false, ◌&&◌}
-use mathlib.Core.List.{List, [], ◌∷◌, ◌++◌, map}
+use mathlib.Core.Bool.{true, false}
+use mathlib.Core.List.{List, ◌∷◌, map}
 use native.Mathlib.Omega.{arith}
 use lib.Dec.{eqb}
-use lib.ListN.{length, drop, get_or}
+use lib.ListN.{length, get_or}
 use lib.Seq.{drop-cons}
 use Rattle.trie.proofs.WalkLaws.{both_true}
-use Rattle.forms.specs.Cells.{payload}
 use Rattle.forms.specs.Stored.{stored_of}
 use Rattle.plain.specs.Words.{Word}
 use Rattle.plain.specs.Coding.{Coding, coding_of}
-use Rattle.plain.specs.Detours.{Live, Option, Progress, trying, tries, search, offers, all_offer, option_of}
+use Rattle.plain.specs.Detours.{Live, Option, trying, tries, search, offers, all_offer, option_of}
 use Rattle.space.specs.Layout.{sizes, node_in}
-use Rattle.space.specs.Sound.{Bounds, subgoal_under, answer_under}
+use Rattle.space.specs.Sound.{subgoal_under, answer_under}
 use Rattle.space.specs.declared.Head.{Head}
 use Rattle.space.specs.declared.Subgoal.{Subgoal}
 use Rattle.space.specs.declared.Answer.{Answer}
@@ -26,7 +25,7 @@ use Rattle.store.specs.Clauses.{view_in}
 use Rattle.detours.specs.Searching.{Searched, answers_in, options_in, progress_in, Chosen, Stays, offer_at, option_from, going, goals_from, Searchable, Looks, Searches, best_in}
 use Rattle.detours.specs.declared.Offer.{Offer}
 use Rattle.detours.proofs.OfferForms.{Offered, offered, offers-form, option_is}
-use Rattle.detours.proofs.LiveSteps.{Begins, lives-begins, lives-none, TwoNodes, two-nodes}
+use Rattle.detours.proofs.LiveSteps.{Begins, lives-begins, lives-none, two-nodes}
 use Rattle.detours.proofs.WorkLaws.{stays-self, stays_then, chosen-stays}
 use Rattle.detours.proofs.SearchCases.{tries-one, tries-ended, tries-none, search-goal}
 

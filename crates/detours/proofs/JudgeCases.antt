@@ -1,5 +1,5 @@
 -- A law for each case of judging a goal's answers.
-use Prim.Native.Nat.{ℕ, zero, suc, ◌+◌, ◌-◌, ◌<◌, ◌≤◌}
+use Prim.Native.Nat.{ℕ, suc, ◌+◌, ◌-◌, ◌<◌, ◌≤◌}
 use mathlib.Core.Path.{◌≡◌, refl, sym, ap, ◌∙◌, subst}
 use mathlib.Core.Bool.{Bool, true, false, ◌&&◌, false≢true, true≢false}
 use mathlib.Core.List.{List, [], ◌∷◌, ◌++◌, append_assoc, append-nil}
@@ -7,7 +7,6 @@ use native.Mathlib.Omega.{arith}
 use lib.Dec.{eqb}
 use lib.ListN.{length, length-append}
 use borrow.Author.Tests.{eq-eqb, ne_eqb, eqb-true, eqb-false}
-use Rattle.basis.specs.Choice.{pick}
 use Rattle.basis.proofs.Cases.{by_cases}
 use Rattle.forms.specs.Cells.{atomic, integral}
 use Rattle.forms.specs.Numbering.{met}
@@ -38,7 +37,7 @@ use Rattle.store.proofs.CallsRecords.{reads-answer, read-answer-damaged}
 use Rattle.path_terms.specs.AlongPaths.{worth}
 use Rattle.detours.specs.Judging.{offer_form, offer_path, fit_path, fits, PathSevered, PathHeld, prepended, lives_at, Onward, AnswerJudged, variables_of, goal_fits, AnswersHeld}
 use Rattle.detours.specs.declared.Member.TheVariants as member
-use Rattle.detours.proofs.OfferForms.{form-long, Offered, offered, offers-form, offer-legal}
+use Rattle.detours.proofs.OfferForms.{form-long, offered, offers-form, offer-legal}
 use Rattle.detours.proofs.LiveSteps.{lives-end}
 
 -- ---- three nodes of a path

@@ -1,20 +1,17 @@
 -- Stored forms of an atom and an integer: the terms of such a form, and that it is legal. So it is in every edition, whatever its stored form.
 use Prim.Native.Nat.{ℕ, ◌+◌, ◌*◌, ◌≤◌}
-use mathlib.Core.Path.{◌≡◌, refl, sym, ap, ◌∙◌, subst}
+use mathlib.Core.Path.{◌≡◌, refl, sym, ap, ◌∙◌}
 use mathlib.Core.Bool.{Bool, true, false, ◌&&◌, false≢true}
 use mathlib.Core.List.{List, [], ◌∷◌, ◌++◌, map, append-nil}
 use mathlib.Core.Logic.{◌⊎◌, inl, inr}
 use native.Mathlib.Omega.{arith}
-use lib.ListN.{length, get_or, length-append}
+use lib.ListN.{length, length-append}
 use lib.Dec.{eqb}
-use borrow.Author.Tests.{eqb-true}
-use Rattle.basis.specs.Choice.{pick}
 use Rattle.basis.proofs.Cases.{by_cases}
-use Rattle.forms.specs.Cells.{kind, payload, variable, constant, atomic, integral, shape_of, arity_of}
-use Rattle.forms.specs.Terms.{Term, cell, arg, pair, pairs, every, are_terms}
-use Rattle.forms.specs.Numbering.{met, numbered}
+use Rattle.forms.specs.Cells.{kind, payload, constant, atomic, integral, shape_of, arity_of}
+use Rattle.forms.specs.Terms.{Term, cell, arg, pair, pairs, every}
 use Rattle.forms.specs.Compact.{compact, compact_form}
-use Rattle.forms.specs.Stored.{StoredForm, stores_pairs, stored_of}
+use Rattle.forms.specs.Stored.{stores_pairs, stored_of}
 use Rattle.forms.specs.Promises.{Legal}
 use Rattle.forms.proofs.ShapeLaws.{constant-shape}
 use Rattle.forms.proofs.ReadLaws.{AllWellFormed, compact-size}
@@ -25,7 +22,7 @@ use Rattle.forms.proofs.RoundTrip.{form-every}
 use Rattle.forms.proofs.StoredLaws.{ExactTerms, stored_of_lem, pairs-stored, lists-stored}
 use Rattle.plain.specs.Words.{Word}
 use Rattle.plain.specs.Coding.{coding_of}
-use Rattle.plain.specs.Detours.{Live, Option, one_cell, offers, option_of}
+use Rattle.plain.specs.Detours.{one_cell, offers, option_of}
 use Rattle.detours.specs.Judging.{offer_form}
 
 -- ---- terms of one cell

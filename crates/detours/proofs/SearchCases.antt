@@ -4,8 +4,8 @@ use mathlib.Core.Path.{◌≡◌, refl, sym, ap, ◌∙◌, subst}
 use mathlib.Core.Bool.{Bool, true, false}
 use mathlib.Core.List.{List, [], ◌∷◌, ◌++◌, map}
 use native.Mathlib.Omega.{arith}
-use lib.ListN.{length, drop, get_or, set, length-set, drop_of_length-le}
-use lib.Seq.{get_or-set_same, get_or-set_other, drop-cons}
+use lib.ListN.{length, get_or, set, length-set, drop_of_length-le}
+use lib.Seq.{get_or-set_same, get_or-set_other}
 use Rattle.basis.specs.Choice.{pick}
 use Rattle.plain.specs.Requests.{Best}
 use Rattle.plain.specs.Detours.{Option, diverts, better, Progress, trying, tries, search}

@@ -4,13 +4,12 @@ use mathlib.Core.Path.{◌≡◌, refl, sym, ap, ◌∙◌}
 use mathlib.Core.Bool.{Bool, true, false, ◌||◌}
 use mathlib.Core.List.{List, [], ◌∷◌, ◌++◌, map}
 use native.Mathlib.Omega.{arith}
-use lib.Dec.{eqb, ltb}
+use lib.Dec.{eqb}
 use lib.ListN.{length, get_or, set, length-set}
 use lib.Seq.{get_or-set_same, get_or-set_other}
 use borrow.Author.Tests.{eq-eqb, ne_eqb, eqb-true, eqb-false, lt-ltb, le-ltb}
-use Rattle.basis.specs.Choice.{pick}
 use Rattle.basis.proofs.Cases.{by_cases}
-use Rattle.plain.specs.Requests.{Best, none_found, found}
+use Rattle.plain.specs.Requests.{none_found, found}
 use Rattle.plain.specs.Detours.{Option, diverts, total_of, numbers_in, better}
 use Rattle.detours.specs.Searching.{work_cells, best_from, numbers_from, diverters_from, no_total, cells_at, numbers_chosen, diverters_in, best_in, Chosen, Stays, among, Copied, Keeps}
 

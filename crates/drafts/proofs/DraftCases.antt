@@ -3,10 +3,10 @@ use Prim.Native.Nat.{ℕ, suc, ◌+◌, ◌<◌, ◌≤◌}
 use mathlib.Core.Path.{◌≡◌, refl, sym, ap, ◌∙◌, subst}
 use mathlib.Core.Bool.{Bool, true, false, not}
 use mathlib.Core.List.{List, [], ◌∷◌, ◌++◌}
-use mathlib.Core.Logic.{◌⊎◌, inl, inr}
+use mathlib.Core.Logic.{inl, inr}
 use native.Mathlib.Omega.{arith}
 use lib.Dec.{eqb}
-use lib.ListN.{length, get_or, set, take, drop, length-set, length-append}
+use lib.ListN.{length, get_or, take, drop, length-set, length-append}
 use lib.Seq.{get_or-set_same, get_or-set_other, drop-cons, drop-length, take-suc, take-length}
 use borrow.Author.Tests.{eq-eqb, ne_eqb}
 use Rattle.basis.proofs.Cases.{by_cases}
@@ -21,7 +21,7 @@ use Rattle.agreement.proofs.CellRecords.{Kept}
 use Rattle.drafts.specs.declared.Room.{Room}
 use Rattle.drafts.specs.declared.Reached.TheVariants as reached
 use Rattle.drafts.specs.declared.Drafted.TheVariants as drafted
-use Rattle.drafts.specs.Entries.{slot_in, entry_slot, Bucketed, lowest, highest, Reachable, Absent, Present, Placed, EntryPlaced, Known, Made, EntryReached}
+use Rattle.drafts.specs.Entries.{slot_in, entry_slot, Bucketed, lowest, highest, Reachable, Absent, Present, EntryPlaced, EntryReached}
 use Rattle.drafts.specs.Drafts.{word_of, Keyed, Draftable, words_with, WordDrafted, LinkMarked}
 use Rattle.drafts.proofs.DraftLaws.{kept_same, kept_then, known-word, absent-word, keyed-more, word-new, size-new, keyed-marked, was-marked}
 

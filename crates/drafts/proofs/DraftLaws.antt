@@ -1,27 +1,25 @@
 -- The words of a draft while tokens are drafted one after another.
-use Prim.Native.Nat.{ℕ, zero, suc, ◌+◌, ◌<◌, ◌≤◌}
-use mathlib.Core.Path.{◌≡◌, refl, sym, ap, ◌∙◌, subst}
+use Prim.Native.Nat.{ℕ, ◌+◌, ◌<◌, ◌≤◌}
+use mathlib.Core.Path.{◌≡◌, refl, sym, ap, ◌∙◌}
 use mathlib.Core.Bool.{Bool, true, false, not, ◌||◌, true≢false}
 use mathlib.Core.List.{List, [], ◌∷◌, ◌++◌}
 use native.Mathlib.Omega.{arith}
 use lib.Dec.{eqb, ltb}
-use lib.ListN.{length, get_or, set, take, drop, length-append, length-set, get_or-append}
-use lib.Seq.{get_or-append-add, get_or-set_same, get_or-set_other, drop-cons, drop-length, take-suc, take-length}
+use lib.ListN.{length, length-append, get_or-append}
+use lib.Seq.{get_or-append-add}
 use borrow.Author.Tests.{eqb-true, eqb-false, ltb-true, ltb-false}
 use Rattle.basis.specs.Choice.{pick}
 use Rattle.basis.proofs.Cases.{by_cases}
 use Rattle.forms.specs.Compact.{same}
 use Rattle.forms.proofs.RoundTrip.{same_self, same_true}
-use Rattle.plain.specs.Words.{Word, has, add, union}
-use Rattle.plain.proofs.WordLaws.{has-snoc, add-old, add-new, union-nil, union-old, union-new}
-use Rattle.plain.proofs.PrefixLaws.{longer}
+use Rattle.plain.specs.Words.{Word, has}
+use Rattle.plain.proofs.WordLaws.{has-snoc}
 use Rattle.plain.proofs.Keys.{has-place, place-has, snoc-left, snoc-right, snoc-nil}
-use Rattle.space.specs.Layout.{sizes, node_at, node_in, link_cell}
 use Rattle.space.specs.declared.Node.{Node}
 use Rattle.agreement.proofs.CellRecords.{Kept}
 use Rattle.drafts.specs.declared.Room.{Room}
-use Rattle.drafts.specs.Entries.{Bucketed, Absent, Present, Placed, lowest, highest}
-use Rattle.drafts.specs.Drafts.{word_of, Keyed, words_with}
+use Rattle.drafts.specs.Entries.{Bucketed, Absent, Present, Placed}
+use Rattle.drafts.specs.Drafts.{word_of, Keyed}
 
 pub kept_same : (lo hi : ℕ) (cs : List ℕ) → Kept lo hi cs cs
 kept_same lo hi cs = record { size = refl; below = λ k h. refl; above = λ k h. refl }

@@ -1,9 +1,9 @@
 -- The functions behind one entry of a draft, case by case.
-use Prim.Native.Nat.{ℕ, ◌+◌, ◌*◌, ◌%◌, ◌<◌, ◌≤◌, ◌^◌}
+use Prim.Native.Nat.{ℕ, ◌+◌, ◌*◌, ◌%◌, ◌<◌, ◌≤◌}
 use mathlib.Core.Path.{◌≡◌, refl, sym, ap, ◌∙◌, subst}
-use mathlib.Core.Bool.{Bool, true, false}
-use mathlib.Core.List.{List, [], ◌∷◌}
-use mathlib.Core.Logic.{◌⊎◌, inl, inr}
+use mathlib.Core.Bool.{true, false}
+use mathlib.Core.List.{List}
+use mathlib.Core.Logic.{inl, inr}
 use native.Mathlib.Omega.{arith}
 use native.Mathlib.Nat.{mod-lt}
 use lib.Dec.{eqb}
@@ -11,12 +11,12 @@ use lib.ListN.{length, set}
 use borrow.Author.Tests.{eq-eqb, ne_eqb}
 use Rattle.basis.specs.Writes.{writes}
 use Rattle.space.specs.Layout.{sizes, node_at, node_in, node_to, child_cell}
-use Rattle.space.specs.Sound.{NodesIn, NodeRoomFor}
+use Rattle.space.specs.Sound.{NodeRoomFor}
 use Rattle.space.specs.declared.Node.{Node}
 use Rattle.agreement.proofs.CellRecords.{Kept}
 use Rattle.drafts.specs.declared.Room.{Room}
 use Rattle.drafts.specs.declared.Reached.TheVariants as reached
-use Rattle.drafts.specs.Entries.{slot_in, is_entry, Bucketed, lowest, highest, Reachable, Seekable, Placeable, Absent, Present, EntryFound, Placed, EntryPlaced, EntryReached}
+use Rattle.drafts.specs.Entries.{slot_in, is_entry, Bucketed, lowest, highest, Reachable, Seekable, Placeable, EntryFound, Placed, EntryPlaced, EntryReached}
 use Rattle.drafts.proofs.EntryLaws.{Seeking, seeking-begun, seeking-found, seeking-on, seeking-less, seeking-none, roomless, bucketed-more, cells-placed, cells-kept}
 
 pub rem_is : (a b : ℕ) → 1 ≤ b → (a % b ≡ a % b) × (a % b < b)

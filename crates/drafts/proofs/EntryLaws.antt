@@ -1,24 +1,23 @@
 -- An entry of a draft found through its slot, and the slots with one entry more.
-use Prim.Native.Nat.{ℕ, ◌+◌, ◌*◌, ◌%◌, ◌<◌, ◌≤◌}
-use mathlib.Core.Path.{◌≡◌, refl, sym, ap, ◌∙◌, subst}
-use mathlib.Core.Bool.{Bool, true, false}
-use mathlib.Core.List.{List, [], ◌∷◌}
-use mathlib.Core.Logic.{◌⊎◌, inl, inr}
+use Prim.Native.Nat.{ℕ, ◌+◌, ◌<◌, ◌≤◌}
+use mathlib.Core.Path.{◌≡◌, sym, ap, ◌∙◌, subst}
+use mathlib.Core.Bool.{true, false}
+use mathlib.Core.List.{List}
+use mathlib.Core.Logic.{inl, inr}
 use native.Mathlib.Omega.{arith}
 use lib.Dec.{eqb, ltb}
 use lib.ListN.{length, get_or, set, length-set}
 use lib.Seq.{get_or-set_same, get_or-set_other}
-use borrow.Author.Tests.{eqb-true, eqb-false, eq-eqb, ne_eqb, ltb-true, ltb-false}
-use Rattle.basis.specs.Choice.{pick}
-use Rattle.basis.specs.Writes.{put, writes}
+use borrow.Author.Tests.{eqb-true, eqb-false, eq-eqb, ltb-true, ltb-false}
+use Rattle.basis.specs.Writes.{writes}
 use Rattle.basis.proofs.Cases.{by_cases}
 use Rattle.basis.proofs.WritesLaws.{length-writes, writes-frame}
-use Rattle.space.specs.Layout.{sizes, node_at, node_in, node_to, child_cell, link_cell}
+use Rattle.space.specs.Layout.{sizes, node_at, node_in, node_to, child_cell}
 use Rattle.space.specs.declared.Node.{Node}
 use Rattle.space.proofs.LayoutLaws.{node-written, node-apart}
 use Rattle.agreement.proofs.CellRecords.{Kept, node-same}
 use Rattle.drafts.specs.declared.Room.{Room}
-use Rattle.drafts.specs.Entries.{slot_in, entry_slot, is_entry, Bucketed, lowest, highest, Absent, Present, Placed}
+use Rattle.drafts.specs.Entries.{slot_in, entry_slot, is_entry, Bucketed, Absent, Present, Placed}
 
 pub entry-is : (y : Node) (parent token : ℕ) → is_entry y parent token ≡ true → (y.parent ≡ parent) × (y.token ≡ token)
 unfolding is_entry

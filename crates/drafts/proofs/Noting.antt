@@ -1,26 +1,26 @@
 -- One form after another is noted, and the words noted tell what the forms need.
 use Prim.Native.Nat.{ℕ, zero, suc, ◌+◌, ◌-◌, ◌<◌, ◌≤◌, min, max}
-use mathlib.Core.Path.{◌≡◌, refl, sym, ap, ◌∙◌, subst}
-use mathlib.Core.Bool.{Bool, true, false, ◌&&◌, ◌||◌}
+use mathlib.Core.Path.{◌≡◌, refl, sym}
+use mathlib.Core.Bool.{Bool, true, false, ◌||◌}
 use mathlib.Core.List.{List, [], ◌∷◌, ◌++◌}
 use native.Mathlib.Omega.{arith}
 use lib.Dec.{eqb}
-use lib.ListN.{length, get_or}
+use lib.ListN.{length}
 use borrow.Author.Tests.{eqb-true, eqb-false, ne_eqb}
 use Rattle.basis.specs.Choice.{pick}
 use Rattle.basis.proofs.Cases.{by_cases}
 use Rattle.forms.specs.Compact.{same}
-use Rattle.plain.specs.Words.{Word, has, common, most, prefixes}
+use Rattle.plain.specs.Words.{Word, has, common, most}
 use Rattle.plain.proofs.WordLaws.{has-snoc}
 use Rattle.plain.proofs.LongestShared.{most-le}
-use Rattle.trie.specs.Walks.{Walk, whole, stopped, Finding}
+use Rattle.trie.specs.Walks.{whole, stopped, Finding}
 use Rattle.trie.proofs.SearchLaws.{Finds}
 use Rattle.store.specs.Views.{View, answer_trie}
-use Rattle.store.specs.Decisions.{walk_to_by, missing}
+use Rattle.store.specs.Decisions.{walk_to_by}
 use Rattle.store.proofs.CallsWalks.{walk-stopped}
 use Rattle.drafts.specs.Notes.{roots_below, Noted}
 use Rattle.drafts.proofs.Steady.{Steady}
-use Rattle.drafts.proofs.Stops.{Stops, Passes, stopped-some, stopped-fewer, walks-pass, walks-stop}
+use Rattle.drafts.proofs.Stops.{Stops, stopped-some, stopped-fewer, walks-pass, walks-stop}
 
 -- ---- lists of words
 

@@ -1,7 +1,7 @@
 -- A draft before its first word, and what one word more brings.
 use Prim.Native.Nat.{ℕ, zero, suc, ◌+◌, ◌-◌, ◌<◌, ◌≤◌}
 use mathlib.Core.Path.{◌≡◌, refl, sym, ap, ◌∙◌, subst}
-use mathlib.Core.Bool.{Bool, true, false, ◌&&◌, ◌||◌}
+use mathlib.Core.Bool.{true, false, ◌||◌}
 use mathlib.Core.List.{List, [], ◌∷◌, ◌++◌, append-nil}
 use native.Mathlib.Omega.{arith}
 use lib.Dec.{eqb}
@@ -14,12 +14,11 @@ use Rattle.plain.proofs.WordLaws.{union-old, union-append}
 use Rattle.plain.proofs.PrefixLaws.{longer, starts, begins, all_inits-append, inits-longer}
 use Rattle.plain.proofs.LongestShared.{brought}
 use Rattle.plain.proofs.Entries.{prefixes-root}
-use Rattle.plain.proofs.Keys.{place-has}
 use Rattle.space.specs.Layout.{sizes, node_at, node_in}
 use Rattle.space.specs.declared.Node.{Node}
 use Rattle.drafts.specs.declared.Room.{Room}
 use Rattle.drafts.specs.Notes.{roots_below}
-use Rattle.drafts.specs.Entries.{Bucketed, lowest, highest}
+use Rattle.drafts.specs.Entries.{Bucketed}
 use Rattle.drafts.specs.Drafts.{word_of, Keyed, words_with}
 use Rattle.drafts.specs.Wiping.{Blank}
 

@@ -2,19 +2,17 @@
 -- in a walk.
 use Prim.Native.Nat.{ℕ, zero, suc, ◌<◌}
 use mathlib.Core.Path.{◌≡◌, refl, sym, ap, ◌∙◌}
-use mathlib.Core.Bool.{Bool, true, false, ◌&&◌}
+use mathlib.Core.Bool.{true, false}
 use mathlib.Core.List.{List, [], ◌∷◌}
 use native.Mathlib.Omega.{arith}
 use lib.Dec.{eqb, ltb}
-use lib.ListN.{length, get_or}
-use borrow.Author.Tests.{eqb-true, eqb-false, ltb-true}
-use Rattle.basis.specs.Choice.{pick}
+use lib.ListN.{length}
+use borrow.Author.Tests.{eqb-false, ltb-true}
 use Rattle.basis.proofs.Cases.{by_cases}
-use Rattle.space.specs.Judging.{node_sound}
 use Rattle.space.specs.declared.Node.{Node}
 use Rattle.space.proofs.JudgingLaws.{node-bounds, follows-rises}
 use Rattle.trie.specs.Siblings.{Trie, sound, at_sibling, search_siblings, search_children}
-use Rattle.trie.specs.Walks.{Walk, whole, stopped, damaged, onward, Finding, root_sound, walk_from_by, walk_by}
+use Rattle.trie.specs.Walks.{onward, Finding, walk_from_by, walk_by}
 use Rattle.trie.specs.Index.{power_of_two, slot_of, slot_after, confirmed, entry_beside, search_in_turn, search_indexed}
 use Rattle.trie.specs.declared.Search.{Search}
 use Rattle.trie.specs.declared.Search.TheVariants.{Found, Last, Damaged}

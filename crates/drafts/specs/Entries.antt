@@ -1,7 +1,7 @@
 -- The entries of a draft in free nodes: where they stand, how one is found, and what one more leaves. An entry has the
 -- token and the parent of the node that it stands for. Its sibling is the entry before it in the same slot. The child
 -- of free node b is the latest entry of slot b, whether or not b is an entry itself.
-use Rattle.std.specs.Prelude.{ℕ, ◌+◌, ◌*◌, ◌%◌, ◌<◌, ◌≤◌, Bool, false, List, ◌⊎◌, ◌≡◌, eqb, length}
+use Rattle.std.specs.Prelude.{ℕ, ◌+◌, ◌*◌, ◌%◌, ◌<◌, ◌≤◌, Bool, false, List, ◌⊎◌, ◌≡◌, eqb}
 use Rattle.basis.specs.Choice.{pick}
 use Rattle.space.specs.Layout.{sizes, node_at, node_in}
 use Rattle.space.specs.Sound.{NodesIn}

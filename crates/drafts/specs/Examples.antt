@@ -1,9 +1,8 @@
 -- Computed: the words of a draft, and a slot.
-use Rattle.std.specs.Prelude.{true, false, [], ◌∷◌, ◌≡◌, refl, ℕ, length}
+use Rattle.std.specs.Prelude.{true, false, [], ◌∷◌, ◌≡◌, refl, length}
 use Rattle.plain.specs.Words.{has, add, union, common, most}
 use Rattle.forms.specs.Compact.{same}
 use Rattle.plain.proofs.PrefixLaws.{longer}
-use Rattle.space.specs.declared.Node.{Node}
 use Rattle.drafts.specs.Entries.{slot_in, is_entry}
 use Rattle.drafts.specs.Notes.{roots_below}
 use Rattle.drafts.specs.Drafts.{words_with}

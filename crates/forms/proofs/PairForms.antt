@@ -1,21 +1,20 @@
 -- Numbered pair form as a stored form: demand 2, and what its legal forms are made of.
-use Prim.Native.Nat.{ℕ, ◌+◌, ◌≤◌}
+use Prim.Native.Nat.{ℕ, ◌≤◌}
 use mathlib.Core.List.{List, [], ◌∷◌, ◌++◌, append-nil, append_assoc}
 use mathlib.Core.Bool.{Bool, true, false}
 use mathlib.Core.Path.{◌≡◌, refl, sym, ap, ◌∙◌}
 use native.Mathlib.Omega.{arith}
 use lib.ListN.{length, get_or}
 use lib.Dec.{leb, eqb, ltb}
-use borrow.Author.Tests.{le-leb, leb-true, eqb-true, eqb-false, ltb-true, ltb-false}
+use borrow.Author.Tests.{le-leb, leb-true, eqb-true, eqb-false, ltb-true}
 use Rattle.basis.specs.Choice.{pick}
-use Rattle.basis.proofs.Cases.{by_cases}
 use Rattle.forms.specs.declared.Shape.TheVariants.{Symbol, Pair, Illegal}
 use Rattle.forms.specs.Cells.{kind, payload, shape_of}
 use Rattle.forms.specs.Terms.{Term, pairs, every, applied, reads, are_terms}
 use Rattle.forms.specs.Numbering.{met, numbered}
 use Rattle.forms.specs.Compact.{same}
 use Rattle.forms.specs.Stored.{legal_pairs, pair_stored}
-use Rattle.forms.specs.Promises.{Legal, Stored, Loaded, Variants, PrefixFree, Bounded, Demand2, Unmarked}
+use Rattle.forms.specs.Promises.{Legal, Stored, Loaded, PrefixFree, Demand2, Unmarked}
 use Rattle.forms.proofs.ReadLaws.{AllWellFormed, reads-well-formed, reads-pairs}
 use Rattle.forms.proofs.CompactLaws.{same-length-empty}
 use Rattle.forms.proofs.NumberingLaws.{numbered-length, numbered-again, numbered-met}

@@ -1,5 +1,5 @@
 -- The header and the records of a grown table.
-use Prim.Native.Nat.{ℕ, suc, ◌+◌, ◌-◌, ◌*◌, ◌≤◌, ◌<◌}
+use Prim.Native.Nat.{ℕ, ◌+◌, ◌-◌, ◌*◌, ◌≤◌, ◌<◌}
 use mathlib.Core.Path.{◌≡◌, refl, sym, ap, ◌∙◌, subst}
 use mathlib.Core.Bool.{Bool, true, false}
 use mathlib.Core.List.{List}
@@ -7,7 +7,6 @@ use native.Mathlib.Omega.{arith}
 use native.Mathlib.Nat.{mul-le-mul_left}
 use lib.ListN.{length, get_or}
 use Rattle.basis.specs.Choice.{pick}
-use Rattle.basis.specs.Editions.{known_edition}
 use Rattle.space.specs.Layout.{sizes_of, subgoal_width, answer_width, subgoal_offset_of, answer_offset_of, end_offset, node_in, subgoal_in, answer_in}
 use Rattle.space.specs.Heading.{head_of, header_of, space_header}
 use Rattle.space.specs.Fresh.{fresh_fits}
@@ -19,14 +18,14 @@ use Rattle.space.specs.declared.Header.TheVariants as header
 use Rattle.space.proofs.HeaderLaws.{subgoal-width, answer-width}
 use Rattle.space.proofs.LayoutLaws.{node-equal, subgoal-equal, answer-equal}
 use Rattle.trie.specs.Append.{new_root}
-use Rattle.store.specs.Views.{View, view_of}
+use Rattle.store.specs.Views.{view_of}
 use Rattle.store.specs.Changes.{new_subgoal}
 use Rattle.agreement.specs.Records.{Alike}
 use Rattle.agreement.proofs.CellRecords.{row_ends}
 use Rattle.agreement.proofs.CellChanges.{sizes-wide}
 use Rattle.agreement.proofs.HeaderTests.{Headed, Within, header_made}
 use Rattle.agreement.proofs.Theorem.{header-any}
-use Rattle.growing.specs.Growing.{enough, grown_header, grown_cells, grow_under, grow_reply, grow_space}
+use Rattle.growing.specs.Growing.{enough, grown_cells, grow_under, grow_reply, grow_space}
 use Rattle.growing.specs.Clauses.{Grows}
 use Rattle.growing.specs.Promises.{Grown, view_before, view_after, resized_view, GrownView, FreeAsFresh, GrownFree, GrownFrame, GrowRefused}
 use Rattle.growing.proofs.MovingLaws.{at_place}

@@ -1,21 +1,19 @@
 -- A larger plain table answers as the smaller one does, where the smaller one had room.
-use Prim.Native.Nat.{ℕ, suc, ◌-◌, ◌≤◌, ◌<◌}
-use mathlib.Core.Path.{◌≡◌, refl, sym, ap, ◌∙◌}
+use Prim.Native.Nat.{ℕ, suc, ◌≤◌, ◌<◌}
+use mathlib.Core.Path.{◌≡◌, refl, ap, ◌∙◌}
 use mathlib.Core.Bool.{Bool, true, false}
-use mathlib.Core.List.{List, [], ◌∷◌, map}
+use mathlib.Core.List.{List, [], ◌∷◌}
 use native.Mathlib.Omega.{arith}
 use lib.Dec.{eqb, leb, ltb}
 use lib.ListN.{length}
 use borrow.Author.Tests.{leb-true, le-leb, ltb-true, lt-ltb}
-use Rattle.basis.specs.Choice.{pick}
 use Rattle.basis.proofs.Cases.{by_cases}
 use Rattle.plain.specs.Words.{Word}
 use Rattle.plain.specs.Coding.{Coding, Reading, naming}
 use Rattle.plain.specs.Coding as reading
 use Rattle.plain.specs.Joins.{Forms, declined, formed, join_of}
-use Rattle.plain.specs.Detours.{all_within, detours_of}
-use Rattle.plain.specs.Requests.{State, Open, Finished, Request, call_least, answer, finish, next, load, instance, counts, join, why, detours, Reply, refused, Result, Seen, trace, left}
-use Rattle.plain.specs.Table.{Table, subgoal_at, answer_at, nodes, counted, subgoal_of, answer_of, following, with_subgoal, with_answer, settled, with_entry, stays, known, fits, appended, called, while_open, answered, starting, onward, writes, given, entered, side_of, joining, sharing, newness, reasoned, goal_of, detouring, step, table_trace}
+use Rattle.plain.specs.Requests.{State, Open, Finished, call_least, answer, finish, next, load, instance, counts, join, why, detours, Reply, refused, Result, trace, left}
+use Rattle.plain.specs.Table.{Table, subgoal_at, answer_at, nodes, counted, subgoal_of, answer_of, following, with_subgoal, with_answer, settled, with_entry, known, fits, appended, called, while_open, answered, starting, onward, writes, given, entered, side_of, joining, sharing, newness, reasoned, goal_of, detouring, step, table_trace}
 use Rattle.plain.proofs.Growth.{step-grows}
 use Rattle.growing.specs.Promises.{resized, HadRoom, resized_result, LargerAccepts, AllHadRoom, LargerShows}
 

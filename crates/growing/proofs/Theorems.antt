@@ -1,5 +1,5 @@
 -- The promises of growing, proved.
-use Prim.Native.Nat.{ℕ, ◌≤◌}
+use Prim.Native.Nat.{ℕ}
 use mathlib.Core.Path.{◌≡◌, refl, sym, ap, ◌∙◌, subst}
 use mathlib.Core.Bool.{Bool, true, false, ◌&&◌}
 use mathlib.Core.List.{List}
@@ -9,11 +9,11 @@ use Rattle.basis.specs.Choice.{pick}
 use Rattle.basis.specs.Editions.{known_edition}
 use Rattle.plain.specs.Coding.{Coding, coding_of}
 use Rattle.plain.specs.CodingLaws.{CodingLaws}
-use Rattle.plain.specs.Requests.{Request, left}
-use Rattle.plain.specs.Table.{Table, nodes, fresh, step}
+use Rattle.plain.specs.Requests.{left}
+use Rattle.plain.specs.Table.{Table, nodes}
 use Rattle.plain.proofs.StoredCoding.{coding-laws}
 use Rattle.space.specs.Layout.{Sizes, sizes_of}
-use Rattle.space.specs.Heading.{header_of, space_header}
+use Rattle.space.specs.Heading.{header_of}
 use Rattle.space.specs.Fresh.{fresh_fits, fresh_answer, fresh_answer_in, fresh_space_in}
 use Rattle.space.specs.declared.FreshAnswer.{FreshAnswer}
 use Rattle.space.specs.declared.FreshAnswer.TheVariants.{Done, Refused}
@@ -23,7 +23,7 @@ use Rattle.store.specs.Views.{View, view_of}
 use Rattle.store.specs.Calls.{space_step}
 use Rattle.agreement.specs.Records.{Alike}
 use Rattle.agreement.specs.Whole.{whole_space, table_of, edition_of}
-use Rattle.agreement.specs.History.{Made, History, asked}
+use Rattle.agreement.specs.History.{asked}
 use Rattle.agreement.proofs.CallLists.{trace-same}
 use Rattle.agreement.proofs.CellChanges.{sizes-wide}
 use Rattle.agreement.proofs.Histories.{history-shown}
@@ -35,7 +35,7 @@ use Rattle.carrying.specs.Carrying.{holdable}
 use Rattle.carrying.specs.Copying.{where_fresh}
 use Rattle.carrying.specs.Promises.{Says}
 use Rattle.growing.specs.Growing.{enough, grow_under, grow_reply, grow_space}
-use Rattle.growing.specs.Promises.{resized, resized_view, Grown, view_before, view_after, GrowAnswers, GrowPasses, GrowGoesOn, GrowHistories, GrowOfCalls, GrowPromises}
+use Rattle.growing.specs.Promises.{resized, resized_view, Grown, view_before, GrowAnswers, GrowPasses, GrowGoesOn, GrowHistories, GrowOfCalls, GrowPromises}
 use Rattle.growing.proofs.GrownViews.{grown-view, grown-free, grown-frame, grow-refused, grows-as}
 use Rattle.growing.proofs.Regions.{Room, grows-room, header-in}
 use Rattle.growing.proofs.Resized.{nodes-resized, same-resized, callable-resized}

@@ -1,5 +1,5 @@
 -- Cells moved within a list.
-use Rattle.std.specs.Prelude.{ℕ, ◌+◌, ◌≤◌, Bool, List, ◌++◌, ltb, length, take, drop}
+use Rattle.std.specs.Prelude.{ℕ, ◌+◌, ◌≤◌, List, ◌++◌, ltb, length, take, drop}
 use Rattle.basis.specs.Choice.{pick}
 use Rattle.growing.specs.declared.Block.{Block}
 

@@ -3,7 +3,6 @@ use mathlib.Core.Path.{◌≡◌, refl, sym, ap, ◌∙◌, subst}
 use mathlib.Core.List.{List, []}
 use Prim.Native.Nat.{ℕ, ◌+◌, ◌-◌, ◌<◌, ◌≤◌}
 use native.Mathlib.Omega.{arith}
-use lib.Dec.{ltb}
 use borrow.Author.Tests.{lt-ltb, le-ltb}
 use Rattle.space.specs.Sound.{Bounds, NodesIn, subgoal_under}
 use Rattle.space.specs.declared.Head.{Head}
@@ -23,7 +22,7 @@ use Rattle.join.specs.declared.Tried.{Tried}
 use Rattle.join.specs.declared.Tried.TheVariants as tried
 use Rattle.join.specs.Joining.{room_for, TellsRoom, SomeNew, sides_of, Enterable, EntersAll}
 use Rattle.join.specs.declared.Parties.{Parties}
-use Rattle.join.specs.Trial.{room_of, Roomed, TriedAs, Tryable, TriesAll, HeadCounts, Settles, Triable, Settled, TellsInPlace}
+use Rattle.join.specs.Trial.{room_of, Roomed, Tryable, TriesAll, HeadCounts, Settles, Triable, Settled, TellsInPlace}
 use Rattle.join.proofs.CallCases.{may-enter}
 
 room-nodes : (h : Head) (n a : ℕ) → h.node_capacity - h.nodes < n → 10 ≡ room_for h n a

@@ -1,29 +1,28 @@
 -- The cells of free nodes have no part in what a join reads: its sources are the same with a draft and without.
-use mathlib.Core.Path.{◌≡◌, refl, sym, ap, ◌∙◌, subst}
-use mathlib.Core.List.{List, [], ◌∷◌}
+use mathlib.Core.Path.{◌≡◌, refl, sym, ap, ◌∙◌}
+use mathlib.Core.List.{List, ◌∷◌}
 use Prim.Native.Nat.{ℕ, ◌+◌, ◌*◌, ◌<◌, ◌≤◌}
 use native.Mathlib.Omega.{arith}
-use lib.ListN.{length, get_or, take}
+use lib.ListN.{take}
 use Rattle.plain.specs.Words.{Word}
-use Rattle.space.specs.Layout.{sizes, sizes_of, node_at, node_in, subgoal_at, answer_at, subgoal_offset_of, answer_offset_of}
+use Rattle.space.specs.Layout.{sizes, sizes_of, node_at, node_in, subgoal_at, answer_at}
 use Rattle.space.specs.Heading.{space_header, header_of, counted}
 use Rattle.space.specs.Sound.{Bounds, subgoal_under}
 use Rattle.space.specs.declared.Head.{Head}
 use Rattle.space.specs.declared.Header.TheVariants as header
-use Rattle.space.specs.declared.Subgoal.{Subgoal}
 use Rattle.space.proofs.HeaderLaws.{header-bounds}
 use Rattle.store.specs.Clauses.{view_in}
 use Rattle.agreement.specs.Records.{Alike}
 use Rattle.agreement.proofs.CellRecords.{Kept}
 use Rattle.agreement.proofs.CellRecords as cells
-use Rattle.agreement.proofs.SameBut.{SameBut, same-but-same, same-but-alike}
+use Rattle.agreement.proofs.SameBut.{same-but-same, same-but-alike}
 use Rattle.agreement.proofs.Frame.{space-read, Framed}
 use Rattle.pairing.specs.declared.Sides.{Sides}
 use Rattle.pairing.specs.declared.Cursor.{Cursor}
 use Rattle.pairing.specs.declared.Match.{Match}
 use Rattle.pairing.specs.declared.Match.TheVariants as match
 use Rattle.pairing.specs.Pairing.{Throughout, Stands, to_come, Advances}
-use Rattle.join.specs.Entering.{under_head, Target}
+use Rattle.join.specs.Entering.{Target}
 use Rattle.join.proofs.EnterLaws.{known_kept, stands-kept, come-kept, target-kept}
 
 pub kept_back : {lo hi : ℕ} {cs ds : List ℕ} → Kept lo hi cs ds → Kept lo hi ds cs

@@ -2,43 +2,35 @@
 use mathlib.Core.Path.{◌≡◌, refl, sym, ap, ◌∙◌, subst}
 use mathlib.Core.Bool.{Bool, true, false}
 use mathlib.Core.List.{List, [], ◌∷◌, ◌++◌}
-use Prim.Native.Nat.{ℕ, suc, ◌+◌, ◌-◌, ◌*◌, ◌<◌, ◌≤◌, ◌^◌, min}
+use Prim.Native.Nat.{ℕ, suc, ◌+◌, ◌-◌, ◌<◌, ◌≤◌, min}
 use native.Mathlib.Omega.{arith}
 use lib.Dec.{eqb}
 use lib.ListN.{length, take, drop, length-drop}
 use lib.Seq.{take_all}
 use borrow.Author.Tests.{ne_eqb}
 use Rattle.basis.specs.Choice.{pick}
-use Rattle.forms.specs.Stored.{stored_of}
 use Rattle.plain.specs.Words.{Word, has, most, prefixes}
 use Rattle.plain.proofs.Keys.{place-has}
 use Rattle.space.specs.Layout.{sizes, node_at, node_in}
-use Rattle.space.specs.Heading.{space_header}
-use Rattle.space.specs.Sound.{Bounds, NodesIn, subgoal_under}
-use Rattle.space.specs.declared.Head.{Head}
-use Rattle.space.specs.declared.Header.TheVariants as header
+use Rattle.space.specs.Sound.{Bounds, subgoal_under}
 use Rattle.space.specs.declared.Node.{Node}
-use Rattle.space.proofs.HeaderLaws.{header-bounds}
 use Rattle.trie.specs.Siblings.{trie_in}
-use Rattle.trie.specs.Walks.{Walk, whole, stopped, Finding, walk_by, shown}
+use Rattle.trie.specs.Walks.{whole, stopped, Finding, walk_by, shown}
 use Rattle.trie.specs.declared.Walked.TheVariants as walked
 use Rattle.trie.proofs.SearchLaws.{Finds}
 use Rattle.store.specs.Views.{View, answer_trie}
-use Rattle.store.specs.Decisions.{walk_to_by, missing, lacking, nodes_needed_by, answers_needed_by}
+use Rattle.store.specs.Decisions.{walk_to_by, missing, lacking}
 use Rattle.store.specs.Clauses.{view_in}
 use Rattle.store.proofs.CallsWalks.{shown-whole, shown-stopped, walk-whole, walk-stopped}
 use Rattle.agreement.proofs.CellRecords.{Kept}
 use Rattle.agreement.proofs.CellRecords as cells
-use Rattle.drafts.specs.declared.Room.{Room}
 use Rattle.drafts.specs.declared.Drafted.TheVariants as drafted
-use Rattle.drafts.specs.Entries.{Bucketed, lowest, highest}
-use Rattle.drafts.specs.Drafts.{word_of, Keyed, Draftable, words_with, WordDrafted}
-use Rattle.drafts.specs.Notes.{roots_below, Noted}
+use Rattle.drafts.specs.Drafts.{Keyed, Draftable, words_with, WordDrafted}
 use Rattle.drafts.proofs.Steady.{Steady, walk-local}
 use Rattle.drafts.proofs.Stops.{stopped-some}
-use Rattle.drafts.proofs.Noting.{noted-none, noted-stopped, noted-needs, noted-whole}
-use Rattle.drafts.proofs.DraftLaws.{kept_same, kept_then}
-use Rattle.drafts.proofs.Roots.{roots-prefixes, roots-size, keyed-none, bucketed-none, prefixes-word, word-brings}
+use Rattle.drafts.proofs.Noting.{noted-stopped, noted-needs, noted-whole}
+use Rattle.drafts.proofs.DraftLaws.{kept_then}
+use Rattle.drafts.proofs.Roots.{prefixes-word, word-brings}
 use Rattle.pairing.specs.declared.Sides.{Sides}
 use Rattle.join.specs.declared.Tally.{Tally}
 use Rattle.join.specs.declared.TriedForm.TheVariants as tried-form

@@ -1,27 +1,24 @@
 -- The pass over all forms of a join that counts on trial.
 use mathlib.Core.Path.{◌≡◌, refl, sym, ap, ◌∙◌, subst}
 use mathlib.Core.Bool.{Bool, true, false}
-use mathlib.Core.List.{List, [], ◌∷◌, ◌++◌}
-use Prim.Native.Nat.{ℕ, suc, ◌+◌, ◌-◌, ◌*◌, ◌<◌, ◌≤◌, ◌^◌, min}
+use mathlib.Core.List.{List, [], ◌∷◌}
+use Prim.Native.Nat.{ℕ, ◌+◌, ◌*◌, ◌<◌, ◌≤◌}
 use native.Mathlib.Omega.{arith}
 use lib.ListN.{length, take}
 use Rattle.basis.specs.Choice.{pick}
 use Rattle.forms.specs.Stored.{stored_of}
-use Rattle.plain.specs.Words.{Word, has, most, prefixes}
+use Rattle.plain.specs.Words.{Word, has}
 use Rattle.space.specs.Layout.{sizes, node_in}
-use Rattle.space.specs.Heading.{space_header}
 use Rattle.space.specs.Sound.{Bounds, NodesIn, subgoal_under}
-use Rattle.space.specs.declared.Header.TheVariants as header
 use Rattle.space.proofs.HeaderLaws.{header-bounds}
 use Rattle.trie.specs.Walks.{Finding}
 use Rattle.trie.proofs.SearchLaws.{Finds}
 use Rattle.store.specs.Decisions.{walk_to_by, lacking, nodes_needed_by, answers_needed_by}
 use Rattle.store.specs.Clauses.{view_in}
-use Rattle.agreement.proofs.CellRecords.{Kept}
 use Rattle.parts.specs.Parts.{all_fit}
-use Rattle.drafts.specs.Entries.{Bucketed, lowest, highest}
+use Rattle.drafts.specs.Entries.{lowest, highest}
 use Rattle.drafts.specs.Notes.{roots_below}
-use Rattle.drafts.specs.Wiping.{Blank, Wiped}
+use Rattle.drafts.specs.Wiping.{Wiped}
 use Rattle.drafts.proofs.Steady.{Steady}
 use Rattle.drafts.proofs.Noting.{noted-none}
 use Rattle.drafts.proofs.DraftLaws.{kept_same}
@@ -32,15 +29,15 @@ use Rattle.pairing.specs.declared.Cursor.{Cursor}
 use Rattle.pairing.specs.declared.Match.{Match}
 use Rattle.pairing.specs.declared.Match.TheVariants as match
 use Rattle.pairing.specs.Pairing.{two_hands, most_tokens, Throughout, Stands, to_come, Advances}
-use Rattle.pairing.specs.Counting.{beginning, all_forms, JoinReady, Fitting}
-use Rattle.pairing.proofs.CountLaws.{begins, all_come, fit-cons, not-long, all-few}
+use Rattle.pairing.specs.Counting.{beginning, all_forms}
+use Rattle.pairing.proofs.CountLaws.{begins, all_come, fit-cons, all-few}
 use Rattle.join.specs.declared.Tally.{Tally}
 use Rattle.join.specs.declared.TriedForm.TheVariants as tried-form
 use Rattle.join.specs.declared.Tried.{Tried}
 use Rattle.join.specs.declared.Tried.TheVariants as tried
 use Rattle.join.specs.Joining.{Enterable}
-use Rattle.join.specs.Trial.{room_of, Within, nodes_for, answers_for, Tallied, Formable, TriesForm, Tryable, TriedAs, TriesForms, TriesAll}
-use Rattle.join.proofs.TrialFrame.{header-kept, throughout-draft, stands-draft, advances-back}
+use Rattle.join.specs.Trial.{room_of, Within, nodes_for, answers_for, Tallied, Formable, TriesForm, Tryable, TriesForms, TriesAll}
+use Rattle.join.proofs.TrialFrame.{throughout-draft, stands-draft, advances-back}
 
 nodes-cons : (find : Finding) (cs : List ℕ) (x : Sides) (s : ℕ) (before : List Word) (w : Word) (ws : List Word)
     → nodes_needed_by find (view_in cs x.h) s before (w ∷ ws) ≡ nodes_for find cs x s before w + nodes_needed_by find (view_in cs x.h) s (w ∷ before) ws

@@ -1,5 +1,5 @@
 -- The forms of a join on trial: what the draft of their new nodes tells of what they need, and that it leaves no trace.
-use Rattle.std.specs.Prelude.{ℕ, ◌+◌, ◌-◌, ◌<◌, ◌≤◌, ◌^◌, min, Bool, true, List, [], ◌∷◌, ◌≡◌, eqb, leb, ltb, length}
+use Rattle.std.specs.Prelude.{ℕ, ◌+◌, ◌-◌, ◌<◌, ◌≤◌, ◌^◌, min, Bool, List, [], ◌∷◌, ◌≡◌, length}
 use Rattle.basis.specs.Choice.{pick}
 use Rattle.plain.specs.Words.{Word, has, most, prefixes}
 use Rattle.space.specs.Layout.{sizes, node_in}

@@ -1,18 +1,18 @@
 -- A law for each case of the slots, of the cells that a ledger has, and of entering nodes.
-use Prim.Native.Nat.{ℕ, zero, suc, ◌+◌, ◌-◌, ◌*◌, ◌/◌, ◌%◌, ◌^◌, ◌<◌, ◌≤◌, min}
+use Prim.Native.Nat.{ℕ, suc, ◌+◌, ◌-◌, ◌*◌, ◌/◌, ◌%◌, ◌^◌, ◌<◌, ◌≤◌, min}
 use mathlib.Core.Path.{◌≡◌, refl, sym, ap, ◌∙◌}
 use mathlib.Core.Bool.{true, false}
-use mathlib.Core.List.{List, [], ◌∷◌}
+use mathlib.Core.List.{List}
 use native.Mathlib.Nat.{mul-le-mul_left, min-eq_left, min-eq_right, zero-min, min-le_left, min-le_right}
 use native.Mathlib.Omega.{arith}
 use lib.Dec.{eqb, ltb, leb}
-use lib.ListN.{length, get_or, set, length-set}
+use lib.ListN.{length, get_or, set}
 use borrow.Author.Tests.{eq-eqb, ne_eqb, lt-ltb, le-ltb, le-leb, lt-leb, leb-true}
 use Rattle.basis.specs.Choice.{pick}
 use Rattle.basis.proofs.Cases.{by_cases}
 use Rattle.space.specs.declared.Node.{Node}
 use Rattle.trie.specs.Index.{slot_after, insert_from}
-use Rattle.trie.specs.Ledger.{Ledger, mixed_slot, ledger_capacity, enter_node, enter_nodes, caught_up, stamp}
+use Rattle.trie.specs.Ledger.{Ledger, mixed_slot, ledger_capacity, enter_node, enter_nodes, caught_up}
 use Rattle.trie.proofs.LedgerLaws.{mixed-inside, nodes-long}
 use Rattle.keeping.specs.Clauses.{ledger_in, nodes_held, nodes_in, LeavesLedger, EntersNode, CatchesUp}
 

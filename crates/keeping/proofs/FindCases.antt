@@ -1,14 +1,14 @@
 -- A law for each case of the search by a ledger, over the cells and records that were read.
-use Prim.Native.Nat.{ℕ, zero, suc, ◌+◌, ◌-◌, ◌*◌, ◌^◌, ◌<◌, ◌≤◌}
-use mathlib.Core.Path.{◌≡◌, refl, sym, ap, ◌∙◌, subst}
+use Prim.Native.Nat.{ℕ, suc, ◌+◌, ◌-◌, ◌^◌, ◌<◌, ◌≤◌}
+use mathlib.Core.Path.{◌≡◌, refl, sym, ap, ◌∙◌}
 use mathlib.Core.Bool.{Bool, true, false}
-use mathlib.Core.List.{List, [], ◌∷◌}
+use mathlib.Core.List.{List, []}
 use mathlib.Core.Logic.{◌⊎◌, inl, inr}
 use native.Mathlib.Omega.{arith}
-use lib.Dec.{eqb, ltb, leb}
+use lib.Dec.{eqb}
 use lib.ListN.{length, get_or, take, length-take}
 use lib.Seq.{take_all}
-use borrow.Author.Tests.{eqb-true, eqb-false, eq-eqb, ne_eqb, lt-ltb, le-ltb, le-leb, lt-leb}
+use borrow.Author.Tests.{eq-eqb, ne_eqb, lt-ltb, le-ltb, le-leb, lt-leb}
 use Rattle.basis.specs.Choice.{pick}
 use Rattle.basis.proofs.Cases.{by_cases}
 use Rattle.space.specs.Layout.{sizes, node_in}
@@ -16,12 +16,12 @@ use Rattle.space.specs.Judging.{read_node}
 use Rattle.space.specs.declared.Node.{Node}
 use Rattle.space.specs.declared.NodeRead.TheVariants as node
 use Rattle.space.proofs.JudgingLaws.{read-node-sound, read-node-damaged}
-use Rattle.trie.specs.Siblings.{Trie, trie_in, sound, at_sibling, search_children}
+use Rattle.trie.specs.Siblings.{Trie, trie_in, at_sibling, search_children}
 use Rattle.trie.specs.Walks.{walk_from_by, walk_from}
 use Rattle.trie.specs.Index.{slot_after, confirmed, confirmed_in, judged_in, probe}
-use Rattle.trie.specs.Ledger.{Ledger, mixed_slot, ledger_capacity, usable, is_last, absent, found_in, search_in}
+use Rattle.trie.specs.Ledger.{Ledger, mixed_slot, usable, is_last, absent, found_in, search_in}
 use Rattle.trie.specs.declared.Search.{Search}
-use Rattle.trie.specs.declared.Search.TheVariants.{Found, Last, Damaged}
+use Rattle.trie.specs.declared.Search.TheVariants.{Last}
 use Rattle.trie.proofs.SearchCases.{Here}
 use Rattle.trie.proofs.IndexLaws.{probe_found, confirmed-is, from-alike}
 use Rattle.trie.proofs.LedgerLaws.{capacity-slots, capacity-lasts, capacity-most, usable-parts}

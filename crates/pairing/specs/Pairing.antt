@@ -1,6 +1,6 @@
 -- The pairs of a join one after another: the answers of a source from one on, the answers in hand, where a join stands,
 -- and the forms that are still to come.
-use Rattle.std.specs.Prelude.{ℕ, ◌+◌, ◌-◌, ◌≤◌, ◌<◌, Bool, true, List, [], ◌∷◌, ◌++◌, map, ◌≡◌, length, take, drop, get_or}
+use Rattle.std.specs.Prelude.{ℕ, ◌-◌, ◌≤◌, ◌<◌, Bool, true, List, [], ◌∷◌, ◌++◌, map, ◌≡◌, length, take, drop, get_or}
 use Rattle.forms.specs.Stored.{stored_of}
 use Rattle.plain.specs.Words.{Word}
 use Rattle.plain.specs.Coding.{coding_of}

@@ -1,27 +1,26 @@
 -- Two codings that read alike answer alike (specs/Alike.antt): the second table is the first with its forms translated.
 use mathlib.Core.Path.{◌≡◌, refl, sym, ap, ◌∙◌, subst}
-use mathlib.Core.Bool.{Bool, true, false, ◌||◌}
+use mathlib.Core.Bool.{Bool, true, false}
 use mathlib.Core.List.{List, [], ◌∷◌, ◌++◌, map, map-append}
-use Prim.Native.Nat.{ℕ, zero, suc, ◌-◌, ◌≤◌, ◌<◌, pred}
+use Prim.Native.Nat.{ℕ, zero, suc, ◌-◌, pred}
 use native.Mathlib.Omega.{arith}
 use lib.Dec.{eqb, leb, ltb}
-use lib.ListN.{length, get_or, drop, set, length-map, get_or-map}
+use lib.ListN.{length, get_or, set, length-map, get_or-map}
 use Rattle.basis.specs.Choice.{pick}
 use Rattle.basis.proofs.Cases.{by_cases}
-use Rattle.forms.specs.Numbering.{met}
 use Rattle.forms.specs.Compact.{same}
 use Rattle.forms.proofs.RoundTrip.{same_self, same_true}
 use Rattle.plain.specs.Words.{Word}
 use Rattle.plain.specs.Coding.{Coding, Reading, refused, accepted, naming}
 use Rattle.plain.specs.CodingLaws.{CodingLaws}
-use Rattle.plain.specs.Joins.{Forms, declined, formed, Side, Terms, combined, before, all_read, is_open, ground, named, join_of}
+use Rattle.plain.specs.Joins.{Forms, declined, formed, Side, combined, before, all_read, is_open, ground, named, join_of}
 use Rattle.plain.specs.Requests.{State, Open, Finished, Request, call_least, answer, finish, next, load, instance, counts, join, why, detours}
-use Rattle.plain.specs.Requests.{Reply, new, old_subgoal, old_answer, done, at, none_yet, no_more, cells, used, joined, refused, short, lacks_next, Result, Seen, trace}
-use Rattle.plain.specs.Table.{Table, Subgoal, Answer, fresh, no_subgoal, no_answer, subgoal_at, answer_at, subgoal_of_answer, answers_to, nodes, counted, number, subgoal_of, answer_of, after, following}
+use Rattle.plain.specs.Requests.{Reply, new, old_subgoal, old_answer, used, joined, refused, short, Result, Seen, trace}
+use Rattle.plain.specs.Table.{Table, Subgoal, Answer, fresh, no_subgoal, no_answer, subgoal_at, answer_at, subgoal_of_answer, answers_to, counted, number, subgoal_of, answer_of, after, following}
 use Rattle.plain.specs.Table.{with_subgoal, with_answer, with_finished, settled, with_entry, stays, becomes, known, fits, appended, called, answered, while_open, starting, onward, writes, given, entered, side_of, joining, newness, reasoned, numbered_answers, goal_of, detouring, step, table_trace}
-use Rattle.plain.specs.Detours.{Live, Goal, Option, offers, all_offer, goals_fit, any_open, few_goals, option_of, options_of, detours_of, all_within}
+use Rattle.plain.specs.Detours.{Live, Goal, Option, all_offer, goals_fit, any_open, few_goals, option_of, options_of, detours_of}
 use Rattle.plain.specs.Alike.{nodes_apart, reason_apart, reply_apart, seen_apart, is_ten, up_to_ten, AnswerAlike, read_as, ReadAlike}
-use Rattle.plain.proofs.Changes.{Readable, Read, all_read_lem, join-cases, AnswerEnters, AnswersEnter, no-more, one_more_lem, Changed, stayed, subgoal-enters, answer-enters, finishes, answers-enter, step-changed}
+use Rattle.plain.proofs.Changes.{Readable, Read, all_read_lem, join-cases, AnswersEnter, no-more, one_more_lem, Changed, stayed, subgoal-enters, answer-enters, finishes, answers-enter, step-changed}
 use Rattle.plain.proofs.Naming.{naming-cases}
 
 map-set : {A B : Type 0} (f : A → B) (l : List A) (i : ℕ) (v : A) → map f (set l i v) ≡ set (map f l) i (f v)

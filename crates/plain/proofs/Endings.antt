@@ -1,23 +1,22 @@
 -- No list of calls gives a finished subgoal an answer; so "no more" is final.
 use mathlib.Core.Path.{◌≡◌, refl, sym, ap, ◌∙◌}
-use mathlib.Core.Bool.{Bool, true, false}
+use mathlib.Core.Bool.{true, false}
 use mathlib.Core.List.{List, [], ◌∷◌}
 use Prim.Native.Nat.{ℕ, suc, ◌≤◌, ◌<◌}
 use native.Mathlib.Omega.{arith}
 use lib.Dec.{eqb, leb}
 use lib.ListN.{length}
-use borrow.Author.Tests.{eqb-true, eqb-false, leb-true, leb-false, eq-eqb}
-use Rattle.basis.specs.Choice.{pick}
+use borrow.Author.Tests.{eqb-true, eqb-false, leb-true, leb-false}
 use Rattle.basis.proofs.Cases.{by_cases}
 use Rattle.plain.specs.Words.{Word}
 use Rattle.plain.specs.Coding.{Coding}
-use Rattle.plain.specs.Requests.{State, Open, Finished, Request, next, Reply, at, none_yet, no_more, lacks_next, refused, Result, left}
-use Rattle.plain.specs.Table.{Table, Answer, subgoal_at, answer_at, subgoal_of_answer, after, following, starting, onward, becomes, with_answer, with_entry, step}
+use Rattle.plain.specs.Requests.{State, Open, Finished, Request, next, no_more, lacks_next, left}
+use Rattle.plain.specs.Table.{Table, Answer, subgoal_at, subgoal_of_answer, after, following, starting, onward, with_answer, with_entry, step}
 use Rattle.plain.specs.Consequences.{Ending}
 use Rattle.plain.proofs.AfterLaws.{after-found, after-least}
-use Rattle.plain.proofs.RecordLaws.{answer_at-new, subgoals-count, settled-answer_at, entry-count}
+use Rattle.plain.proofs.RecordLaws.{answer_at-new, settled-answer_at, entry-count}
 use Rattle.plain.proofs.Changes.{known-cases, AnswersEnter, no-more, one_more_lem, Changed, stayed, subgoal-enters, answer-enters, finishes, answers-enter, step-changed}
-use Rattle.plain.proofs.Growth.{Grows, grows-refl, grows-trans, entering-grows, step-grows, left-grows}
+use Rattle.plain.proofs.Growth.{Grows, entering-grows, step-grows, left-grows}
 use Rattle.plain.proofs.NextLaws.{next-reply, starting-answer}
 
 -- no answer past those of t is to s

@@ -19,7 +19,7 @@ use Rattle.plain.specs.Consequences.{Entering}
 use Rattle.plain.proofs.WordLaws.{or_right, has-snoc}
 use Rattle.plain.proofs.LongestShared.{most-le, brought}
 use Rattle.plain.proofs.NumberLaws.{Given, answer_of-none, answer_of-some}
-use Rattle.plain.proofs.RecordLaws.{Lasts, equal-lasts, answer-held, closing, entry-answers, entry-count, entry-subgoals, entry-nodes, entry-lasts, entry-own, settled-rooms}
+use Rattle.plain.proofs.RecordLaws.{answer-held, entry-answers, entry-count, entry-subgoals, entry-nodes, entry-lasts, entry-own, settled-rooms}
 use Rattle.plain.proofs.Counted.{answers_to-same, answer_nodes-inside}
 
 -- ---- the most that a word of a list shares

@@ -15,13 +15,13 @@ use Rattle.plain.specs.Coding.{Coding, Reading, refused, accepted}
 use Rattle.plain.specs.Requests.{State, Open, Request, answer, load, instance, Reply, new, old_answer, refused, cells}
 use Rattle.plain.specs.Requests.{short, Counts, Result, Seen, trace, left}
 use Rattle.plain.specs.Table.{Table, Subgoal, Answer, fresh, no_subgoal, no_answer, subgoal_at, answer_at, subgoal_of_answer, answers_to}
-use Rattle.plain.specs.Table.{answer_nodes, nodes, counted, answer_of, with_answer, settled, with_entry, fits, appended}
+use Rattle.plain.specs.Table.{answer_nodes, nodes, counted, answer_of, with_answer, with_entry, fits, appended}
 use Rattle.plain.specs.Table.{answered, writes, step, table_trace}
 use Rattle.plain.specs.Consequences.{numbers_of, Visits, reached}
 use Rattle.plain.specs.Order.{Accepted, Exchangeable, Exchanged, unchanged, exchange, behind, again, unnumbered}
 use Rattle.plain.specs.Order.{compared, concerns, Heard, heard}
 use Rattle.plain.specs.Order.{loads_of, instances_of, HandsOut, SameAnswers, SameButNumbers, OtherOrder, Rearranged}
-use Rattle.plain.specs.Order.{ArrivalOrder, Renumbered, PlainArrivalOrder}
+use Rattle.plain.specs.Order.{Renumbered, PlainArrivalOrder}
 use Rattle.plain.proofs.NumberLaws.{answer_of-none, answer_of-some}
 use Rattle.plain.proofs.PrefixLaws.{distinct_snoc}
 use Rattle.plain.proofs.Changes.{known-cases, open-cases, appended-cases}

@@ -1,12 +1,12 @@
 -- Instance writes the called term with the answering terms for its variables (specs/InstanceMeaning.antt).
 use mathlib.Core.Path.{◌≡◌, refl, sym, ap, ◌∙◌}
-use mathlib.Core.Bool.{true, false}
+use mathlib.Core.Bool.{true}
 use mathlib.Core.List.{List, [], ◌∷◌, ◌++◌, map, map-append}
-use Prim.Native.Nat.{ℕ, zero, suc, ◌^◌, ◌≤◌, ◌<◌}
+use Prim.Native.Nat.{ℕ, zero, suc, ◌≤◌, ◌<◌}
 use native.Mathlib.Omega.{arith}
 use native.Mathlib.Nat.{not-suc-le-zero}
 use lib.Dec.{ltb}
-use lib.ListN.{length, get_or, length-map}
+use lib.ListN.{length, get_or}
 use borrow.Author.Tests.{eq-eqb, lt-ltb, le-leb}
 use Rattle.basis.specs.Choice.{pick}
 use Rattle.basis.proofs.Cases.{by_cases}
@@ -15,12 +15,11 @@ use Rattle.forms.specs.Terms.{Term, cell, arg, pair, pairs, every, reads}
 use Rattle.forms.specs.Numbering.{rank, met, renamed, numbered}
 use Rattle.forms.specs.Stored.{StoredForm}
 use Rattle.forms.specs.Promises.{Legal}
-use Rattle.forms.proofs.NumberingLaws.{mapped, rank-le, met-length, numbered-reads, numbered-renamed, In, Each, each-met}
+use Rattle.forms.proofs.NumberingLaws.{mapped, numbered-reads, numbered-renamed, In, Each, each-met}
 use Rattle.forms.proofs.ExactLaws.{terms-pairs}
 use Rattle.forms.proofs.StoredLaws.{ExactTerms, StoredLaws}
 use Rattle.plain.specs.Words.{Word}
-use Rattle.plain.specs.Coding.{Coding, Reading, refused, accepted, substituted, coded_as}
-use Rattle.plain.specs.CodingLaws.{CodingLaws}
+use Rattle.plain.specs.Coding.{Coding, Reading, refused, accepted, coded_as}
 use Rattle.plain.specs.Requests.{Request, call, answer, instance, Result, left}
 use Rattle.plain.specs.Table.{Table, Subgoal, Answer, fresh, subgoal_at, answer_at, subgoal_of_answer, with_subgoal, with_answer, with_entry, called, answered, writes, step}
 use Rattle.plain.specs.Consequences.{Gives, reached}
@@ -31,7 +30,7 @@ use Rattle.plain.proofs.NumberLaws.{Called, Given}
 use Rattle.plain.proofs.RecordLaws.{subgoal_at-new, subgoals-count, answer_at-new, settled-answer_at, entry-count, entry-subgoals, entry-lasts}
 use Rattle.plain.proofs.Changes.{known-cases, appended-cases, called-cases, answered-cases}
 use Rattle.plain.proofs.Growth.{Grows, left-grows}
-use Rattle.plain.proofs.Soundness.{Sound, sound-reached}
+use Rattle.plain.proofs.Soundness.{sound-reached}
 use Rattle.plain.proofs.Naming.{naming-none}
 
 -- ---- variables of the parts

@@ -1,27 +1,25 @@
 -- A list of constants as a subgoal's first answer: its tokens in each stored form are the nodes that it takes.
 use mathlib.Core.Path.{◌≡◌, refl, sym, ap, ◌∙◌}
 use mathlib.Core.Bool.{true, false}
-use mathlib.Core.List.{List, [], ◌∷◌, ◌++◌}
-use Prim.Native.Nat.{ℕ, suc, ◌+◌, ◌*◌, ◌-◌, ◌≤◌, ◌<◌}
+use mathlib.Core.List.{List, [], ◌∷◌}
+use Prim.Native.Nat.{ℕ, suc, ◌+◌, ◌*◌, ◌≤◌, ◌<◌}
 use native.Mathlib.Omega.{arith}
-use lib.Dec.{ltb}
-use lib.ListN.{length, length-append}
+use lib.ListN.{length}
 use borrow.Author.Tests.{lt-ltb, le-ltb, le-leb, lt-leb}
-use Rattle.basis.proofs.Cases.{by_cases}
-use Rattle.forms.specs.Cells.{nil, PAIR, variable, shape_of}
-use Rattle.forms.specs.Terms.{Term, cell, arg, pair, pairs, every, are_terms}
-use Rattle.forms.specs.Numbering.{met, numbered}
+use Rattle.forms.specs.Cells.{nil, PAIR, shape_of}
+use Rattle.forms.specs.Terms.{Term, cell, pair, pairs, are_terms}
+use Rattle.forms.specs.Numbering.{met}
 use Rattle.forms.specs.Compact.{compact, elements, compact_form}
 use Rattle.forms.specs.Stored.{StoredForm, compact_stored, pair_stored}
 use Rattle.forms.specs.Converting.{reading}
 use Rattle.forms.proofs.ReadLaws.{WellFormed}
 use Rattle.forms.proofs.ShapeLaws.{constant-shape}
 use Rattle.forms.proofs.NumberingLaws.{numbered-length}
-use Rattle.forms.proofs.LongestForms.{Constant, constant-append, constant-met, one-terms, one_form}
+use Rattle.forms.proofs.LongestForms.{Constant, constant-met, one-terms, one_form}
 use Rattle.plain.specs.Words.{Word, has, most}
 use Rattle.plain.specs.Coding.{accepted, judged, naming, handed_on, taken, coded_as}
-use Rattle.plain.specs.Requests.{Open, answer, new, refused}
-use Rattle.plain.specs.Table.{Table, subgoal_at, answers_to, nodes, answer_of, with_answer, with_entry, known, fits, appended, answered, step}
+use Rattle.plain.specs.Requests.{answer, new, refused}
+use Rattle.plain.specs.Table.{Table, subgoal_at, answers_to, nodes, with_entry, fits, appended, answered, step}
 use Rattle.plain.specs.ListNodes.{list_cells, Constants, Unanswered, TakesNodes, ListNodes}
 use Rattle.plain.proofs.NumberLaws.{answer_of-none}
 use Rattle.plain.proofs.RecordLaws.{entry-nodes}

@@ -1,12 +1,10 @@
 -- Arrival order is false of the two tables of specs/OrderExamples.antt: two answers change places, and a difference is
 -- seen.
 use mathlib.Core.List.{List, [], ◌∷◌}
-use mathlib.Core.Path.{◌≡◌, refl, sym, ap, ◌∙◌, subst}
-use Prim.Native.Nat.{ℕ, zero, suc, ◌+◌}
+use mathlib.Core.Path.{◌≡◌, refl, ap}
+use Prim.Native.Nat.{ℕ}
 use native.Mathlib.Omega.{arith}
-use lib.Dec.{ltb}
-use lib.ListN.{length, get_or}
-use Rattle.basis.specs.Choice.{pick}
+use lib.ListN.{get_or}
 use Rattle.forms.specs.Cells.{arity_of, callable, shape_of, symbolic, token_of}
 use Rattle.forms.specs.Terms.{pairs, every, applied, paired, begun, reads, are_terms}
 use Rattle.forms.specs.Numbering.{rank, seen, met, renamed, numbered}
@@ -16,7 +14,7 @@ use Rattle.forms.specs.Converting.{reading}
 use Rattle.forms.specs.Stored.{stored_of}
 use Rattle.plain.specs.Words.{has, add, union, inits, all_inits, prefixes, distinct}
 use Rattle.plain.specs.Coding.{judged, naming, handed_on, predicate, taken, coding_of}
-use Rattle.plain.specs.Requests.{Request, call, answer, Counts, Reply, at, none_yet, no_more, lacks_next, State, Open, Finished, Result, Seen, trace, left}
+use Rattle.plain.specs.Requests.{Request, call, answer, Counts, at, none_yet, no_more, State, Open, Finished, Seen, trace, left}
 use Rattle.plain.specs.Table.{settled, Table, fresh, no_subgoal, no_answer, subgoal_at, answer_at, answers_to, answer_nodes}
 use Rattle.plain.specs.Table.{nodes, counted, number, subgoal_of, answer_of, after, following, starting, onward}
 use Rattle.plain.specs.Table.{writes, fits, appended, called, answered, step}

@@ -1,15 +1,14 @@
 -- Stored forms: none goes on from another, and those of a sound table are legal.
 use mathlib.Core.Path.{◌≡◌, refl, sym, ap, ◌∙◌, subst}
 use mathlib.Core.Bool.{true, false≢true}
-use mathlib.Core.List.{List, [], ◌∷◌, ◌++◌, append-nil}
+use mathlib.Core.List.{[], ◌∷◌, ◌++◌, append-nil}
 use Prim.Native.Nat.{ℕ, ◌≤◌, ◌<◌}
-use native.Mathlib.Omega.{arith}
 use lib.Dec.{eqb}
 use lib.ListN.{length}
 use borrow.Author.Tests.{eqb-true}
 use Rattle.basis.proofs.Cases.{by_cases}
 use Rattle.plain.specs.Words.{Word, has}
-use Rattle.plain.specs.Coding.{Coding, accepted}
+use Rattle.plain.specs.Coding.{Coding}
 use Rattle.plain.specs.CodingLaws.{CodingLaws}
 use Rattle.plain.specs.Table.{Table, subgoal_at, answer_at, subgoal_of_answer, called_forms, answers_to, subgoal_of, answer_of}
 use Rattle.plain.proofs.PrefixLaws.{starts}

@@ -2,20 +2,19 @@
 use mathlib.Core.Path.{◌≡◌, refl, sym, ap, ◌∙◌}
 use mathlib.Core.Bool.{true≢false}
 use mathlib.Core.List.{List, []}
-use mathlib.Core.Logic.{◌⊎◌, inl, inr}
+use mathlib.Core.Logic.{inl, inr}
 use Prim.Native.Nat.{ℕ, suc, ◌≤◌, ◌<◌}
 use native.Mathlib.Omega.{arith}
-use lib.Dec.{eqb, leb, ltb}
+use lib.Dec.{leb, ltb}
 use lib.ListN.{length, take, drop}
 use lib.Seq.{take-append_seam}
 use borrow.Author.Tests.{ne_eqb, lt-ltb, le-leb, leb-true, leb-false}
-use Rattle.basis.specs.Choice.{pick}
 use Rattle.basis.proofs.Cases.{by_cases}
-use Rattle.forms.specs.Numbering.{met, numbered}
+use Rattle.forms.specs.Numbering.{numbered}
 use Rattle.plain.specs.Words.{Word, has}
 use Rattle.plain.specs.Coding.{Coding, Reading, refused, accepted, compact_coding, pair_coding}
 use Rattle.plain.specs.CodingLaws.{CodingLaws}
-use Rattle.plain.specs.Requests.{Finished, call, answer, finish, load, instance, new, old_answer, done, cells, refused, Reply, Result, left}
+use Rattle.plain.specs.Requests.{Finished, call, answer, finish, load, instance, new, done, cells, refused, Result, left}
 use Rattle.plain.specs.Table.{Table, Subgoal, Answer, subgoal_at, answer_at, subgoal_of_answer, answers_to, answer_of, with_subgoal, with_answer, with_entry, called, answered, writes, step}
 use Rattle.plain.specs.Consequences.{Gives, OldOrRefused, Kept, reached, Calling, Answering, Loading, Finishing, Repeating, FinishedBy, Numbering, Consequences}
 use Rattle.plain.proofs.NumberLaws.{Given, answer_of-none, answer_of-some}

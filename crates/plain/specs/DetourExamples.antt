@@ -1,6 +1,6 @@
 -- Detours on the plain table, in edition 1: a search within budgets below, at and above what it needs; refusals in
 -- their order.
-use Rattle.std.specs.Prelude.{Bool, true, false, List, [], ◌∷◌, ◌++◌, map, ◌≡◌, refl, ℕ, ◌+◌, ◌-◌, length}
+use Rattle.std.specs.Prelude.{Bool, true, false, List, [], ◌∷◌, ◌++◌, map, ◌≡◌, refl, ℕ, length}
 use Rattle.forms.specs.Cells.{arity_of, callable, shape_of, symbolic, token_of}
 use Rattle.forms.specs.Terms.{pairs, every, applied, paired, begun, reads, are_terms}
 use Rattle.forms.specs.Numbering.{rank, seen, met, renamed, numbered}

@@ -1,5 +1,5 @@
 -- Instances, computed: each variable gets its own term, out may fit exactly, and no integer is called.
-use Rattle.std.specs.Prelude.{List, [], ◌∷◌, map, ◌≡◌, refl, ℕ, zero, suc, ◌+◌, ◌*◌, replicate}
+use Rattle.std.specs.Prelude.{List, [], ◌∷◌, map, ◌≡◌, refl, ℕ, replicate}
 use Rattle.forms.specs.Cells.{arity_of, callable, nil, PAIR, shape_of, symbolic, token_of}
 use Rattle.forms.specs.Terms.{pairs, every, applied, paired, begun, reads, are_terms}
 use Rattle.forms.specs.Numbering.{rank, seen, met, renamed, numbered}
@@ -9,7 +9,7 @@ use Rattle.forms.specs.Converting.{reading}
 use Rattle.forms.specs.Stored.{stored_of}
 use Rattle.plain.specs.Words.{has, add, union, inits, all_inits, prefixes, distinct}
 use Rattle.plain.specs.Coding.{judged, naming, handed_on, predicate, taken, substituted, coding_of}
-use Rattle.plain.specs.Requests.{Request, call, answer, instance, Reply, new, cells, refused, short, Seen, trace}
+use Rattle.plain.specs.Requests.{Request, call, answer, instance, new, cells, refused, short, Seen, trace}
 use Rattle.plain.specs.Table.{settled, fresh, no_subgoal, no_answer, subgoal_at, answer_at, answers_to, answer_nodes}
 use Rattle.plain.specs.Table.{nodes, counted, number, subgoal_of, answer_of, after, following, fits, appended}
 use Rattle.plain.specs.Table.{called, answered, starting, onward, writes, step, table_trace}

@@ -1,6 +1,6 @@
 -- The rule of a join: from the answers of two sources the forms of the answers that it gives its target, or refusal 8,
 -- 14, 15, 16 or 4, in this order. The plain table and the calls on cells both follow it.
-use Rattle.std.specs.Prelude.{Bool, true, false, List, [], ◌∷◌, ◌++◌, map, ℕ, ◌+◌, ◌*◌, eqb, leb, ltb, length, get_or}
+use Rattle.std.specs.Prelude.{Bool, true, false, List, [], ◌∷◌, ◌++◌, map, ℕ, ◌*◌, eqb, leb, ltb, length, get_or}
 use Rattle.basis.specs.Choice.{pick}
 use Rattle.forms.specs.Numbering.{met}
 use Rattle.forms.specs.Compact.{same}

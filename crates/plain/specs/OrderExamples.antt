@@ -1,6 +1,6 @@
 -- Arrival order on the plain table, in edition 1: two answers that change places, among refused calls and before a
 -- join; and two tables of which arrival order is false.
-use Rattle.std.specs.Prelude.{List, [], ◌∷◌, ◌++◌, map, ◌≡◌, refl, ℕ, zero, suc, ◌+◌, ltb, length}
+use Rattle.std.specs.Prelude.{List, [], ◌∷◌, ◌++◌, map, ◌≡◌, refl, ℕ, ◌+◌, ltb, length}
 use Rattle.std.proofs.Common.{arith}
 use Rattle.basis.specs.Choice.{pick}
 use Rattle.forms.specs.Cells.{arity_of, callable, shape_of, symbolic, token_of}

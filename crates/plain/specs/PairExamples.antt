@@ -1,5 +1,5 @@
 -- A table in numbered pair form beside one in compact form, computed: editions 3 and 4.
-use Rattle.std.specs.Prelude.{Bool, true, false, List, [], ◌∷◌, ◌≡◌, refl, ℕ, ◌*◌, ◌+◌}
+use Rattle.std.specs.Prelude.{true, false, List, [], ◌∷◌, ◌≡◌, refl, ℕ}
 use Rattle.forms.specs.Cells.{arity_of, callable, tag, nil, PAIR, BLIST, ELIST, shape_of, symbolic, token_of}
 use Rattle.forms.specs.Terms.{pairs, every, applied, paired, begun, reads, are_terms}
 use Rattle.forms.specs.Numbering.{rank, seen, met, renamed, numbered}
@@ -9,7 +9,7 @@ use Rattle.forms.specs.Stored.{legal_pairs, stored_of}
 use Rattle.forms.specs.Converting.{reading}
 use Rattle.plain.specs.Words.{has, add, union, inits, all_inits, prefixes, distinct}
 use Rattle.plain.specs.Coding.{judged, naming, handed_on, predicate, taken, substituted, coding_of}
-use Rattle.plain.specs.Requests.{Request, call, answer, load, counts, Seen, new, old_answer, cells, used, refused}
+use Rattle.plain.specs.Requests.{Request, call, answer, load, Seen, new, old_answer, cells, refused}
 use Rattle.plain.specs.Requests.{trace}
 use Rattle.plain.specs.Table.{no_subgoal, no_answer, subgoal_at, answer_at, answers_to, answer_nodes, nodes, counted}
 use Rattle.plain.specs.Table.{number, subgoal_of, answer_of, fits, appended, called, answered, writes, step}

@@ -1,6 +1,6 @@
 -- A law for each case of why: the way down by first children, the subgoal of a leaf, the reason.
 use Prim.Native.Nat.{ℕ, zero, suc, ◌+◌, ◌-◌, ◌<◌, ◌≤◌}
-use mathlib.Core.Path.{◌≡◌, refl, sym, ap, ◌∙◌, subst}
+use mathlib.Core.Path.{◌≡◌, refl, sym, ap, ◌∙◌}
 use mathlib.Core.Bool.{Bool, true, false, ◌&&◌}
 use mathlib.Core.List.{List, [], ◌++◌}
 use native.Mathlib.Omega.{arith}
@@ -9,7 +9,6 @@ use lib.Seq.{take_at}
 use lib.Dec.{eqb, ltb}
 use borrow.Author.Tests.{eq-eqb, ne_eqb, ltb-true}
 use Rattle.basis.specs.Choice.{pick}
-use Rattle.basis.proofs.Cases.{by_cases}
 use Rattle.forms.specs.Cells.{callable, arity_of}
 use Rattle.forms.specs.Converting.{reading}
 use Rattle.forms.specs.Numbering.{met}

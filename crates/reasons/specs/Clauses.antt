@@ -1,5 +1,5 @@
 -- What the functions of why ask for and what they leave: the names that their contracts use.
-use Rattle.std.specs.Prelude.{ℕ, ◌<◌, ◌≤◌, ◌≡◌, true, List, eqb, length, take}
+use Rattle.std.specs.Prelude.{ℕ, ◌<◌, ◌≤◌, ◌≡◌, true, List, eqb, take}
 use Rattle.basis.specs.Choice.{pick}
 use Rattle.plain.specs.Requests.{Reply, old_as, new_past, because}
 use Rattle.space.specs.Layout.{sizes}

@@ -22,8 +22,8 @@ use Rattle.store.specs.Decisions.{called_old, called_new, called_at, called_by, 
 use Rattle.store.specs.Decisions.{answered_by, starting, handed, onward, on_path, loaded, instanced, decide_by}
 use Rattle.store.specs.Changes.{subgoal_entered, answer_entered, change_by}
 use Rattle.store.specs.Calls.{reply, out_after, under_by, under_any_by, space_step_by}
-use Rattle.plain.specs.Requests.{Open, call, answer, finish, next, load, instance, counts, new}
-use Rattle.plain.specs.Requests.{old_subgoal, cells, used, refused, short, lent}
+use Rattle.plain.specs.Requests.{Open, call, next, counts}
+use Rattle.plain.specs.Requests.{old_subgoal, cells, used, short, lent}
 use Rattle.text.specs.Fields.{fields, value_from, numeral, hex_cells}
 use Rattle.text.specs.Digits.{digits_before, cell_texts}
 use Rattle.text.specs.Letters.{letters}

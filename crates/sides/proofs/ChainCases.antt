@@ -8,9 +8,7 @@ use lib.ListN.{length}
 use borrow.Author.Tests.{eq-eqb, ne_eqb}
 use Rattle.forms.specs.Numbering.{met}
 use Rattle.basis.proofs.Cases.{by_cases}
-use Rattle.forms.specs.Cells.{arity_of}
 use Rattle.forms.specs.Stored.{stored_of}
-use Rattle.forms.specs.Compact.{legal_form}
 use Rattle.plain.specs.Words.{Word}
 use Rattle.plain.specs.Coding.{coding_of}
 use Rattle.plain.specs.Joins.{ground}

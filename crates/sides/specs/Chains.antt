@@ -1,7 +1,5 @@
 -- What judging a source's answers gives: of one path, of one answer, and of the chain of all.
 use Rattle.std.specs.Prelude.{ℕ, suc, ◌<◌, ◌≤◌, Bool, true, false, List, [], ◌∷◌, ◌++◌, ◌≡◌, eqb, length}
-use Rattle.forms.specs.Cells.{arity_of}
-use Rattle.forms.specs.Compact.{legal_form}
 use Rattle.forms.specs.Stored.{stored_of}
 use Rattle.forms.specs.Numbering.{met}
 use Rattle.plain.specs.Words.{Word}

@@ -2,7 +2,6 @@
 -- leave. A refused call leaves the space as it was; of the ledger it leaves the nodes entered that came before it.
 use Rattle.std.specs.Prelude.{ℕ, List, ◌≡◌}
 use Rattle.plain.specs.Requests.{Request, Reply, Result}
-use Rattle.trie.specs.Siblings.{Trie}
 use Rattle.trie.specs.Ledger.{Ledger, caught_up, search_kept}
 use Rattle.store.specs.Building.{nodes_of}
 use Rattle.store.specs.Calls.{space_step_by, AnswersBy}

@@ -2,7 +2,7 @@
 use Rattle.std.specs.Prelude.{ℕ, ◌≤◌, List, ◌≡◌, length, take}
 use Rattle.plain.specs.Requests.{State, Open, Finished, Reply, new, old_subgoal, old_answer, done, at}
 use Rattle.plain.specs.Requests.{lacks_next, cells, used, joined, old_as, new_past, because, refused, short}
-use Rattle.plain.specs.Requests.{Best, none_found, found, detoured}
+use Rattle.plain.specs.Requests.{none_found, found, detoured}
 use Rattle.forms.specs.declared.Answer.{Answer}
 use Rattle.forms.specs.declared.Answer.TheVariants as converted
 use Rattle.store.specs.declared.State as declared-state

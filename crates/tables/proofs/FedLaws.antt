@@ -5,12 +5,11 @@ use mathlib.Core.Path.{◌≡◌, refl, sym, ap, ◌∙◌}
 use native.Mathlib.Omega.{arith}
 use lib.ListN.{length, take, drop, drop_of_length-le}
 use lib.Seq.{take-append_seam}
-use borrow.Author.Tests.{eq-eqb, ne_eqb}
+use borrow.Author.Tests.{ne_eqb}
 use Rattle.text.specs.Cutting.{Took, took, taking}
 use Rattle.text.specs.declared.Taking.TheVariants.{Line, More}
-use Rattle.session.specs.Session.{responding}
-use Rattle.session.specs.Program.{Holding, Turn, with_line, answers_line, feed, goes_on}
-use Rattle.session.proofs.ProgramLaws.{then, feed-append, LineFed, line-ends, turn-by-turn}
+use Rattle.session.specs.Program.{Holding, Turn, with_line, feed, goes_on}
+use Rattle.session.proofs.ProgramLaws.{feed-append, LineFed, line-ends, turn-by-turn}
 use Rattle.tables.specs.declared.Progress.{Progress}
 use Rattle.tables.specs.declared.Progress.TheVariants.{Kept, Ended, Failed}
 use Rattle.tables.specs.Progress.{Answered, program_holds, Fed, ends_with, TakesChunk, ReadsSome, ReadsOn}

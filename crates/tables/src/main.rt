@@ -49,7 +49,13 @@ fn say_failed(rt: &HostRuntime, stream: &[u8], error: io::Error) {
 }
 
 // Answers a line and prints the reply at once, so that a caller who waits for it gets it.
-fn answer(rt: &HostRuntime, line: &[u8], space: &mut [u32], out: &mut [u32], text: &mut [u8]) -> bool
+fn answer(
+    rt: &HostRuntime,
+    line: &[u8],
+    space: &mut [u32],
+    out: &mut [u32],
+    text: &mut [u8],
+) -> bool
     ensures { Answered line.now text.old space.old out.old text.new space.new out.new }
 {
     let n = respond(line, space, out, text);

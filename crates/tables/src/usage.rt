@@ -10,7 +10,10 @@ pub fn say(rt: &HostRuntime, text: &[u8]) {
 
 // The numbers are those of crates/session/src/start.rt.
 fn say_capacities(rt: &HostRuntime) {
-    say(rt, b"table: 1000 nodes, 50 subgoals, 100 answers, edition 1\n");
+    say(
+        rt,
+        b"table: 1000 nodes, 50 subgoals, 100 answers, edition 1\n",
+    );
     say(rt, b"out: 8192 cells\n");
 }
 
@@ -34,7 +37,10 @@ fn say_fields(rt: &HostRuntime) {
 
 pub fn say_usage(rt: &HostRuntime) {
     say(rt, b"usage: tables < CALLS (no arguments)\n");
-    say(rt, b"reads calls, a line each, and prints a line for each\n");
+    say(
+        rt,
+        b"reads calls, a line each, and prints a line for each\n",
+    );
     say_capacities(rt);
     say_calls(rt);
     say_fields(rt);

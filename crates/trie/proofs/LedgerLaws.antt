@@ -1,19 +1,16 @@
 -- A ledger that is true of a space stays so: entering a node keeps it true, and so does everything that a space may become.
 -- Where it is true, a search by it ends as by the sibling chain; whatever it holds, a search by it keeps what walks ask of one.
-use Rattle.std.proofs.Common.{◌≡◌, ℕ, zero, suc, ◌+◌, ◌-◌, ◌*◌, ◌/◌, ◌%◌, ◌^◌, ◌<◌, ◌≤◌, min, Bool, true, false, ◌&&◌, eqb, ltb, leb, List, [], ◌∷◌, length, get_or, set, sym, refl, ap, ◌∙◌, subst, mod-lt, mul_comm, div-lt_iff_lt-mul, mul-lt-mul_of_pos_right, div-mul-le_self, arith, length-set, get_or-set_other, get_or-set_same, ltb-false, ltb-true, le-ltb, lt-ltb, eq-eqb, ne_eqb, eqb-true, le-leb, leb-false, leb-true}
-use mathlib.Core.Bool.{false≢true}
+use Rattle.std.proofs.Common.{◌≡◌, ℕ, zero, suc, ◌+◌, ◌-◌, ◌*◌, ◌/◌, ◌%◌, ◌^◌, ◌<◌, ◌≤◌, min, true, eqb, ltb, leb, List, [], ◌∷◌, length, get_or, set, sym, refl, ap, ◌∙◌, subst, mod-lt, mul_comm, div-lt_iff_lt-mul, mul-lt-mul_of_pos_right, div-mul-le_self, arith, length-set, get_or-set_other, get_or-set_same, ltb-false, ltb-true, le-ltb, lt-ltb, eq-eqb, eqb-true, le-leb, leb-false, leb-true}
 use native.Mathlib.Nat.{min-le_left, min-le_right, min-eq_left}
 use borrow.Author.Tests.{eqb-false}
-use Rattle.basis.specs.Choice.{pick}
 use Rattle.basis.proofs.Cases.{by_cases}
-use Rattle.basis.proofs.Tests.{strictly}
 use Rattle.space.specs.declared.Node.{Node}
 use Rattle.trie.specs.Siblings.{Trie, sound, at_sibling, search_siblings, search_children}
 use Rattle.trie.specs.declared.Search.{Search}
 use Rattle.trie.specs.declared.Search.TheVariants.{Found, Last, Damaged}
 use Rattle.trie.specs.Walks.{onward, root_sound, walk_from_by, walk_by}
 use Rattle.trie.specs.Index.{slot_after, probe, insert_from, empty_index}
-use Rattle.trie.specs.Ledger.{Ledger, stamp, last_in, blank_ledger, mixed_slot, ledger_capacity, enter_node, enter_nodes, caught_up, usable, Reach, here, on, zeros, last_below, Entered, Complete, Grown, is_last, absent, found_in, search_in, search_kept, trusted_in, trusted_kept}
+use Rattle.trie.specs.Ledger.{Ledger, stamp, last_in, blank_ledger, mixed_slot, ledger_capacity, enter_node, enter_nodes, caught_up, usable, Reach, zeros, last_below, Entered, Complete, Grown, is_last, absent, found_in, search_in, search_kept, trusted_in, trusted_kept}
 use Rattle.trie.proofs.SearchCases.{search-next, children-none, children-some}
 use Rattle.trie.proofs.SearchLaws.{Step, hurt, same, ended, onto, Child, step-found, first-within, children-found, Ends, children-ended, Finds}
 use Rattle.trie.proofs.WalkLaws.{both_true}

@@ -1,23 +1,23 @@
 -- Walks with an index while the forms of a join are entered, on any trie, sound or damaged: a walk that was whole stays so, the
 -- walk that stopped is whole once its path is entered, and any other that stopped has no more tokens left than before; it is
 -- whole only where its tokens begin the form that was entered.
-use Rattle.std.proofs.Common.{◌≡◌, ℕ, zero, suc, ◌+◌, ◌-◌, ◌<◌, ◌≤◌, true, false, ◌&&◌, eqb, ◌⊎◌, List, [], ◌∷◌, ◌++◌, length, sym, refl, ap, ◌∙◌, subst, inl, inr, arith, eq-eqb, eqb-true}
+use Rattle.std.proofs.Common.{◌≡◌, ℕ, zero, suc, ◌+◌, ◌-◌, ◌<◌, ◌≤◌, true, eqb, ◌⊎◌, List, [], ◌∷◌, ◌++◌, length, sym, refl, ap, ◌∙◌, subst, inl, inr, arith, eqb-true}
 use borrow.Author.Tests.{eqb-false}
 use Rattle.basis.proofs.Cases.{by_cases}
 use Rattle.space.specs.declared.Node.{Node}
 use Rattle.space.proofs.JudgingLaws.{node-bounds, follows-rises}
 use Rattle.trie.specs.Siblings.{Trie, sound, search_siblings, search_children}
-use Rattle.trie.specs.Walks.{Walk, whole, stopped, damaged, Finding, root_sound, walk_from_by, walk_by}
-use Rattle.trie.specs.Append.{new_node, with_node, with_path}
+use Rattle.trie.specs.Walks.{Walk, whole, stopped, damaged, Finding, walk_from_by}
+use Rattle.trie.specs.Append.{with_node, with_path}
 use Rattle.trie.specs.Index.{confirmed, search_indexed}
 use Rattle.trie.specs.Turns.{entry_judged}
 use Rattle.trie.specs.Entered.{Entered, Relinked}
 use Rattle.trie.specs.declared.Search.{Search}
 use Rattle.trie.specs.declared.Search.TheVariants.{Found, Last, Damaged}
 use Rattle.trie.proofs.SearchCases.{children-none, children-some}
-use Rattle.trie.proofs.SearchLaws.{Step, hurt, same, ended, onto, search-step, sibling-rises, Child}
+use Rattle.trie.proofs.SearchLaws.{Step, hurt, same, ended, onto, search-step, sibling-rises}
 use Rattle.trie.proofs.WalkCases.{walk-found, walk-last, walk-damaged}
-use Rattle.trie.proofs.WalkLaws.{kept, new_is, new-sound, both_true}
+use Rattle.trie.proofs.WalkLaws.{kept, new_is, new-sound}
 use Rattle.trie.proofs.IndexLaws.{confirmed-is, indexes-find}
 use Rattle.trie.proofs.TurnsLaws.{chain-or-entry}
 use Rattle.trie.proofs.EnteredLaws.{entered-grown, entered-ends, node-found, found-stays, missed-stays, childless, relinked-sound, linked-same}

@@ -1,17 +1,15 @@
 -- How many turns a search with an index takes, and what it can answer.
-use Rattle.std.proofs.Common.{◌≡◌, ℕ, zero, suc, ◌+◌, ◌<◌, ◌≤◌, true, false, eqb, ◌⊎◌, List, length, get_or, sym, refl, ap, ◌∙◌, inl, inr, arith, lt-ltb, ne_eqb, eqb-true}
+use Rattle.std.proofs.Common.{◌≡◌, ℕ, zero, suc, ◌+◌, ◌<◌, ◌≤◌, true, eqb, ◌⊎◌, List, length, get_or, sym, refl, ap, ◌∙◌, inl, inr, arith, lt-ltb, ne_eqb, eqb-true}
 use borrow.Author.Tests.{eqb-false}
-use Rattle.basis.specs.Choice.{pick}
 use Rattle.basis.proofs.Cases.{by_cases}
 use Rattle.space.specs.declared.Node.{Node}
-use Rattle.trie.specs.Siblings.{Trie, sound, at_sibling, search_siblings, search_children}
+use Rattle.trie.specs.Siblings.{Trie, sound, at_sibling, search_siblings}
 use Rattle.trie.specs.Index.{power_of_two, slot_of, slot_after, confirmed, probe, lookup, entry_beside, search_in_turn, search_indexed}
 use Rattle.trie.specs.Turns.{siblings_compared, TurnsAsSiblings, TurnsAsSlots, entry_judged, ChainOrEntry, lookup_first}
 use Rattle.trie.specs.declared.Search.{Search}
-use Rattle.trie.specs.declared.Search.TheVariants.{Found, Last, Damaged}
 use Rattle.trie.proofs.SearchCases.{children-none, children-some}
 use Rattle.trie.proofs.SearchLaws.{sibling-within, sibling-rises, first-within}
-use Rattle.trie.proofs.IndexLaws.{Chained, AsChains, at-alike, confirmed-is, probe_found}
+use Rattle.trie.proofs.IndexLaws.{AsChains, at-alike, confirmed-is, probe_found}
 
 module _ (t : Trie) (p x : ℕ) where
   -- ---- as many as siblings

@@ -15,7 +15,6 @@ use Rattle.space.specs.declared.Node.{Node}
 use Rattle.trie.specs.Siblings.{Trie, sound, at_sibling, search_children}
 use Rattle.trie.specs.Walks.{Finding}
 use Rattle.trie.specs.Index.{slot_after, probe, insert_from, empty_index}
-use Rattle.trie.specs.declared.Search.{Search}
 use Rattle.trie.specs.declared.Search.TheVariants.{Found, Last, Damaged}
 
 pub record Ledger : Type 0 where

@@ -1,6 +1,6 @@
 -- Ledgers of the five nodes of Examples.antt, as theorems: catching up, at once and in two parts, searches, and cells
 -- that no call wrote.
-use Rattle.std.specs.Prelude.{◌≡◌, ℕ, ◌-◌, ◌^◌, true, false, List, [], ◌∷◌, slice_set, refl}
+use Rattle.std.specs.Prelude.{◌≡◌, ℕ, false, [], ◌∷◌, slice_set, refl}
 use Rattle.space.specs.Layout.{sizes}
 use Rattle.space.specs.Judging.{follows, node_sound}
 use Rattle.trie.specs.Siblings.{Trie, trie_in, search_siblings, search_children}

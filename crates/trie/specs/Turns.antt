@@ -7,7 +7,7 @@ use Rattle.trie.specs.Siblings.{Trie, sound, search_children}
 use Rattle.trie.specs.Walks.{Finding}
 use Rattle.trie.specs.Index.{powered, slot_of, confirmed, probe, lookup, search_in_turn, search_indexed}
 use Rattle.trie.specs.declared.Search.{Search}
-use Rattle.trie.specs.declared.Search.TheVariants.{Found, Last, Damaged}
+use Rattle.trie.specs.declared.Search.TheVariants.{Found, Damaged}
 
 -- ---- how many turns
 

@@ -1,6 +1,6 @@
 -- A law for each case of the word of a search for detours.
 use Prim.Native.Nat.{ℕ, zero, suc, ◌-◌, ◌≤◌, ◌<◌, min}
-use mathlib.Core.Bool.{Bool, true, false}
+use mathlib.Core.Bool.{Bool}
 use mathlib.Core.List.{List, [], ◌∷◌, ◌++◌, append-nil}
 use mathlib.Core.Path.{◌≡◌, refl, sym, ap, ◌∙◌}
 use native.Mathlib.Omega.{arith}
@@ -9,7 +9,7 @@ use lib.Seq.{take_all}
 use borrow.Rule.Slice.PartMut.{put_mid, Post-is}
 use borrow.Author.Tests.{le-leb, lt-leb}
 use Rattle.basis.specs.Choice.{pick}
-use Rattle.plain.specs.Requests.{Best, none_found, found, Detour, detoured, Reply, refused, short}
+use Rattle.plain.specs.Requests.{none_found, found, Detour, detoured, Reply, refused, short}
 use Rattle.words.specs.Words.{word}
 use Rattle.words.specs.Detours.{detour_cells, detouring, detours_reply, detours_out, NumbersStand, SaysDetours}
 

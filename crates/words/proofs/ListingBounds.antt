@@ -7,7 +7,7 @@ use native.Mathlib.Omega.{arith}
 use lib.Dec.{leb}
 use Rattle.basis.specs.Choice.{pick}
 use Rattle.listing.specs.declared.Listing.{Listing}
-use Rattle.listing.specs.declared.Listing.TheVariants.{Cells, End, Refused, Short}
+use Rattle.listing.specs.declared.Listing.TheVariants.{Cells, Refused, Short}
 use Rattle.listing.specs.Listing.{Listed, none, one, holds, listing, first_term, term_after, listable, offered}
 use Rattle.listing.specs.Listing.{first_answer, after_answer, listing_out}
 use Rattle.listing.proofs.Calls.{given}

@@ -9,7 +9,7 @@ use lib.Seq.{take_all}
 use borrow.Author.Tests.{le-leb, lt-leb}
 use borrow.Rule.Slice.PartMut.{put_mid, mid_of}
 use Rattle.plain.specs.Requests.{Reason, old_as, new_past, because, Reply, refused, short}
-use Rattle.words.specs.Words.{word, worded}
+use Rattle.words.specs.Words.{word}
 use Rattle.words.specs.Why.{why_room, reasoning, reason_cells, why_reply, why_out, GivesReason, GivesVariables}
 
 -- ---- the word, and the cells that out is left with

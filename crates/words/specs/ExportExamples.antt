@@ -10,7 +10,7 @@ use Rattle.forms.specs.Converting.{reading}
 use Rattle.forms.specs.Stored.{stored_of}
 use Rattle.plain.specs.Words.{has, add, union, inits, all_inits, prefixes, distinct}
 use Rattle.plain.specs.Coding.{judged, naming, handed_on, predicate, taken}
-use Rattle.plain.specs.Requests.{call, finish, Counts, trace}
+use Rattle.plain.specs.Requests.{call, finish, trace}
 use Rattle.plain.specs.Table.{step, counted, called, fits, appended, nodes, answer_nodes, answers_to, number, subgoal_of}
 use Rattle.plain.specs.Table.{settled, edition_trace}
 use Rattle.plain.specs.Examples.{atom, fun}

@@ -1,6 +1,6 @@
 -- Examples of the words of listed terms, computed: a word and the out that is left, for f/2 and a as symbols.
-use Rattle.std.specs.Prelude.{ℕ, ◌+◌, ◌*◌, ◌^◌, List, [], ◌∷◌, ◌≡◌, refl}
-use Rattle.forms.specs.Cells.{tag, PAIR, nil, callable, shape_of, arity_of}
+use Rattle.std.specs.Prelude.{ℕ, ◌+◌, ◌*◌, ◌^◌, List, [], ◌∷◌, refl}
+use Rattle.forms.specs.Cells.{tag, callable, shape_of, arity_of}
 use Rattle.forms.specs.Terms.{pairs, every, applied, paired, begun, reads, are_terms}
 use Rattle.forms.specs.Numbering.{rank, seen, met, renamed, numbered}
 use Rattle.forms.specs.Compact.{same}

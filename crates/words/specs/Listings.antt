@@ -1,5 +1,5 @@
 -- The result words of the two calls that list terms, and what these calls return and leave. They have no space.
-use Rattle.std.specs.Prelude.{ℕ, ◌+◌, ◌*◌, ◌^◌, ◌≤◌, ◌<◌, List, [], ◌∷◌, ◌≡◌, refl, length}
+use Rattle.std.specs.Prelude.{ℕ, ◌+◌, ◌^◌, ◌≤◌, ◌<◌, List, ◌≡◌, length}
 use Rattle.listing.specs.declared.Listing.{Listing}
 use Rattle.listing.specs.declared.Listing.TheVariants.{Cells, End, Refused, Short}
 use Rattle.listing.specs.Listing.{first_term, term_after, first_answer, after_answer, listing_out}

@@ -1,6 +1,5 @@
 -- `answering::answer` meets its contract.
 use Rattle.store.proofs.FindingLaws.{unindexed-answers}
-use borrow.Author.Rules.{rules}
 use Rattle.answering.proofs.answer.Goals as goal
 
 pub returns : goal.returns

@@ -5,7 +5,6 @@ use Rattle.basis.proofs.Tests.{told}
 use Rattle.space.proofs.HeaderLaws.{header-bounds}
 use Rattle.store.proofs.CallsCases.{steps-refused, steps-indexed-at}
 use Rattle.store.proofs.AnswersLaws.{answer-answers}
-use borrow.Author.Rules.{rules}
 use Rattle.answering.proofs.answer_indexed.Goals as goal
 
 pub returns-in-Refused : goal.returns-in-Refused

@@ -1,7 +1,6 @@
 -- `answering::answer_read` meets its contract.
 use Rattle.store.proofs.CallsReading.{form-taken}
 use Rattle.store.proofs.CallsAnswers.{does-refused, does-form}
-use borrow.Author.Rules.{rules}
 use Rattle.answering.proofs.answer_read.Goals as goal
 
 pub returns-in_default : goal.returns-in_default

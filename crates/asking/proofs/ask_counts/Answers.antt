@@ -1,6 +1,5 @@
 -- `ask_counts` meets its contract.
 use native.Mathlib.Omega.{arith}
-use borrow.Author.Rules.{rules}
 use Rattle.text.specs.Places.{rest_at}
 use Rattle.plain.specs.Requests as request
 use Rattle.text.proofs.FieldsLaws.{rest-next, place_end}

@@ -1,5 +1,4 @@
 -- `ask_finish` meets its contract.
-use borrow.Author.Rules.{rules}
 use Rattle.text.specs.Places.{rest_at}
 use Rattle.plain.specs.Requests as request
 use Rattle.asking.specs.Lines.{one_number}

@@ -1,7 +1,6 @@
 -- `ask_load` meets its contract.
 use mathlib.Core.Path.{sym, ◌∙◌}
 use native.Mathlib.Omega.{arith}
-use borrow.Author.Rules.{rules}
 use Rattle.text.specs.Places.{rest_at}
 use Rattle.plain.specs.Requests as request
 use Rattle.reads.proofs.ReadsLaws.{load_fits}

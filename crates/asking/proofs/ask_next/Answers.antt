@@ -2,7 +2,6 @@
 use Prim.Native.Nat.{ℕ}
 use mathlib.Core.List.{List}
 use mathlib.Core.Path.{◌∙◌}
-use borrow.Author.Rules.{rules}
 use Rattle.text.specs.Fields.{only_number}
 use Rattle.text.specs.Places.{rest_at}
 use Rattle.plain.specs.Requests as request

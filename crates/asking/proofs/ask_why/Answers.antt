@@ -1,7 +1,6 @@
 -- `ask_why` meets its contract.
 use mathlib.Core.Path.{sym}
 use lib.Seq.{length-take-le}
-use borrow.Author.Rules.{rules}
 use Rattle.text.specs.Fields.{hex_cells}
 use Rattle.text.specs.Places.{rest_at}
 use Rattle.plain.specs.Requests as request

@@ -1,6 +1,5 @@
 -- `calling::call` meets its contract.
 use Rattle.store.proofs.FindingLaws.{unindexed-answers}
-use borrow.Author.Rules.{rules}
 use Rattle.calling.proofs.call.Goals as goal
 
 pub returns : goal.returns

@@ -3,7 +3,6 @@ use mathlib.Core.Path.{◌≡◌, sym, ◌∙◌}
 use lib.ListN.{take}
 use native.Mathlib.Omega.{arith}
 use Rattle.forms.specs.Cells.{arity_of}
-use Rattle.forms.specs.Compact.{compact_form}
 use Rattle.forms.specs.Converting.{reading}
 use Rattle.forms.specs.Stored.{stored_of}
 use Rattle.forms.specs.declared.Reading.TheVariants.{Form}

@@ -4,7 +4,6 @@ use Rattle.basis.proofs.Tests.{told}
 use Rattle.space.proofs.HeaderLaws.{header-bounds}
 use Rattle.plain.specs.Requests as request
 use Rattle.store.proofs.AnswersLaws.{finish-answers}
-use borrow.Author.Rules.{rules}
 use Rattle.calling.proofs.finish.Goals as goal
 
 pub returns-in-Refused : goal.returns-in-Refused

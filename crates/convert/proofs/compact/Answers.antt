@@ -1,5 +1,4 @@
 -- `convert::compact` meets its contract: the edition is judged first.
-use borrow.Author.Rules.{rules}
 use mathlib.Core.Path.{◌∙◌, sym}
 use Rattle.convert.proofs.AnswerLaws.{compacted-in, edition-refused}
 use Rattle.convert.proofs.compact.Goals as goal

@@ -3,11 +3,9 @@ use mathlib.Core.Path.{◌≡◌, sym, ◌∙◌}
 use lib.ListN.{length, take}
 use Rattle.forms.specs.Cells.{arity_of}
 use Rattle.forms.specs.declared.Reading.TheVariants.{Form}
-use Rattle.forms.specs.Compact.{compact_form}
 use Rattle.forms.specs.Stored.{stored_of}
 use Rattle.forms.specs.Converting.{reading}
 use Rattle.convert.proofs.AnswerLaws.{taken-room, fitting-short, fitting-cells, reading-length, compacting-refused, compacting-form, handed-on}
-use borrow.Author.Rules.{rules}
 use Rattle.convert.proofs.compact_with.Goals as goal
 
 pub returns-in_default : goal.returns-in_default

@@ -1,9 +1,7 @@
 -- `copy` meets its contract: the cells passed are copied.
-use Prim.Native.Nat.{◌≤◌, ◌-◌}
 use mathlib.Core.Path.{◌≡◌, refl, ◌∙◌}
-use mathlib.Core.List.{◌++◌}
 use native.Mathlib.Omega.{arith}
-use lib.ListN.{length, take, drop, length-set}
+use lib.ListN.{length-set}
 use Rattle.convert.proofs.CopyLaws.{copy_step}
 use Rattle.convert.proofs.copy.Goals as goal
 

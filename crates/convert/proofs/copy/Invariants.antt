@@ -1,9 +1,7 @@
 use Prim.Native.Nat.{◌≤◌, ◌-◌}
-use mathlib.Core.Path.{◌≡◌, refl, ◌∙◌}
+use mathlib.Core.Path.{◌≡◌}
 use mathlib.Core.List.{◌++◌}
-use native.Mathlib.Omega.{arith}
-use lib.ListN.{length, take, drop, length-set}
-use Rattle.convert.proofs.CopyLaws.{copy_step}
+use lib.ListN.{length, take, drop}
 use Rattle.convert.proofs.copy.Given as goal
 
 abbrev pub invariant-loop-i : goal.invariant-loop-i

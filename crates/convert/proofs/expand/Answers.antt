@@ -1,5 +1,4 @@
 -- `convert::expand` meets its contract: the edition is judged first.
-use borrow.Author.Rules.{rules}
 use mathlib.Core.Path.{◌∙◌, sym}
 use Rattle.convert.proofs.AnswerLaws.{expanded-in, edition-refused}
 use Rattle.convert.proofs.expand.Goals as goal

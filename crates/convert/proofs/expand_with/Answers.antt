@@ -1,13 +1,10 @@
 -- `expand_with` meets its contract: each answer by its law.
 use mathlib.Core.Path.{◌≡◌, sym, ◌∙◌}
 use lib.ListN.{length, take}
-use Rattle.forms.specs.Cells.{arity_of}
 use Rattle.forms.specs.declared.Loading.TheVariants.{Terms}
-use Rattle.forms.specs.Compact.{pair_form}
 use Rattle.forms.specs.Stored.{stored_of}
 use Rattle.forms.specs.Converting.{loading}
 use Rattle.convert.proofs.AnswerLaws.{taken-room, fitting-short, fitting-cells, loading-length, expanding-refused, expanding-terms}
-use borrow.Author.Rules.{rules}
 use Rattle.convert.proofs.expand_with.Goals as goal
 
 pub returns-in_default : goal.returns-in_default

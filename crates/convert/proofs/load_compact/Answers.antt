@@ -5,7 +5,6 @@ use Rattle.forms.specs.declared.Step.TheVariants.{Done}
 use Rattle.forms.specs.Cells.{arity_of}
 use Rattle.form_reader.specs.Loading.{FormsRan}
 use Rattle.convert.proofs.LoadingLaws.{loading-many, loading-malformed, loading-left, loading-crowded, loading-terms, variables}
-use borrow.Author.Rules.{rules}
 use Rattle.convert.proofs.load_compact.Goals as goal
 
 pub returns-then-limit-m : goal.returns-then-limit-m

@@ -1,6 +1,5 @@
 -- `load_counted` meets its contract: in the form that the edition stores.
 use mathlib.Core.Path.{sym, ◌∙◌}
-use borrow.Author.Rules.{rules}
 use Rattle.convert.proofs.EditionLaws.{counts-pairs, counts-lists}
 use Rattle.convert.proofs.load_counted.Goals as goal
 

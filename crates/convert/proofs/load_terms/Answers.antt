@@ -1,5 +1,4 @@
 -- `load_terms` meets its contract: it answers what was loaded.
-use borrow.Author.Rules.{rules}
 use Rattle.convert.proofs.load_terms.Goals as goal
 
 pub returns-in_default : goal.returns-in_default

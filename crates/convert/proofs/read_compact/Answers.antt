@@ -5,7 +5,6 @@ use Rattle.forms.specs.Cells.{arity_of}
 use Rattle.forms.specs.Stored.{compact_stored}
 use Rattle.pair_reader.specs.Storing.{TermsRan}
 use Rattle.convert.proofs.ReadingLaws.{reading-long, reading-few, reading-malformed, reading-left, reading-crowded, reading-form}
-use borrow.Author.Rules.{rules}
 use Rattle.convert.proofs.read_compact.Goals as goal
 
 pub returns-then-n-gt-MOST_CELLS : goal.returns-then-n-gt-MOST_CELLS

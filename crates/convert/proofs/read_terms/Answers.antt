@@ -1,6 +1,5 @@
 -- `read_terms` meets its contract: in the form that the edition stores.
 use mathlib.Core.Path.{sym, ◌∙◌}
-use borrow.Author.Rules.{rules}
 use Rattle.convert.proofs.EditionLaws.{reads-pairs, reads-lists}
 use Rattle.convert.proofs.read_terms.Goals as goal
 

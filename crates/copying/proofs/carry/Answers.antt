@@ -1,6 +1,5 @@
 -- `copying::carry` meets its contract: what was decided, and the cells as it was written.
 use mathlib.Core.Path.{sym}
-use borrow.Author.Rules.{rules}
 use Rattle.basis.proofs.Tests.{told}
 use Rattle.copying.proofs.DecideCases.{carried-done, carried-refused}
 use Rattle.copying.proofs.carry.Goals as goal
@@ -10,7 +9,6 @@ write-requires c = sym (told c.in-Done.is c.decide-decided.ensures)
 
 pub returns-in-Done : goal.returns-in-Done
 returns-in-Done c =
-    
     carried-done _ _ _ _ _ _ (told c.in-Done.is c.decide-decided.ensures) c.write.ensures
 
 pub returns-in-Refused : goal.returns-in-Refused

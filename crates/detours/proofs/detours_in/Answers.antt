@@ -14,20 +14,17 @@ search_goals-requires c = (c.requires, c.judge_goals-r.ensures.ready (search rul
 
 pub returns-then-r-eq0 : goal.returns-then-r-eq0
 returns-then-r-eq0 c =
-    
     decides-found c.args.space.now c.args.h c.args.goals.now c.args.budget
     (told c.are_numbers.ensures c.if-are_numbers.true) _
     (c.judge_goals-r.ensures.ready (search rules)) c.search_goals.ensures
 
 pub returns-then-are_numbers : goal.returns-then-are_numbers
 returns-then-are_numbers c =
-    
     ap says c.without_numbers.ensures ∙ decides-refused c.args.space.now c.args.h c.args.goals.now c.args.budget
     (told c.are_numbers.ensures c.if-are_numbers.true) _ c.judge_goals-r.ensures
     (search rules)
 
 pub returns : goal.returns
 returns c =
-    
     ap says c.without_numbers-2.ensures ∙ decides-number c.args.space.now c.args.h c.args.goals.now c.args.budget
     (told c.are_numbers.ensures c.if-are_numbers.false)

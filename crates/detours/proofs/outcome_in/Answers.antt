@@ -9,5 +9,4 @@ returns-then-work-eq-NO_TOTAL c = c.without_numbers.ensures ∙ find_none c.args
 
 pub returns : goal.returns
 returns c =
-    
     find-found c.args.n c.args.work.now _ _ c.requires.1 (search rules)

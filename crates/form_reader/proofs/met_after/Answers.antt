@@ -1,6 +1,5 @@
 -- `met_after` meets its contract, one case to each side of its tests.
 use mathlib.Core.Path.{sym, ◌∙◌}
-use borrow.Author.Rules.{rules}
 use borrow.Author.Tests.{eq-eqb, ne_eqb}
 use Rattle.basis.proofs.Tests.{told}
 use Rattle.form_reader.specs.Loading.{met_after}

@@ -1,7 +1,6 @@
 -- `arguments_of` meets its contract: each shape has its arguments.
 use mathlib.Core.Path.{sym, ap, ◌∙◌}
 use native.Mathlib.Omega.{arith}
-use borrow.Author.Rules.{rules}
 use Rattle.forms.specs.Due.{arguments}
 use Rattle.forms.proofs.ShapeLaws.{symbol-small, arity-small}
 use Rattle.forms.proofs.arguments_of.Goals as goal

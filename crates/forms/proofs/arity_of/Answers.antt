@@ -1,5 +1,4 @@
 -- `arity_of` meets its contract, one case to each side of its test.
-use borrow.Author.Rules.{rules}
 use borrow.Author.Tests.{eq-eqb, ne_eqb}
 use Rattle.forms.specs.Cells.{arity_of}
 use Rattle.forms.proofs.arity_of.Goals as goal

@@ -1,7 +1,6 @@
 -- `growing::grow` meets its contract: the capacities are indices, and each refusal has its law.
 use Rattle.basis.proofs.Tests.{told}
 use Rattle.growing.proofs.GrowingCases.{grow-header, fresh_at, few-at, done_at}
-use borrow.Author.Rules.{rules}
 use Rattle.growing.proofs.grow.Goals as goal
 
 pub returns-in-Refused : goal.returns-in-Refused

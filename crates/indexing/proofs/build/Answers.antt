@@ -2,7 +2,6 @@
 use Rattle.indexing.proofs.BuildCases.{header_refused, header-sound}
 use Rattle.space.proofs.HeaderLaws.{header-bounds}
 use Rattle.basis.proofs.Tests.{told}
-use borrow.Author.Rules.{rules}
 use Rattle.indexing.proofs.build.Goals as goal
 
 pub build_in-requires : goal.build_in-requires

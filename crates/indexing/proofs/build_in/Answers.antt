@@ -1,7 +1,6 @@
 -- `indexing::build_in` meets its contract.
 use Rattle.indexing.proofs.BuildCases.{nodes-unfit, nodes-fitting}
 use Rattle.basis.proofs.Tests.{told}
-use borrow.Author.Rules.{rules}
 use Rattle.indexing.proofs.build_in.Goals as goal
 
 pub build_on-requires : goal.build_on-requires

@@ -1,7 +1,6 @@
 -- `indexing::build_on` meets its contract.
 use Rattle.indexing.proofs.BuildCases.{slots-odd, slots-few, slots-enough}
 use Rattle.basis.proofs.Tests.{told}
-use borrow.Author.Rules.{rules}
 use Rattle.indexing.proofs.build_on.Goals as goal
 
 pub fill-requires : goal.fill-requires

@@ -1,9 +1,7 @@
 -- `copy_part` meets its contract: at each turn what is still to be copied gives the whole.
-use Prim.Native.Nat.{◌≤◌, ◌-◌, ◌+◌}
-use mathlib.Core.Path.{◌≡◌, refl, sym, ◌∙◌}
+use mathlib.Core.Path.{refl, sym, ◌∙◌}
 use native.Mathlib.Omega.{arith}
-use lib.ListN.{length, length-set}
-use lib.Seq.{sets, slice}
+use lib.ListN.{length-set}
 use Rattle.instances.proofs.InstanceLaws.{part_step, part_end}
 use Rattle.instances.proofs.copy_part.Goals as goal
 

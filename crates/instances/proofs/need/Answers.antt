@@ -1,10 +1,6 @@
 -- `need` meets its contract: the sum and the need of the cells left give the whole.
-use Prim.Native.Nat.{◌≤◌, ◌-◌, ◌+◌, ◌*◌}
-use mathlib.Core.Path.{◌≡◌}
 use native.Mathlib.Omega.{arith}
-use lib.ListN.{get_or, take}
-use lib.Seq.{slice}
-use Rattle.instances.specs.Instances.{needed}
+use lib.ListN.{get_or}
 use Rattle.instances.proofs.InstanceLaws.{width-limit, need-step, need-end}
 use Rattle.instances.proofs.need.Goals as goal
 

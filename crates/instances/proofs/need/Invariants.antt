@@ -1,10 +1,8 @@
 use Prim.Native.Nat.{◌≤◌, ◌-◌, ◌+◌, ◌*◌}
 use mathlib.Core.Path.{◌≡◌}
-use native.Mathlib.Omega.{arith}
-use lib.ListN.{get_or, take}
+use lib.ListN.{take}
 use lib.Seq.{slice}
 use Rattle.instances.specs.Instances.{needed}
-use Rattle.instances.proofs.InstanceLaws.{width-limit, need-step, need-end}
 use Rattle.instances.proofs.need.Given as goal
 
 abbrev pub invariant-loop-i : goal.invariant-loop-i

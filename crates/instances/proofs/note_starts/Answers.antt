@@ -1,14 +1,13 @@
 -- `note_starts` meets its contract: the scan keeps the sum, and notes a start where it falls.
-use Prim.Native.Nat.{ℕ, ◌+◌, ◌*◌, ◌-◌, ◌≤◌, ◌<◌}
-use mathlib.Core.Path.{◌≡◌, refl, sym, ◌∙◌}
+use Prim.Native.Nat.{ℕ, ◌+◌, ◌*◌, ◌≤◌, ◌<◌}
+use mathlib.Core.Path.{refl, sym, ◌∙◌}
 use native.Mathlib.Omega.{arith}
-use lib.ListN.{length, get_or, length-set}
-use borrow.Author.Rules.{rules}
+use lib.ListN.{length, length-set}
 use Rattle.forms.specs.Cells.{arity_of}
 use Rattle.forms.proofs.ShapeLaws.{arity-small}
 use Rattle.forms.proofs.DueLaws.{cells_of}
 use Rattle.pair_reader.specs.Storing.{terms_at}
-use Rattle.instances.proofs.InstanceLaws.{no_start, start-noted, terms-few, Scans, scan_begins, scan-inside, scan-due, scan-small, scan-on, scan-start, scan-next}
+use Rattle.instances.proofs.InstanceLaws.{no_start, start-noted, terms-few, scan_begins, scan-inside, scan-due, scan-small, scan-on, scan-start, scan-next}
 use Rattle.instances.proofs.InstanceTerms.{cells-grow}
 use Rattle.instances.proofs.note_starts.Goals as goal
 

@@ -6,7 +6,6 @@ use mathlib.Core.Path.{◌≡◌, refl, sym, ap, ◌∙◌}
 use native.Mathlib.Omega.{arith}
 use lib.Seq.{slice}
 use lib.ListN.{length, get_or}
-use borrow.Author.Rules.{rules}
 use Rattle.forms.specs.Cells.{variable}
 use Rattle.instances.specs.Instances.{stands_for}
 use Rattle.instances.proofs.InstanceLaws.{placed_at, stands-variable, stands-other, stands-length, stands-written}

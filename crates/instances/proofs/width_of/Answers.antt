@@ -3,7 +3,6 @@ use Prim.Native.Nat.{◌<◌, ◌≤◌, ◌+◌}
 use mathlib.Core.Path.{sym, ◌∙◌}
 use native.Mathlib.Omega.{arith}
 use lib.ListN.{length, get_or}
-use borrow.Author.Rules.{rules}
 use Rattle.instances.proofs.InstanceLaws.{placed_at, width-variable, width-other}
 use Rattle.instances.proofs.width_of.Goals as goal
 

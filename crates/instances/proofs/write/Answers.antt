@@ -1,10 +1,6 @@
 -- `write` meets its contract: at each turn what is still to be written gives the whole.
-use Prim.Native.Nat.{◌≤◌, ◌-◌, ◌+◌}
-use mathlib.Core.Path.{◌≡◌, refl, sym, ◌∙◌}
+use mathlib.Core.Path.{refl, sym, ◌∙◌}
 use native.Mathlib.Omega.{arith}
-use lib.ListN.{length, take}
-use lib.Seq.{sets, slice}
-use Rattle.instances.specs.Instances.{instance_cells}
 use Rattle.instances.proofs.InstanceLaws.{write_step, write-room, write-end, write-none}
 use Rattle.instances.proofs.write.Goals as goal
 

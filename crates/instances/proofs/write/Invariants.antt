@@ -1,10 +1,8 @@
 use Prim.Native.Nat.{◌≤◌, ◌-◌, ◌+◌}
-use mathlib.Core.Path.{◌≡◌, refl, sym, ◌∙◌}
-use native.Mathlib.Omega.{arith}
+use mathlib.Core.Path.{◌≡◌}
 use lib.ListN.{length, take}
 use lib.Seq.{sets, slice}
 use Rattle.instances.specs.Instances.{instance_cells}
-use Rattle.instances.proofs.InstanceLaws.{write_step, write-room, write-end, write-none}
 use Rattle.instances.proofs.write.Given as goal
 
 abbrev pub invariant-loop-i : goal.invariant-loop-i

@@ -3,7 +3,6 @@ use Rattle.integrity.proofs.CheckCases.{fault-header, fault-sound}
 use Rattle.space.proofs.HeaderLaws.{header-bounds}
 use Rattle.basis.proofs.Tests.{told}
 use mathlib.Core.Path.{◌∙◌}
-use borrow.Author.Rules.{rules}
 use Rattle.integrity.proofs.check.Goals as goal
 
 pub check_in-requires : goal.check_in-requires

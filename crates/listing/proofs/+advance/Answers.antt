@@ -1,6 +1,5 @@
 -- The proof of the cycle of calls {advance}: what is found after the place is taken, and else the next cell is put there. The measure is
 -- the cells left.
-use Prim.Native.Nat.{ℕ, ◌-◌, ◌<◌}
 use mathlib.Core.Path.{refl, sym, ◌∙◌}
 use native.Mathlib.Omega.{arith}
 use lib.ListN.{length-set}

@@ -1,10 +1,7 @@
 -- `are_symbols` meets its contract: those that are left are symbols where all of them are.
 use native.Mathlib.Omega.{arith}
 use Rattle.listing.proofs.Tests.{refuted, confirmed}
-use Prim.Native.Nat.{◌-◌, ◌≤◌}
-use mathlib.Core.Path.{◌≡◌, refl, ◌∙◌, sym}
-use lib.ListN.{length, drop}
-use Rattle.listing.specs.Listing.{are_symbols}
+use mathlib.Core.Path.{refl, ◌∙◌, sym}
 use Rattle.listing.proofs.Letters.{symbols-all, symbols-not, symbols-again, symbols-later}
 use borrow.Author.Rules.{rules}
 use Rattle.listing.proofs.are_symbols.Goals as goal

@@ -1,11 +1,7 @@
 -- `choose` meets its contract: the cells that are left give the first that all of them give.
 use native.Mathlib.Omega.{arith}
 use Rattle.basis.proofs.Tests.{told}
-use Prim.Native.Nat.{◌+◌, ◌-◌, ◌<◌}
-use mathlib.Core.Path.{◌≡◌, refl, ◌∙◌, sym}
-use lib.ListN.{length, drop}
-use Rattle.listing.specs.Listing.{alphabet}
-use Rattle.listing.specs.Steps.{can_go_on, first_of}
+use mathlib.Core.Path.{refl, ◌∙◌, sym}
 use Rattle.listing.proofs.Calls.{given}
 use Rattle.listing.proofs.Turns.{choice-here, choice-later, choice-none}
 use borrow.Author.Rules.{rules}

@@ -1,13 +1,8 @@
-use native.Mathlib.Omega.{arith}
-use Rattle.basis.proofs.Tests.{told}
 use Prim.Native.Nat.{◌+◌, ◌-◌, ◌<◌}
-use mathlib.Core.Path.{◌≡◌, refl, ◌∙◌, sym}
+use mathlib.Core.Path.{◌≡◌}
 use lib.ListN.{length, drop}
 use Rattle.listing.specs.Listing.{alphabet}
 use Rattle.listing.specs.Steps.{can_go_on, first_of}
-use Rattle.listing.proofs.Calls.{given}
-use Rattle.listing.proofs.Turns.{choice-here, choice-later, choice-none}
-use borrow.Author.Rules.{rules}
 use Rattle.listing.proofs.choose.Given as goal
 
 abbrev pub invariant-loop-j : goal.invariant-loop-j

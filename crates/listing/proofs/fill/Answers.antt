@@ -1,11 +1,8 @@
 -- `fill` meets its contract: what is left to be filled gives the whole.
 use native.Mathlib.Omega.{arith}
-use Prim.Native.Nat.{◌-◌, ◌≤◌}
-use mathlib.Core.Path.{◌≡◌, refl, ◌∙◌, sym}
-use lib.ListN.{length, take, length-set}
+use mathlib.Core.Path.{refl, ◌∙◌, sym}
+use lib.ListN.{length-set}
 use lib.Seq.{take-set-le}
-use Rattle.listing.specs.Listing.{alphabet}
-use Rattle.listing.specs.Steps.{prefixed, first_way}
 use Rattle.listing.specs.Clauses.{listed_result}
 use Rattle.listing.proofs.Calls.{given}
 use Rattle.listing.proofs.Filling.{chosen-due, passed-at, fill_step, fill_none, fill_done}

@@ -1,14 +1,8 @@
-use native.Mathlib.Omega.{arith}
 use Prim.Native.Nat.{◌-◌, ◌≤◌}
-use mathlib.Core.Path.{◌≡◌, refl, ◌∙◌, sym}
-use lib.ListN.{length, take, length-set}
-use lib.Seq.{take-set-le}
+use mathlib.Core.Path.{◌≡◌}
+use lib.ListN.{length, take}
 use Rattle.listing.specs.Listing.{alphabet}
 use Rattle.listing.specs.Steps.{prefixed, first_way}
-use Rattle.listing.specs.Clauses.{listed_result}
-use Rattle.listing.proofs.Calls.{given}
-use Rattle.listing.proofs.Filling.{chosen-due, passed-at, fill_step, fill_none, fill_done}
-use borrow.Author.Rules.{rules}
 use Rattle.listing.proofs.fill.Given as goal
 
 abbrev pub invariant-loop-place : goal.invariant-loop-place

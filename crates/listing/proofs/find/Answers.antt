@@ -1,9 +1,6 @@
 -- `find` meets its contract: what is left gives the place that the whole gives.
 use native.Mathlib.Omega.{arith}
-use Prim.Native.Nat.{◌+◌, ◌-◌, ◌≤◌}
-use mathlib.Core.Path.{◌≡◌, refl, sym, ◌∙◌}
-use lib.ListN.{length, drop}
-use Rattle.forms.specs.Numbering.{rank}
+use mathlib.Core.Path.{refl, sym, ◌∙◌}
 use Rattle.listing.proofs.Cases.{rank-here, rank-later, rank-none}
 use borrow.Author.Rules.{rules}
 use Rattle.listing.proofs.find.Goals as goal

@@ -1,10 +1,7 @@
-use native.Mathlib.Omega.{arith}
 use Prim.Native.Nat.{◌+◌, ◌-◌, ◌≤◌}
-use mathlib.Core.Path.{◌≡◌, refl, sym, ◌∙◌}
+use mathlib.Core.Path.{◌≡◌}
 use lib.ListN.{length, drop}
 use Rattle.forms.specs.Numbering.{rank}
-use Rattle.listing.proofs.Cases.{rank-here, rank-later, rank-none}
-use borrow.Author.Rules.{rules}
 use Rattle.listing.proofs.find.Given as goal
 
 abbrev pub invariant-loop-i : goal.invariant-loop-i

@@ -5,7 +5,6 @@ use mathlib.Core.Path.{refl}
 use Rattle.listing.proofs.Calls.{given}
 use Rattle.listing.proofs.Filling.{start-at}
 use Rattle.listing.proofs.Answers.{first-refused, first-offered}
-use borrow.Author.Rules.{rules}
 use Rattle.listing.proofs.first_term.Goals as goal
 
 pub returns-then-not-is_listable : goal.returns-then-not-is_listable

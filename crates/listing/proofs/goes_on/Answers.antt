@@ -2,7 +2,6 @@
 use Rattle.listing.proofs.Tests.{refuted, confirmed}
 use native.Mathlib.Omega.{arith}
 use Rattle.listing.proofs.Cases.{allowed-due, goes-not, goes-fits}
-use borrow.Author.Rules.{rules}
 use Rattle.listing.proofs.goes_on.Goals as goal
 
 pub returns-then-not-is_allowed : goal.returns-then-not-is_allowed

@@ -1,14 +1,11 @@
 -- `is_listed` meets its contract: what is left of the term goes on to its end where the whole does.
 use native.Mathlib.Omega.{arith}
 use Rattle.listing.proofs.Tests.{refuted, confirmed}
-use Prim.Native.Nat.{◌+◌, ◌*◌, ◌-◌, ◌≤◌}
-use mathlib.Core.Path.{◌≡◌, refl, ◌∙◌, sym}
-use lib.ListN.{length}
-use Rattle.listing.specs.Steps.{is_listed}
+use mathlib.Core.Path.{refl, ◌∙◌, sym}
 use Rattle.listing.proofs.Calls.{given}
 use Rattle.listing.proofs.Filling.{start-at}
 use Rattle.listing.proofs.Cases.{allowed-due}
-use Rattle.listing.proofs.Letters.{Left, listed-length, listed_start, listed-end, listed-strange, listed-refused, listed_next}
+use Rattle.listing.proofs.Letters.{listed-length, listed_start, listed-end, listed-strange, listed-refused, listed_next}
 use borrow.Author.Rules.{rules}
 use Rattle.listing.proofs.is_listed.Goals as goal
 

@@ -1,14 +1,8 @@
-use native.Mathlib.Omega.{arith}
-use Rattle.listing.proofs.Tests.{refuted, confirmed}
 use Prim.Native.Nat.{◌+◌, ◌*◌, ◌-◌, ◌≤◌}
-use mathlib.Core.Path.{◌≡◌, refl, ◌∙◌, sym}
+use mathlib.Core.Path.{◌≡◌}
 use lib.ListN.{length}
 use Rattle.listing.specs.Steps.{is_listed}
-use Rattle.listing.proofs.Calls.{given}
-use Rattle.listing.proofs.Filling.{start-at}
-use Rattle.listing.proofs.Cases.{allowed-due}
-use Rattle.listing.proofs.Letters.{Left, listed-length, listed_start, listed-end, listed-strange, listed-refused, listed_next}
-use borrow.Author.Rules.{rules}
+use Rattle.listing.proofs.Letters.{Left}
 use Rattle.listing.proofs.is_listed.Given as goal
 
 abbrev pub invariant-loop-place : goal.invariant-loop-place

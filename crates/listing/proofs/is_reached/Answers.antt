@@ -1,10 +1,7 @@
 -- `is_reached` meets its contract: the symbols that are left reach what all of them reach.
 use native.Mathlib.Omega.{arith}
 use Rattle.basis.proofs.Tests.{told}
-use Prim.Native.Nat.{◌-◌, ◌≤◌}
-use mathlib.Core.Path.{◌≡◌, refl, ◌∙◌, sym}
-use lib.ListN.{length, take, drop}
-use Rattle.listing.specs.Steps.{sum_reached}
+use mathlib.Core.Path.{refl, ◌∙◌, sym}
 use Rattle.listing.proofs.Turns.{reached-here, reached-later, reached-none}
 use borrow.Author.Rules.{rules}
 use Rattle.listing.proofs.is_reached.Goals as goal

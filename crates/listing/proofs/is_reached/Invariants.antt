@@ -1,11 +1,7 @@
-use native.Mathlib.Omega.{arith}
-use Rattle.basis.proofs.Tests.{told}
 use Prim.Native.Nat.{◌-◌, ◌≤◌}
-use mathlib.Core.Path.{◌≡◌, refl, ◌∙◌, sym}
+use mathlib.Core.Path.{◌≡◌}
 use lib.ListN.{length, take, drop}
 use Rattle.listing.specs.Steps.{sum_reached}
-use Rattle.listing.proofs.Turns.{reached-here, reached-later, reached-none}
-use borrow.Author.Rules.{rules}
 use Rattle.listing.proofs.is_reached.Given as goal
 
 abbrev pub invariant-loop-i : goal.invariant-loop-i

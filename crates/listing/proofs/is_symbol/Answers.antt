@@ -3,7 +3,6 @@ use Rattle.basis.proofs.Tests.{told}
 use mathlib.Core.Path.{sym, ◌∙◌}
 use Rattle.listing.specs.Listing.{legal_shape}
 use Rattle.listing.proofs.Cases.{symbol-variable, symbol-shape}
-use borrow.Author.Rules.{rules}
 use Rattle.listing.proofs.is_symbol.Goals as goal
 
 pub returns-then-is_variable : goal.returns-then-is_variable

@@ -1,5 +1,4 @@
 -- `offer` meets its contract, one case to each return.
-use borrow.Author.Tests.{not-true, not-false}
 use Rattle.listing.proofs.Turns.{offers-end, offers-short, offers-cells}
 use borrow.Author.Rules.{rules}
 use Rattle.listing.proofs.offer.Goals as goal

@@ -1,7 +1,6 @@
 -- `place_after` meets its contract.
 use native.Mathlib.Numerals.{add-one}
 use Rattle.listing.specs.Steps.{passed}
-use borrow.Author.Rules.{rules}
 use Rattle.listing.proofs.place_after.Goals as goal
 
 pub returns : goal.returns

@@ -1,8 +1,7 @@
 -- `sums_of` meets its contract: what is written so far is the table so far.
 use native.Mathlib.Omega.{arith}
-use Prim.Native.Nat.{◌-◌, ◌≤◌}
 use mathlib.Core.Path.{◌≡◌, refl, ◌∙◌, sym, ap}
-use lib.ListN.{length, take, length-set}
+use lib.ListN.{length-set}
 use lib.Seq.{take_all}
 use Rattle.listing.specs.Steps.{sums_below}
 use Rattle.listing.proofs.Letters.{sums_first, sums_next}

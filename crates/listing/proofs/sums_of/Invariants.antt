@@ -1,11 +1,7 @@
-use native.Mathlib.Omega.{arith}
 use Prim.Native.Nat.{◌-◌, ◌≤◌}
-use mathlib.Core.Path.{◌≡◌, refl, ◌∙◌, sym, ap}
-use lib.ListN.{length, take, length-set}
-use lib.Seq.{take_all}
+use mathlib.Core.Path.{◌≡◌}
+use lib.ListN.{length, take}
 use Rattle.listing.specs.Steps.{sums_below}
-use Rattle.listing.proofs.Letters.{sums_first, sums_next}
-use borrow.Author.Rules.{rules}
 use Rattle.listing.proofs.sums_of.Given as goal
 
 abbrev pub invariant-loop-t : goal.invariant-loop-t

@@ -5,7 +5,6 @@ use lib.ListN.{replicate}
 use Rattle.listing.proofs.Calls.{given}
 use Rattle.listing.proofs.Filling.{start-at}
 use Rattle.listing.proofs.Answers.{after-refused, after-strange, listed-whole, copied-long, copied-goes, after-offered}
-use borrow.Author.Rules.{rules}
 use Rattle.listing.proofs.term_after.Goals as goal
 
 pub returns-then-not-is_listable : goal.returns-then-not-is_listable

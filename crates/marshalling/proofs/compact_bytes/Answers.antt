@@ -1,5 +1,4 @@
 -- `compact_bytes` meets its contract: the edition is judged first.
-use borrow.Author.Rules.{rules}
 use native.Mathlib.Omega.{arith}
 use mathlib.Core.Path.{◌∙◌, sym}
 use Rattle.marshalling.proofs.ExportLaws.{compacted-in, edition-refused}

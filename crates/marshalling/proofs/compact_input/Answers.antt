@@ -1,7 +1,6 @@
 -- `compact_input` meets its contract: each outcome by its law.
 use native.Mathlib.Omega.{arith}
 use Rattle.marshalling.proofs.ExportLaws.{compact-odd, compact-long}
-use borrow.Author.Rules.{rules}
 use Rattle.marshalling.proofs.compact_input.Goals as goal
 
 pub overflow_add-result : goal.overflow_add-result

@@ -12,7 +12,6 @@ use Rattle.convert.proofs.AnswerLaws.{taken-room, reading-length, handed-on}
 use Rattle.marshalling.specs.Bytes.{cells_of}
 use Rattle.marshalling.proofs.BytesLaws.{cells-length}
 use Rattle.marshalling.proofs.ExportLaws.{cells-decoded, compact-refused, compact-form}
-use borrow.Author.Rules.{rules}
 use Rattle.marshalling.proofs.compact_with.Goals as goal
 
 pub slice_bounds-read_terms-end-2 : goal.slice_bounds-read_terms-end-2

@@ -1,11 +1,8 @@
 -- `decode` meets its contract: the cells passed are read.
-use Prim.Native.Nat.{◌≤◌, ◌-◌, ◌+◌}
-use mathlib.Core.Path.{◌≡◌, refl}
-use mathlib.Core.List.{◌++◌}
+use mathlib.Core.Path.{refl}
 use native.Mathlib.Omega.{arith}
-use lib.ListN.{length, take, drop, length-set}
+use lib.ListN.{length-set}
 use borrow.Author.Rules.{rules}
-use Rattle.marshalling.specs.Bytes.{cells_of}
 use Rattle.marshalling.proofs.BytesLaws.{cells-next, cells-all}
 use Rattle.marshalling.proofs.decode.Goals as goal
 

@@ -1,11 +1,8 @@
-use Prim.Native.Nat.{◌≤◌, ◌-◌, ◌+◌}
-use mathlib.Core.Path.{◌≡◌, refl}
+use Prim.Native.Nat.{◌≤◌, ◌-◌}
+use mathlib.Core.Path.{◌≡◌}
 use mathlib.Core.List.{◌++◌}
-use native.Mathlib.Omega.{arith}
-use lib.ListN.{length, take, drop, length-set}
-use borrow.Author.Rules.{rules}
+use lib.ListN.{length, take, drop}
 use Rattle.marshalling.specs.Bytes.{cells_of}
-use Rattle.marshalling.proofs.BytesLaws.{cells-next, cells-all}
 use Rattle.marshalling.proofs.decode.Given as goal
 
 abbrev pub invariant-loop-i : goal.invariant-loop-i

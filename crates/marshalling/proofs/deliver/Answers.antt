@@ -1,6 +1,5 @@
 -- `deliver` meets its contract: each outcome by its law.
 use native.Mathlib.Omega.{arith}
-use borrow.Author.Rules.{rules}
 use Rattle.marshalling.proofs.ExportLaws.{outcome-short, outcome-cells}
 use Rattle.marshalling.proofs.deliver.Goals as goal
 

@@ -1,10 +1,7 @@
 -- `encode` meets its contract: the bytes of the cells passed are written.
-use Prim.Native.Nat.{◌≤◌, ◌-◌, ◌+◌, ◌*◌}
-use mathlib.Core.Path.{◌≡◌, refl}
-use mathlib.Core.List.{◌++◌}
+use mathlib.Core.Path.{refl}
 use native.Mathlib.Omega.{arith}
-use lib.ListN.{length, take, drop, length-set}
-use Rattle.marshalling.specs.Bytes.{bytes_of}
+use lib.ListN.{length-set}
 use Rattle.marshalling.proofs.BytesLaws.{bytes_next, bytes-all}
 use Rattle.marshalling.proofs.encode.Goals as goal
 

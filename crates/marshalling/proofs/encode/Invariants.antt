@@ -1,10 +1,8 @@
-use Prim.Native.Nat.{◌≤◌, ◌-◌, ◌+◌, ◌*◌}
-use mathlib.Core.Path.{◌≡◌, refl}
+use Prim.Native.Nat.{◌≤◌, ◌-◌, ◌*◌}
+use mathlib.Core.Path.{◌≡◌}
 use mathlib.Core.List.{◌++◌}
-use native.Mathlib.Omega.{arith}
-use lib.ListN.{length, take, drop, length-set}
+use lib.ListN.{length, take, drop}
 use Rattle.marshalling.specs.Bytes.{bytes_of}
-use Rattle.marshalling.proofs.BytesLaws.{bytes_next, bytes-all}
 use Rattle.marshalling.proofs.encode.Given as goal
 
 abbrev pub invariant-loop-i : goal.invariant-loop-i

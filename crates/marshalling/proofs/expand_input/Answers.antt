@@ -1,7 +1,6 @@
 -- `expand_input` meets its contract: each outcome by its law.
 use native.Mathlib.Omega.{arith}
 use Rattle.marshalling.proofs.ExportLaws.{expand-odd, expand-long}
-use borrow.Author.Rules.{rules}
 use Rattle.marshalling.proofs.expand_input.Goals as goal
 
 pub overflow_add-result : goal.overflow_add-result

@@ -10,7 +10,6 @@ use Rattle.convert.proofs.AnswerLaws.{taken-room, loading-length}
 use Rattle.marshalling.specs.Bytes.{cells_of}
 use Rattle.marshalling.proofs.BytesLaws.{cells-length}
 use Rattle.marshalling.proofs.ExportLaws.{cells-decoded, expand-refused, expand-terms}
-use borrow.Author.Rules.{rules}
 use Rattle.marshalling.proofs.expand_with.Goals as goal
 
 pub slice_bounds-load_terms-end-2 : goal.slice_bounds-load_terms-end-2

@@ -3,7 +3,6 @@
 use Prim.Native.Nat.{◌≤◌, ◌-◌, ◌*◌, ◌+◌}
 use mathlib.Core.Path.{◌≡◌, refl, sym, ◌∙◌}
 use native.Mathlib.Omega.{arith}
-use borrow.Author.Rules.{rules}
 use lib.ListN.{length, length-set, get_or}
 use Rattle.forms.proofs.ShapeLaws.{arity-small, symbol-small, constant-shape}
 use Rattle.forms.specs.declared.Shape.TheVariants.{Symbol, Pair}
@@ -12,8 +11,8 @@ use Rattle.forms.specs.Cells.{shape_of, arity_of}
 use Rattle.pair_reader.specs.Storing.{TermsRan}
 use Rattle.pair_reader.proofs.StoringLaws.{stored-cell}
 use Rattle.pair_reader.proofs.PairSteps.{terms-none, terms-end, terms-illegal, terms-symbol, terms-pair, terms-pair-short, list-short, list-nil, list-more, list-tail, term-room}
-use Rattle.pair_reader.proofs.PairTurns.{TermsTurn, turn-first, turn_small, turn_last, turn-symbol, turn-term, ListTurn}
-use Prim.Native.Nat.{ℕ, ◌<◌}
+use Rattle.pair_reader.proofs.PairTurns.{turn-first, turn_small, turn_last, turn-symbol, turn-term}
+use Prim.Native.Nat.{◌<◌}
 use Rattle.pair_reader.proofs.+element_list_scan_term.Goals as goal
 
 pub element-returns-then-s-at : goal.element-returns-then-s-at

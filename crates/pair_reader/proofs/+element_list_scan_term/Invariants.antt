@@ -1,17 +1,7 @@
-use Prim.Native.Nat.{◌≤◌, ◌-◌, ◌*◌, ◌+◌}
-use mathlib.Core.Path.{◌≡◌, refl, sym, ◌∙◌}
-use native.Mathlib.Omega.{arith}
-use borrow.Author.Rules.{rules}
-use lib.ListN.{length, length-set, get_or}
-use Rattle.forms.proofs.ShapeLaws.{arity-small, symbol-small, constant-shape}
-use Rattle.forms.specs.declared.Shape.TheVariants.{Symbol, Pair}
-use Rattle.forms.specs.declared.Step.TheVariants.{Done, Malformed}
-use Rattle.forms.specs.Cells.{shape_of, arity_of}
-use Rattle.pair_reader.specs.Storing.{TermsRan}
-use Rattle.pair_reader.proofs.StoringLaws.{stored-cell}
-use Rattle.pair_reader.proofs.PairSteps.{terms-none, terms-end, terms-illegal, terms-symbol, terms-pair, terms-pair-short, list-short, list-nil, list-more, list-tail, term-room}
-use Rattle.pair_reader.proofs.PairTurns.{TermsTurn, turn-first, turn_small, turn_last, turn-symbol, turn-term, ListTurn}
-use Prim.Native.Nat.{ℕ, ◌<◌}
+use Prim.Native.Nat.{◌-◌, ◌*◌, ◌+◌}
+use lib.ListN.{length}
+use Rattle.forms.specs.Cells.{arity_of}
+use Rattle.pair_reader.proofs.PairTurns.{TermsTurn, ListTurn}
 use Rattle.pair_reader.proofs.+element_list_scan_term.Given as goal
 
 abbrev pub decreases-element : goal.decreases-element

@@ -1,11 +1,7 @@
 -- `insert` meets its contract: at each turn what is still to be moved gives the whole.
-use Prim.Native.Nat.{◌≤◌, ◌-◌}
-use mathlib.Core.Path.{◌≡◌, refl, ◌∙◌}
-use mathlib.Core.List.{◌∷◌}
+use mathlib.Core.Path.{refl, ◌∙◌}
 use native.Mathlib.Omega.{arith}
-use lib.ListN.{length, take, drop, length-set}
-use lib.Seq.{sets}
-use borrow.Author.Rules.{rules}
+use lib.ListN.{length-set}
 use Rattle.pair_reader.proofs.StoringLaws.{insert-step, insert-last}
 use Rattle.pair_reader.proofs.insert.Goals as goal
 

@@ -1,5 +1,4 @@
 -- `known_after` meets its contract, one case to each side of its test.
-use borrow.Author.Rules.{rules}
 use borrow.Author.Tests.{lt-ltb, le-ltb}
 use Rattle.pair_reader.proofs.known_after.Goals as goal
 

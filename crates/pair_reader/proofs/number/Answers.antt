@@ -1,10 +1,9 @@
 -- `number` meets its contract: the search ends at the cell just written, if not before.
-use Prim.Native.Nat.{◌≤◌, ◌<◌, ◌-◌, ◌+◌}
+use Prim.Native.Nat.{◌≤◌, ◌<◌, ◌+◌}
 use mathlib.Core.Path.{◌≡◌, refl}
 use native.Mathlib.Omega.{arith}
-use lib.ListN.{length, take, drop, get_or, set, length-set}
+use lib.ListN.{length, take, drop, set, length-set}
 use lib.Seq.{get_or-set_same, take-set-le}
-use borrow.Author.Rules.{rules}
 use Rattle.forms.specs.Numbering.{rank}
 use Rattle.pair_reader.proofs.StoringLaws.{rank-turn, rank-found}
 use Rattle.pair_reader.proofs.number.Goals as goal

@@ -1,11 +1,7 @@
 use Prim.Native.Nat.{◌≤◌, ◌<◌, ◌-◌, ◌+◌}
-use mathlib.Core.Path.{◌≡◌, refl}
-use native.Mathlib.Omega.{arith}
-use lib.ListN.{length, take, drop, get_or, set, length-set}
-use lib.Seq.{get_or-set_same, take-set-le}
-use borrow.Author.Rules.{rules}
+use mathlib.Core.Path.{◌≡◌}
+use lib.ListN.{length, take, drop, get_or}
 use Rattle.forms.specs.Numbering.{rank}
-use Rattle.pair_reader.proofs.StoringLaws.{rank-turn, rank-found}
 use Rattle.pair_reader.proofs.number.Given as goal
 
 abbrev pub invariant-loop-i : goal.invariant-loop-i

@@ -6,7 +6,6 @@ use lib.ListN.{length, take}
 use lib.Seq.{length-take-le}
 use Rattle.forms.proofs.NumberingLaws.{rank-le}
 use Rattle.pair_reader.proofs.StoringLaws.{stored-cell, stored-variable}
-use borrow.Author.Rules.{rules}
 use Rattle.pair_reader.proofs.store.Goals as goal
 
 pub overflow_cast-out : goal.overflow_cast-out

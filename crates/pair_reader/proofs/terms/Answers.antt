@@ -1,17 +1,14 @@
 -- `terms` meets its contract: each turn reads a constant, which is one of the terms due, and the first other cell hands
 -- the sum on.
-use Prim.Native.Nat.{◌≤◌}
 use mathlib.Core.Path.{sym, ◌∙◌}
 use native.Mathlib.Omega.{arith}
-use borrow.Author.Rules.{rules}
-use borrow.Author.Tests.{not-false}
 use lib.ListN.{set, length-set, get_or}
 use Rattle.forms.proofs.ShapeLaws.{constant-shape}
 use Rattle.forms.specs.declared.Step.TheVariants.{Malformed}
 use Rattle.forms.specs.Cells.{arity_of}
 use Rattle.pair_reader.proofs.StoringLaws.{stored-cell}
 use Rattle.pair_reader.proofs.PairSteps.{terms-end, terms-few}
-use Rattle.pair_reader.proofs.PairTurns.{TermsTurn, turn-first, turn_last, turn-symbol}
+use Rattle.pair_reader.proofs.PairTurns.{turn-first, turn_last, turn-symbol}
 use Rattle.pair_reader.proofs.terms.Goals as goal
 
 pub returns-then-s-n : goal.returns-then-s-n

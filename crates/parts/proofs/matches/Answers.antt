@@ -1,9 +1,6 @@
 -- `matches` meets its contract: the pairs passed match, and those left decide.
-use Prim.Native.Nat.{◌-◌}
-use lib.ListN.{length}
 use borrow.Author.Rules.{rules}
-use borrow.Author.Tests.{not-true, not-false}
-use Rattle.parts.proofs.Matching.{Passed, passed_none, Here, passed_here, passed-more, passed-other, passed-all}
+use Rattle.parts.proofs.Matching.{passed_none, Here, passed_here, passed-more, passed-other, passed-all}
 use Rattle.parts.proofs.matches.Goals as goal
 
 pub loop-i-init : goal.loop-i-init

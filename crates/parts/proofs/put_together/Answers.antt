@@ -1,9 +1,7 @@
 -- `put_together` meets its contract: the form has the terms that the copies passed name.
-use Prim.Native.Nat.{◌-◌}
-use mathlib.Core.Path.{◌≡◌, refl, ◌∙◌}
-use lib.ListN.{length}
+use mathlib.Core.Path.{refl, ◌∙◌}
 use borrow.Author.Rules.{rules}
-use Rattle.parts.proofs.Gathering.{Gathered, gathered_none, Copyable-here, gathered-here, gathered-more, gathered-over, gathered-short, gathered-countable, gathered-long, gathered-form}
+use Rattle.parts.proofs.Gathering.{gathered_none, Copyable-here, gathered-here, gathered-more, gathered-over, gathered-short, gathered-countable, gathered-long, gathered-form}
 use Rattle.parts.proofs.put_together.Goals as goal
 
 pub loop-i-init : goal.loop-i-init

@@ -1,8 +1,7 @@
 use Prim.Native.Nat.{◌-◌}
-use mathlib.Core.Path.{◌≡◌, refl, ◌∙◌}
+use mathlib.Core.Path.{◌≡◌}
 use lib.ListN.{length}
-use borrow.Author.Rules.{rules}
-use Rattle.parts.proofs.Gathering.{Gathered, gathered_none, Copyable-here, gathered-here, gathered-more, gathered-over, gathered-short, gathered-countable, gathered-long, gathered-form}
+use Rattle.parts.proofs.Gathering.{Gathered}
 use Rattle.parts.proofs.put_together.Given as goal
 
 abbrev pub invariant-loop-i : goal.invariant-loop-i

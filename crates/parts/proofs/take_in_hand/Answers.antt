@@ -1,9 +1,8 @@
 -- `take_in_hand` meets its contract: the tokens passed are copied, and the terms that begin among them are noted.
-use Prim.Native.Nat.{◌+◌, ◌*◌, ◌-◌}
 use mathlib.Core.Path.{sym, ◌∙◌}
-use lib.ListN.{length, length-set}
+use lib.ListN.{length-set}
 use borrow.Author.Rules.{rules}
-use Rattle.parts.proofs.Taking.{Taking, taking-none, place-free, taking-place, opens, shuts, passes, counts, taking-open, taking-token, taking-end}
+use Rattle.parts.proofs.Taking.{taking-none, place-free, taking-place, opens, shuts, passes, counts, taking-open, taking-token, taking-end}
 use Rattle.parts.proofs.take_in_hand.Goals as goal
 
 pub loop-at-init : goal.loop-at-init

@@ -1,8 +1,6 @@
 use Prim.Native.Nat.{◌+◌, ◌*◌, ◌-◌}
-use mathlib.Core.Path.{sym, ◌∙◌}
-use lib.ListN.{length, length-set}
-use borrow.Author.Rules.{rules}
-use Rattle.parts.proofs.Taking.{Taking, taking-none, place-free, taking-place, opens, shuts, passes, counts, taking-open, taking-token, taking-end}
+use lib.ListN.{length}
+use Rattle.parts.proofs.Taking.{Taking}
 use Rattle.parts.proofs.take_in_hand.Given as goal
 
 abbrev pub invariant-loop-at : goal.invariant-loop-at

@@ -4,7 +4,6 @@ use Rattle.convert.specs.declared.Loaded.TheVariants as loaded
 use Rattle.path_terms.proofs.WorthCases.{worth-none, few-variables, worth-begun, worth-unbegun, worth-answered}
 use Rattle.basis.proofs.Tests.{told}
 use native.Mathlib.Omega.{arith}
-use borrow.Author.Rules.{rules}
 use Rattle.path_terms.proofs.form_worth_with.Goals as goal
 
 pub returns-in_default : goal.returns-in_default

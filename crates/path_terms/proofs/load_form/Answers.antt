@@ -3,7 +3,6 @@ use Rattle.path_terms.proofs.AlongCases.{few-loaded, loaded-numbered}
 use Rattle.forms.specs.declared.Answer.TheVariants.{Cells, Short}
 use Rattle.basis.proofs.Tests.{told}
 use native.Mathlib.Omega.{arith}
-use borrow.Author.Rules.{rules}
 use Rattle.path_terms.proofs.load_form.Goals as goal
 
 pub overflow_add-result : goal.overflow_add-result

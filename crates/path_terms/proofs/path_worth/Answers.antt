@@ -2,7 +2,6 @@
 use mathlib.Core.Bool.{true, false}
 use Rattle.trie.specs.Runs.{path_to}
 use Rattle.path_terms.proofs.WorthCases.{worth-as}
-use borrow.Author.Rules.{rules}
 use Rattle.path_terms.proofs.path_worth.Goals as goal
 
 pub returns-then-called : goal.returns-then-called

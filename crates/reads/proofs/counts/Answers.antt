@@ -7,7 +7,6 @@ use native.Mathlib.Omega.{arith}
 use mathlib.Core.Path.{◌≡◌}
 use Rattle.basis.proofs.Tests.{told}
 use Rattle.reads.proofs.ReadsLaws.{counts-answers}
-use borrow.Author.Rules.{rules}
 use Rattle.reads.proofs.counts.Goals as goal
 
 pub overflow_cast-result : goal.overflow_cast-result

@@ -6,7 +6,6 @@ use Rattle.space.specs.Heading.{space_header}
 use mathlib.Core.Path.{◌≡◌}
 use Rattle.basis.proofs.Tests.{told}
 use Rattle.reads.proofs.ReadsLaws.{instance-answers}
-use borrow.Author.Rules.{rules}
 use Rattle.reads.proofs.instance.Goals as goal
 
 pub instance_in-requires : goal.instance_in-requires

@@ -6,7 +6,6 @@ use Rattle.space.specs.Heading.{space_header}
 use mathlib.Core.Path.{◌≡◌}
 use Rattle.basis.proofs.Tests.{told}
 use Rattle.reads.proofs.ReadsLaws.{load-answers}
-use borrow.Author.Rules.{rules}
 use Rattle.reads.proofs.load.Goals as goal
 
 pub load_in-requires : goal.load_in-requires

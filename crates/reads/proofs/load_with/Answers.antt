@@ -5,9 +5,7 @@ use Rattle.store.specs.Views.{view_of}
 use Rattle.store.specs.Decisions.{gives}
 use Rattle.space.specs.declared.Answer.{Answer}
 use Rattle.space.specs.Layout.{sizes_of}
-use Rattle.forms.specs.Cells.{arity_of}
 use Rattle.forms.specs.Stored.{stored_of}
-use Rattle.forms.specs.Compact.{pair_form}
 use Rattle.plain.specs.Coding.{coding_of}
 use native.Mathlib.Omega.{arith}
 use mathlib.Core.Path.{ap, sym}

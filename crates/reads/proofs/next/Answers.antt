@@ -7,7 +7,6 @@ use Rattle.space.specs.Heading.{space_header}
 use mathlib.Core.Path.{◌≡◌}
 use Rattle.basis.proofs.Tests.{told}
 use Rattle.reads.proofs.ReadsLaws.{next-answers}
-use borrow.Author.Rules.{rules}
 use Rattle.reads.proofs.next.Goals as goal
 
 pub next_in-requires : goal.next_in-requires

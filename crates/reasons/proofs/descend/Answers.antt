@@ -1,10 +1,9 @@
 -- `descend` meets its contract: each turn goes down one child, and each answer comes by its law.
-use Prim.Native.Nat.{◌-◌}
 use native.Mathlib.Omega.{arith}
 use Rattle.basis.proofs.Tests.{told}
 use Rattle.space.proofs.HeaderLaws.{bounds-nodes}
 use borrow.Author.Rules.{rules}
-use Rattle.reasons.proofs.WhyCases.{Descending, descending-begin, child-inside, child-rises, descending-end, descending-lost, descending-stray, descending-on}
+use Rattle.reasons.proofs.WhyCases.{descending-begin, child-inside, child-rises, descending-end, descending-lost, descending-stray, descending-on}
 use Rattle.reasons.proofs.descend.Goals as goal
 
 pub node_in-y-requires : goal.node_in-y-requires
@@ -15,41 +14,26 @@ loop-child-init c = descending-begin c.args.space.now c.args.h c.args.from c.req
 
 pub read_node-requires : goal.read_node-requires
 read_node-requires c =
-    
     (bounds-nodes _ _ c.requires.0, child-inside c.args.space.now c.args.h c.args.from c.loop-child.invariant)
 
 pub returns-in_default : goal.returns-in_default
 returns-in_default c =
-    
-    
     descending-lost c.args.space.now c.args.h c.args.from c.loop-child.invariant c.loop-child-test.true (told c.in_default.is c.read_node.ensures)
 
 pub returns-then-x-n : goal.returns-then-x-n
 returns-then-x-n c =
-    
-    
-    
-    
     descending-stray c.args.space.now c.args.h c.args.from c.loop-child.invariant c.loop-child-test.true _ (told c.in-Sound.is c.read_node.ensures) (search
     rules)
 
 pub loop-child-smaller : goal.loop-child-smaller
 loop-child-smaller c =
-    
-    
-    
     omega (arith, c.loop-child.invariant.inside, child-rises c.args.space.now c.args.h c.args.from c.loop-child.invariant c.loop-child-test.true)
 
 pub loop-child-preserved : goal.loop-child-preserved
 loop-child-preserved c =
-    
-    
-    
-    
     descending-on c.args.space.now c.args.h c.args.from c.loop-child.invariant c.loop-child-test.true _ (told c.in-Sound.is c.read_node.ensures) (search
     rules)
 
 pub returns : goal.returns
 returns c =
-    
     descending-end c.args.space.now c.args.h c.args.from c.loop-child.invariant (search rules)

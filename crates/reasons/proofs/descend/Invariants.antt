@@ -1,9 +1,5 @@
 use Prim.Native.Nat.{◌-◌}
-use native.Mathlib.Omega.{arith}
-use Rattle.basis.proofs.Tests.{told}
-use Rattle.space.proofs.HeaderLaws.{bounds-nodes}
-use borrow.Author.Rules.{rules}
-use Rattle.reasons.proofs.WhyCases.{Descending, descending-begin, child-inside, child-rises, descending-end, descending-lost, descending-stray, descending-on}
+use Rattle.reasons.proofs.WhyCases.{Descending}
 use Rattle.reasons.proofs.descend.Given as goal
 
 abbrev pub invariant-loop-child : goal.invariant-loop-child

@@ -1,6 +1,5 @@
 -- `subgoal_of` meets its contract: what call finds at the leaf.
 use Rattle.space.proofs.HeaderLaws.{bounds-nodes}
-use borrow.Author.Rules.{rules}
 use Rattle.reasons.proofs.WhyCases.{leaf-named, leaf-unnamed, new-other, refused-other, link-most}
 use Rattle.reasons.proofs.subgoal_of.Goals as goal
 
@@ -12,18 +11,14 @@ call_old-found-requires c = (c.requires.0, link-most c.args.space.now c.args.h _
 
 pub returns-in-Old : goal.returns-in-Old
 returns-in-Old c =
-    
-    
     leaf-named c.args.space.now c.args.h c.args.leaf _ c.node_in-y.ensures _ _ (rw c.in-Old.is at c.call_old-found.ensures)
 
 pub returns-in-New : goal.returns-in-New
 returns-in-New c =
-    
     leaf-unnamed c.args.space.now c.args.h c.args.leaf _ c.node_in-y.ensures _ (rw c.in-New.is at c.call_old-found.ensures)
     (new-other _)
 
 pub returns-in-Refused : goal.returns-in-Refused
 returns-in-Refused c =
-    
     leaf-unnamed c.args.space.now c.args.h c.args.leaf _ c.node_in-y.ensures _ (rw c.in-Refused.is at c.call_old-found.ensures)
     (refused-other _)

@@ -1,6 +1,5 @@
 -- `why` meets its contract.
 use Rattle.store.proofs.FindingLaws.{unindexed-answers}
-use borrow.Author.Rules.{rules}
 use Rattle.reasons.proofs.why.Goals as goal
 
 pub returns : goal.returns

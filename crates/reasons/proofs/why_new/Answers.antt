@@ -1,6 +1,4 @@
 -- `why_new` meets its contract.
-use native.Mathlib.Omega.{arith}
-use borrow.Author.Rules.{rules}
 use Rattle.reasons.proofs.WhyCases.{new_none, new-astray, new-lost, new-found}
 use Rattle.reasons.proofs.why_new.Goals as goal
 
@@ -12,7 +10,6 @@ descend-requires c = c.requires.0
 
 pub returns-in_default : goal.returns-in_default
 returns-in_default c =
-    
     new-astray c.args.space.now c.args.h c.args.parent c.args.n c.if-n-eq0.false (rw c.in_default.is at c.descend.ensures)
 
 pub subgoal_of-s-requires : goal.subgoal_of-s-requires
@@ -20,14 +17,8 @@ subgoal_of-s-requires c = let d = rw c.in-Leaf.is at c.descend.ensures in (c.req
 
 pub returns-then-s-eq0 : goal.returns-then-s-eq0
 returns-then-s-eq0 c =
-    
-    
-    
     new-lost c.args.space.now c.args.h c.args.parent c.args.n c.if-n-eq0.false _ _ (rw c.in-Leaf.is at c.descend.ensures) c.subgoal_of-s.ensures c.if-s-eq0.true
 
 pub returns : goal.returns
 returns c =
-    
-    
-    
     new-found c.args.space.now c.args.h c.args.parent c.args.n c.if-n-eq0.false _ _ (rw c.in-Leaf.is at c.descend.ensures) c.subgoal_of-s.ensures c.if-s-eq0.false

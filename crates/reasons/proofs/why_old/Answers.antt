@@ -1,5 +1,4 @@
 -- `why_old` meets its contract.
-use borrow.Author.Rules.{rules}
 use Rattle.reasons.proofs.WhyCases.{old-lost, old-found}
 use Rattle.reasons.proofs.why_old.Goals as goal
 

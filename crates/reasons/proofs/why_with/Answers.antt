@@ -17,8 +17,6 @@ use Rattle.reasons.proofs.why_with.Goals as goal
 
 pub returns-in_default : goal.returns-in_default
 returns-in_default c =
-    
-    
     record { answers_under = why-refused _ c.args.space.now c.args.h c.args.term.now _ (handed-on _ _ _ _ c.in_default.is c.refused_by.ensures c.read_terms-read.ensures.0); named_in = tt }
 
 pub bounds-term-0 : goal.bounds-term-0
@@ -40,9 +38,6 @@ slice_bounds-why_at-end-then-is_callable c =
 
 pub why_at-requires : goal.why_at-requires
 why_at-requires c =
-    
-    
-    
     (c.requires.bounds.0, omega (arith, length-take c.in-Form.n c.read_terms-read.new.form, c.requires.bounds.1))
 
 pub returns-then-is_callable : goal.returns-then-is_callable
@@ -50,14 +45,13 @@ returns-then-is_callable c =
     let got_here : Form c.in-Form.n c.in-Form.m ≡ reading (arity_of c.args.h.edition) (stored_of c.args.h.edition) 1 c.args.term.now = sym c.in-Form.is ∙ c.read_terms-read.ensures.0 in
     let holds_here : take c.in-Form.n c.read_terms-read.new.form ≡ (stored_of c.args.h.edition).form c.args.term.now = rw c.in-Form.is at c.read_terms-read.ensures.1 in
     let names_here : take c.in-Form.m c.read_terms-read.new.vars ≡ met [] c.args.term.now = rw c.in-Form.is at c.read_terms-read.ensures.2 in
-    
-    
-    record { answers_under = why-form _ c.args.space.now c.args.h c.args.term.now _ _ (got_here) _ c.read_terms-read.new.form c.why_at.result (names_here)
-          (sym c.is_callable.ensures ∙ c.if-is_callable.true) (holds_here) c.why_at.ensures; named_in = why-named (search_indexed c.args.index.now c.args.h.nodes) c.args.space.now c.args.h c.args.term.now _ _ (got_here) _ c.read_terms-read.new.form c.why_at.result (names_here) c.why_at.ensures }
+    record {
+      answers_under = why-form _ c.args.space.now c.args.h c.args.term.now _ _ (got_here) _ c.read_terms-read.new.form c.why_at.result (names_here)
+          (sym c.is_callable.ensures ∙ c.if-is_callable.true) (holds_here) c.why_at.ensures;
+      named_in = why-named (search_indexed c.args.index.now c.args.h.nodes) c.args.space.now c.args.h c.args.term.now _ _ (got_here) _ c.read_terms-read.new.form c.why_at.result (names_here) c.why_at.ensures;
+    }
 
 pub returns : goal.returns
 returns c =
     let got_here : Form c.in-Form.n c.in-Form.m ≡ reading (arity_of c.args.h.edition) (stored_of c.args.h.edition) 1 c.args.term.now = sym c.in-Form.is ∙ c.read_terms-read.ensures.0 in
-    
-    
     record { answers_under = why-other _ c.args.space.now c.args.h c.args.term.now _ _ (got_here) (sym c.is_callable.ensures ∙ c.if-is_callable.false); named_in = tt }

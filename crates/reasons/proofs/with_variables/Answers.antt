@@ -1,7 +1,5 @@
 -- `with_variables` meets its contract.
 use mathlib.Core.Path.{refl}
-use borrow.Author.Rules.{rules}
-use native.Mathlib.Omega.{arith}
 use Rattle.reasons.proofs.WhyCases.{carries-old, carries-new, carries-refused}
 use Rattle.reasons.proofs.with_variables.Goals as goal
 

@@ -1,7 +1,6 @@
 -- `print_call` meets its contract: each answer by its word, and an old subgoal's state behind its number.
 use mathlib.Core.List.{◌∷◌}
 use native.Mathlib.Omega.{arith}
-use borrow.Author.Rules.{rules}
 use Rattle.store.specs.Replies.{said_state}
 use Rattle.text.specs.Digits.{word_and_number}
 use Rattle.text.proofs.DigitsLaws.{decimal-length, puts-append}
@@ -18,7 +17,6 @@ put_state-requires c = omega (arith, decimal-length c.in-Old.n)
 pub returns-in-Old : goal.returns-in-Old
 unfolding reply_text
 returns-in-Old c = λ out.
-    
     rw c.in-Old.is
     (puts-append (word_and_number text_old c.in-Old.n) (32 ∷ state_text (said_state c.in-Old.state)) c.args.text.now _ _ _ _ _ c.put_numbered-end.ensures c.put_state.ensures)
 

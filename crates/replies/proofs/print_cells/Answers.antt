@@ -2,7 +2,6 @@
 use mathlib.Core.Path.{ap}
 use native.Mathlib.Omega.{arith}
 use lib.ListN.{take}
-use borrow.Author.Rules.{rules}
 use Rattle.store.specs.Replies.{said_cells}
 use Rattle.text.specs.Digits.{cell_texts}
 use Rattle.text.proofs.DigitsLaws.{puts-append}
@@ -11,14 +10,12 @@ use Rattle.replies.proofs.print_cells.Goals as goal
 
 pub put_cells-requires : goal.put_cells-requires
 put_cells-requires c =
-    
     let n = c.requires.by_index c.in-Cells.n (ap said_cells c.in-Cells.is) in
     (n, omega arith)
 
 pub returns-in-Cells : goal.returns-in-Cells
 unfolding reply_text
 returns-in-Cells c =
-    
     rw c.in-Cells.is
     (puts-append text_cells (cell_texts (take c.in-Cells.n c.args.out.now)) c.args.text.now _ _ _ _ _ c.put-end.ensures c.put_cells.ensures)
 

@@ -1,5 +1,4 @@
 -- `print_lacking` meets its contract: each state by its word.
-use borrow.Author.Rules.{rules}
 use Rattle.replies.specs.Texts.{reply_text}
 use Rattle.replies.proofs.print_lacking.Goals as goal
 

@@ -1,5 +1,4 @@
 -- `print_next` meets its contract: each answer by its word.
-use borrow.Author.Rules.{rules}
 use Rattle.replies.specs.Texts.{reply_text}
 use Rattle.replies.proofs.print_next.Goals as goal
 

@@ -1,7 +1,6 @@
 -- `print_used` meets its contract: each number behind those before it.
 use mathlib.Core.List.{◌∷◌}
 use native.Mathlib.Omega.{arith}
-use borrow.Author.Rules.{rules}
 use Rattle.text.specs.Digits.{word_and_number, decimal_text}
 use Rattle.text.proofs.DigitsLaws.{decimal-length, puts-append}
 use Rattle.replies.specs.Texts.{text_counts}

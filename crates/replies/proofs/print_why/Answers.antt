@@ -2,7 +2,6 @@
 use mathlib.Core.List.{◌∷◌}
 use lib.ListN.{take}
 use native.Mathlib.Omega.{arith}
-use borrow.Author.Rules.{rules}
 use Rattle.store.specs.Replies.{NamedIn}
 use Rattle.store.specs.declared.Reason.TheVariants as reason
 use Rattle.text.specs.Digits.{word_and_number, decimal_text, cell_texts}
@@ -19,7 +18,6 @@ put_cells-requires c =
 pub returns-in-Old : goal.returns-in-Old
 unfolding reply_text reason_text
 returns-in-Old c = λ out.
-    
     let g = c.args in
     rw c.in-Old.is
     (puts-append (word_and_number text_old c.in-Old.n) (cell_texts (take c.in-Old.m g.answer.variables)) g.text.now _ _ _ _ _
@@ -31,7 +29,6 @@ put_field-requires c = omega (arith, decimal-length c.in-New.k)
 pub returns-in-New : goal.returns-in-New
 unfolding reply_text reason_text
 returns-in-New c = λ out.
-    
     let g = c.args in
     rw c.in-New.is
     (puts-append (word_and_number text_new c.in-New.k) (32 ∷ decimal_text c.in-New.s) g.text.now _ _ _ _ _

@@ -1,5 +1,4 @@
 -- `put_state` meets its contract: each state by its word.
-use borrow.Author.Rules.{rules}
 use Rattle.replies.proofs.put_state.Goals as goal
 
 pub returns-in-Open : goal.returns-in-Open

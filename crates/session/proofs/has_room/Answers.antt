@@ -1,5 +1,4 @@
 -- `has_room` meets its contract.
-use borrow.Author.Rules.{rules}
 use Rattle.session.proofs.LineLaws.{room-short, room-left}
 use Rattle.session.proofs.has_room.Goals as goal
 

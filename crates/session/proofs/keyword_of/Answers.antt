@@ -1,7 +1,6 @@
 -- `keyword_of` meets its contract: each word by its test and those before it.
 use Rattle.basis.proofs.Tests.{told}
 use Rattle.session.proofs.LineLaws.{is_call, is-answer, is-finish, is-next, is-load, is-instance, is-counts, is-why, is-other}
-use borrow.Author.Rules.{rules}
 use Rattle.session.proofs.keyword_of.Goals as goal
 
 pub returns-then-is_word : goal.returns-then-is_word

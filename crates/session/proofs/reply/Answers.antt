@@ -5,7 +5,6 @@ use Rattle.basis.proofs.Tests.{told}
 use Rattle.session.specs.declared.Keyword.TheVariants as keyword
 use Rattle.asking.proofs.AskingLaws.{bad-leaves}
 use Rattle.session.proofs.LineLaws.{keyword-leaves, silent-leaves}
-use borrow.Author.Rules.{rules}
 use Rattle.session.proofs.reply.Goals as goal
 
 pub slice_bounds-keyword_of-end : goal.slice_bounds-keyword_of-end

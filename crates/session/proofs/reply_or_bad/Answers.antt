@@ -1,7 +1,6 @@
 -- `reply_or_bad` meets its contract.
 use mathlib.Core.Path.{sym, ap, ◌∙◌}
 use native.Mathlib.Omega.{arith}
-use borrow.Author.Rules.{rules}
 use Rattle.text.specs.Fields.{fields}
 use Rattle.store.specs.Calls.{space_step}
 use Rattle.asking.specs.Lines.{Meaning, word_means, means}

@@ -1,7 +1,6 @@
 -- `respond` meets its contract.
 use native.Mathlib.Omega.{arith}
 use borrow.Author.Tests.{leb-true, leb-false}
-use borrow.Author.Rules.{rules}
 use Rattle.basis.proofs.Tests.{told}
 use Rattle.store.specs.Calls.{space_step}
 use Rattle.asking.specs.Lines.{means}

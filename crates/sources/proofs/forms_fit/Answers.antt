@@ -1,5 +1,4 @@
 -- `sources::forms_fit` meets its contract.
-use borrow.Author.Rules.{rules}
 use native.Mathlib.Omega.{arith}
 use mathlib.Core.Path.{refl}
 use Rattle.sources.specs.Records.{subgoals_of, answers_of}

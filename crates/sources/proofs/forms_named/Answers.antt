@@ -1,6 +1,5 @@
 -- `sources::forms_named` meets its contract.
 use mathlib.Core.Path.{◌∙◌}
-use borrow.Author.Tests.{not-true, not-false}
 use Rattle.sources.proofs.TableLaws.{subgoals-load, answers-load, unnamed-subgoal, named-answers}
 use Rattle.sources.proofs.forms_named.Goals as goal
 

@@ -1,6 +1,5 @@
 -- `sources::loads` meets its contract.
 use mathlib.Core.Path.{◌∙◌}
-use borrow.Author.Tests.{not-true, not-false}
 use Rattle.basis.proofs.Tests.{told}
 use Rattle.space.proofs.HeaderLaws.{header-bounds}
 use Rattle.sources.proofs.TableLaws.{unloaded-subgoal, unloaded-answer, alike-subgoals, alike-answers}

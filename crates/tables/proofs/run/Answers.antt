@@ -1,13 +1,8 @@
 -- `run` meets its contract.
-use Prim.Native.Nat.{◌≤◌}
-use mathlib.Core.Path.{◌≡◌, refl}
+use mathlib.Core.Path.{refl}
 use native.Mathlib.Omega.{arith}
-use lib.ListN.{length}
-use borrow.Author.Rules.{rules}
-use Rattle.session.specs.Program.{starts}
 use Rattle.tables.specs.declared.Progress.TheVariants.{Kept}
-use Rattle.tables.specs.Progress.{program_holds}
-use Rattle.tables.proofs.FedLaws.{HasRead, read_none, reads_on, read-so-far}
+use Rattle.tables.proofs.FedLaws.{read_none, reads_on, read-so-far}
 use Rattle.tables.proofs.run.Goals as goal
 
 pub loop-turns-init : goal.loop-turns-init
@@ -33,8 +28,6 @@ shape_of-text-in_default c = omega arith
 
 pub returns-in_default : goal.returns-in_default
 returns-in_default c =
-    
-    
     reads_on c.loop-turns.invariant.6 _ c.read_some-progress.result _ _ _ _ c.read_some-progress.ensures.reads_some
 
 pub overflow_sub-turns : goal.overflow_sub-turns
@@ -45,8 +38,6 @@ loop-turns-smaller c = omega arith
 
 pub loop-turns-preserved : goal.loop-turns-preserved
 loop-turns-preserved c =
-    
-    
     let w = rw c.in-Kept.is at c.read_some-progress.ensures.within in
     let h = rw c.in-Kept.is at c.read_some-progress.ensures.reads_some in
     let so_far = read-so-far _ _ (reads_on c.loop-turns.invariant.6 _ (Kept c.in-Kept.n) _ _ _ _ h) in

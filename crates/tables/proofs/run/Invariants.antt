@@ -1,12 +1,9 @@
 use Prim.Native.Nat.{◌≤◌}
-use mathlib.Core.Path.{◌≡◌, refl}
-use native.Mathlib.Omega.{arith}
+use mathlib.Core.Path.{◌≡◌}
 use lib.ListN.{length}
-use borrow.Author.Rules.{rules}
 use Rattle.session.specs.Program.{starts}
-use Rattle.tables.specs.declared.Progress.TheVariants.{Kept}
 use Rattle.tables.specs.Progress.{program_holds}
-use Rattle.tables.proofs.FedLaws.{HasRead, read_none, reads_on, read-so-far}
+use Rattle.tables.proofs.FedLaws.{HasRead}
 use Rattle.tables.proofs.run.Given as goal
 
 abbrev pub invariant-loop-turns : goal.invariant-loop-turns

@@ -1,12 +1,8 @@
 -- `take_chunk` meets its contract.
-use Prim.Native.Nat.{◌-◌, ◌≤◌}
-use mathlib.Core.Path.{◌≡◌, refl, sym}
+use mathlib.Core.Path.{refl, sym}
 use native.Mathlib.Omega.{arith}
-use lib.ListN.{length}
 use lib.Seq.{length-take-le}
-use borrow.Author.Rules.{rules}
-use Rattle.tables.specs.Progress.{program_holds}
-use Rattle.tables.proofs.FedLaws.{Through, through-none, through-all, through-some, through-more, through-line}
+use Rattle.tables.proofs.FedLaws.{through-none, through-all, through-some, through-more, through-line}
 use Rattle.tables.proofs.take_chunk.Goals as goal
 
 pub loop-at-init : goal.loop-at-init
@@ -26,7 +22,6 @@ shape_of-text-in-More c = omega arith
 
 pub returns-in-More : goal.returns-in-More
 returns-in-More c =
-    
     let w = rw c.in-More.is at c.take_line.ensures.in_range in
     let e = rw c.in-More.is at c.take_line.ensures.line_value in
     record { within = omega (arith, w (omega arith)); takes_chunk = through-more c.loop-at.invariant.5 _ _ e }
@@ -55,23 +50,16 @@ shape_of-text-then-not-answer c = omega arith
 
 pub returns-then-not-answer : goal.returns-then-not-answer
 returns-then-not-answer c =
-    
-    
-    
     let e = rw c.in-Line.is at c.take_line.ensures.line_value in
     record { within = tt; takes_chunk = through-some (through-line c.loop-at.invariant.5 _ _ _ _ _ _ e c.answer.ensures) }
 
 pub loop-at-smaller : goal.loop-at-smaller
 loop-at-smaller c =
-    
     let w = rw c.in-Line.is at c.take_line.ensures.in_range in
     omega (arith, w.0, w.1)
 
 pub loop-at-preserved : goal.loop-at-preserved
 loop-at-preserved c =
-    
-    
-    
     let e = rw c.in-Line.is at c.take_line.ensures.line_value in
     let fed = through-line c.loop-at.invariant.5 _ _ _ _ _ _ e c.answer.ensures in
     (omega arith, omega arith, omega arith, omega arith, omega arith, fed)

@@ -1,11 +1,8 @@
 use Prim.Native.Nat.{◌-◌, ◌≤◌}
-use mathlib.Core.Path.{◌≡◌, refl, sym}
-use native.Mathlib.Omega.{arith}
+use mathlib.Core.Path.{◌≡◌}
 use lib.ListN.{length}
-use lib.Seq.{length-take-le}
-use borrow.Author.Rules.{rules}
 use Rattle.tables.specs.Progress.{program_holds}
-use Rattle.tables.proofs.FedLaws.{Through, through-none, through-all, through-some, through-more, through-line}
+use Rattle.tables.proofs.FedLaws.{Through}
 use Rattle.tables.proofs.take_chunk.Given as goal
 
 abbrev pub invariant-loop-at : goal.invariant-loop-at

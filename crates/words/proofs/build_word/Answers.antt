@@ -2,7 +2,6 @@
 use native.Mathlib.Omega.{arith}
 use Rattle.words.specs.Words.{word, word_build}
 use Rattle.words.proofs.BuildBounds.{built-word, built-bounded}
-use borrow.Author.Rules.{rules}
 use Rattle.words.proofs.build_word.Goals as goal
 
 pub returns-in-Built : goal.returns-in-Built

@@ -3,7 +3,6 @@ use native.Mathlib.Omega.{arith}
 use Rattle.store.specs.Replies.{said_call}
 use Rattle.words.specs.Words.{word}
 use Rattle.words.proofs.WordLaws.{said-word, said-bounded}
-use borrow.Author.Rules.{rules}
 use Rattle.words.proofs.call_word.Goals as goal
 
 pub returns-in-New : goal.returns-in-New

@@ -3,7 +3,6 @@ use native.Mathlib.Omega.{arith}
 use Rattle.store.specs.Replies.{said_cells}
 use Rattle.words.specs.Words.{word}
 use Rattle.words.proofs.WordLaws.{said-word, said-bounded}
-use borrow.Author.Rules.{rules}
 use Rattle.words.proofs.cells_word.Goals as goal
 
 pub overflow_cast-n : goal.overflow_cast-n

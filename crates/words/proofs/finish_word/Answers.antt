@@ -3,7 +3,6 @@ use native.Mathlib.Omega.{arith}
 use Rattle.store.specs.Replies.{said_finish}
 use Rattle.words.specs.Words.{word}
 use Rattle.words.proofs.WordLaws.{said-word, said-bounded}
-use borrow.Author.Rules.{rules}
 use Rattle.words.proofs.finish_word.Goals as goal
 
 pub returns-in-Done : goal.returns-in-Done

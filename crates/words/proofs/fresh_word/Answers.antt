@@ -2,7 +2,6 @@
 use native.Mathlib.Omega.{arith}
 use Rattle.words.specs.Words.{word, said_fresh}
 use Rattle.words.proofs.WordLaws.{said-word, said-bounded}
-use borrow.Author.Rules.{rules}
 use Rattle.words.proofs.fresh_word.Goals as goal
 
 pub returns-in-Done : goal.returns-in-Done

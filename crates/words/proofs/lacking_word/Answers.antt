@@ -3,7 +3,6 @@ use Rattle.plain.specs.Requests.{lacks_next}
 use Rattle.store.specs.Replies.{said_state}
 use Rattle.words.specs.Words.{word}
 use Rattle.words.proofs.WordLaws.{said-word}
-use borrow.Author.Rules.{rules}
 use Rattle.words.proofs.lacking_word.Goals as goal
 
 pub returns-in-Open : goal.returns-in-Open

@@ -1,6 +1,5 @@
 -- `refusal_word` meets its contract.
 use Rattle.words.specs.Words.{word}
-use borrow.Author.Rules.{rules}
 use Rattle.words.proofs.refusal_word.Goals as goal
 
 pub returns : goal.returns

@@ -1,10 +1,6 @@
 -- `due_past` meets its contract, one case to each shape.
-use mathlib.Core.Path.{◌≡◌, sym, ap, ◌∙◌}
-use Prim.Native.Nat.{◌≤◌}
 use native.Mathlib.Omega.{arith}
-use borrow.Author.Rules.{rules}
-use Rattle.forms.specs.Cells.{shape_of, arity_of}
-use Rattle.forms.specs.declared.Shape.TheVariants.{Symbol}
+use Rattle.forms.specs.Cells.{arity_of}
 use Rattle.forms.proofs.ShapeLaws.{symbol-small, arity-small}
 use Rattle.basis.proofs.Tests.{told}
 use Rattle.convert.specs.Scans.{due_past}

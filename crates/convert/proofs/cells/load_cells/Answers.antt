@@ -1,10 +1,8 @@
 -- `load_cells` meets its contract: each turn passes one cell, and each answer comes by its law.
-use Prim.Native.Nat.{◌-◌}
 use mathlib.Core.Path.{refl, sym, ◌∙◌}
 use native.Mathlib.Omega.{arith}
-use borrow.Author.Rules.{rules}
 use Rattle.forms.specs.Cells.{arity_of}
-use Rattle.convert.proofs.ScanLaws.{LoadTurn, load-long, load-few, load-start, load-over, load-illegal, load-unordered, load-next, load-short, load_many, load-form}
+use Rattle.convert.proofs.ScanLaws.{load-long, load-few, load-start, load-over, load-illegal, load-unordered, load-next, load-short, load_many, load-form}
 use Rattle.convert.proofs.cells.load_cells.Goals as goal
 
 pub returns-then-n-gt-MOST_CELLS : goal.returns-then-n-gt-MOST_CELLS

@@ -1,9 +1,6 @@
 use Prim.Native.Nat.{◌-◌}
-use mathlib.Core.Path.{refl, sym, ◌∙◌}
-use native.Mathlib.Omega.{arith}
-use borrow.Author.Rules.{rules}
 use Rattle.forms.specs.Cells.{arity_of}
-use Rattle.convert.proofs.ScanLaws.{LoadTurn, load-long, load-few, load-start, load-over, load-illegal, load-unordered, load-next, load-short, load_many, load-form}
+use Rattle.convert.proofs.ScanLaws.{LoadTurn}
 use Rattle.convert.proofs.cells.load_cells.Given as goal
 
 abbrev pub invariant-loop-at : goal.invariant-loop-at

@@ -1,11 +1,10 @@
 -- `read_cells` meets its contract: each turn passes one cell, and each answer comes by its law.
-use Prim.Native.Nat.{◌-◌}
 use mathlib.Core.Path.{refl}
 use native.Mathlib.Omega.{arith}
 use borrow.Author.Rules.{rules}
 use Rattle.forms.specs.Cells.{arity_of}
 use Rattle.forms.specs.Stored.{pair_stored}
-use Rattle.convert.proofs.ScanLaws.{ReadTurn, cells-refused, few-cells, read-start, read-over, read-illegal, read_next, read_short, read-crowded, read-form}
+use Rattle.convert.proofs.ScanLaws.{cells-refused, few-cells, read-start, read-over, read-illegal, read_next, read_short, read-crowded, read-form}
 use Rattle.convert.proofs.ReadingLaws.{reading-long}
 use Rattle.convert.proofs.cells.read_cells.Goals as goal
 

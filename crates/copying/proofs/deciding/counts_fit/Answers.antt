@@ -1,7 +1,6 @@
 -- `copying::deciding::counts_fit` meets its contract.
 use mathlib.Core.Path.{refl}
 use native.Mathlib.Omega.{arith}
-use borrow.Author.Rules.{rules}
 use Rattle.copying.proofs.DecideCases.{counts-nodes, counts-subgoals, counts-answers}
 use Rattle.copying.proofs.deciding.counts_fit.Goals as goal
 

@@ -1,5 +1,4 @@
 -- `copying::deciding::decide` meets its contract.
-use borrow.Author.Rules.{rules}
 use Rattle.basis.proofs.Tests.{told}
 use Rattle.copying.proofs.DecideCases.{decided-headless}
 use Rattle.copying.proofs.deciding.decide.Goals as goal

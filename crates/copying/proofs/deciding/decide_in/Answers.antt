@@ -1,8 +1,6 @@
 -- `copying::deciding::decide_in` meets its contract: a law for each answer.
 use mathlib.Core.Path.{ap, sym, ◌∙◌}
 use native.Mathlib.Omega.{arith}
-use borrow.Author.Tests.{not-true, not-false}
-use borrow.Author.Rules.{rules}
 use Rattle.basis.proofs.Tests.{told}
 use Rattle.space.proofs.HeaderLaws.{header-bounds}
 use Rattle.integrity.specs.Tests.{said_check}
@@ -11,13 +9,11 @@ use Rattle.copying.proofs.deciding.decide_in.Goals as goal
 
 pub returns-then-h-ne-SOURCE_EDITION : goal.returns-then-h-ne-SOURCE_EDITION
 returns-then-h-ne-SOURCE_EDITION c =
-    
     let a = c.args in
     decided-other a.nodes a.subgoals a.answers a.source.now a.target.now a.h c.requires (λ e. omega arith)
 
 pub returns-then-not-fits : goal.returns-then-not-fits
 returns-then-not-fits c =
-    
     let a = c.args in
     let e1 = c.wide.ensures.0 in
     let e2 = c.wide-2.ensures.0 in
@@ -31,7 +27,6 @@ whole_answer-requires c = header-bounds _ _ c.requires
 pub returns-in-Whole : goal.returns-in-Whole
 returns-in-Whole c =
     let found = ap said_check (sym c.in-Whole.is) ∙ c.check-checked.ensures in
-    
     let a = c.args in
     let e1 = c.wide.ensures.0 in
     let e2 = c.wide-2.ensures.0 in
@@ -42,7 +37,6 @@ returns-in-Whole c =
 
 pub returns : goal.returns
 returns c =
-    
     let a = c.args in
     let e1 = c.wide.ensures.0 in
     let e2 = c.wide-2.ensures.0 in

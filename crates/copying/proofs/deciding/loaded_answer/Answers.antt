@@ -1,6 +1,4 @@
 -- `copying::deciding::loaded_answer` meets its contract: a law for each answer.
-use borrow.Author.Tests.{not-true, not-false}
-use borrow.Author.Rules.{rules}
 use Rattle.basis.proofs.Tests.{told}
 use Rattle.copying.proofs.DecideCases.{loaded-broken, loaded-unnamed, loaded-small, loaded-done}
 use Rattle.copying.proofs.deciding.loaded_answer.Goals as goal

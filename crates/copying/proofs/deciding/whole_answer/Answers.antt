@@ -1,5 +1,4 @@
 -- `copying::deciding::whole_answer` meets its contract: a law for each answer.
-use borrow.Author.Rules.{rules}
 use Rattle.basis.proofs.Tests.{told}
 use Rattle.copying.proofs.DecideCases.{whole-unnamed, whole-small, whole-done}
 use Rattle.copying.proofs.deciding.whole_answer.Goals as goal

@@ -1,13 +1,9 @@
 -- `copying::tokens::are_named` meets its contract.
-use Prim.Native.Nat.{◌≤◌, ◌-◌}
-use mathlib.Core.Path.{◌≡◌, sym, ap, ◌∙◌}
-use mathlib.Core.Bool.{true}
+use mathlib.Core.Path.{sym, ap, ◌∙◌}
 use native.Mathlib.Omega.{arith}
-use borrow.Author.Tests.{not-true, not-false}
 use Rattle.basis.proofs.Tests.{told}
 use Rattle.space.specs.declared.Node.{Node}
 use Rattle.space.proofs.HeaderLaws.{bounds-nodes}
-use Rattle.agreement.specs.Whole.{every_below}
 use Rattle.carrying.specs.Recoding.{name_fits}
 use Rattle.sources.proofs.PassLaws.{pass-begin, pass_on}
 use Rattle.copying.proofs.TokenCases.{token_named, nodes-unnamed, nodes-named}
@@ -25,7 +21,6 @@ is_named-requires c = tt
 pub returns-then-not-is_named : goal.returns-then-not-is_named
 returns-then-not-is_named c =
     let l = c.loop-i in
-    
     nodes-unnamed c.args.space.now c.args.h l.i (omega arith)
     (ap (λ (y : Node). name_fits y.token) (sym c.node_in-y.ensures) ∙ told c.is_named.ensures (c.if-not-is_named.true))
 
@@ -37,8 +32,7 @@ loop-i-smaller c = omega arith
 
 pub loop-i-preserved : goal.loop-i-preserved
 loop-i-preserved c =
-    let l = c.loop-i in
-    (
+    let l = c.loop-i in (
       omega arith,
       pass_on (token_named c.args.space.now c.args.h) l.i l.invariant.1
           (ap (λ (y : Node). name_fits y.token) (sym c.node_in-y.ensures) ∙ told c.is_named.ensures (c.if-not-is_named.false)),
@@ -47,5 +41,4 @@ loop-i-preserved c =
 pub returns : goal.returns
 returns c =
     let l = c.loop-i in
-    
     nodes-named c.args.space.now c.args.h l.i l.invariant.0 (omega arith) l.invariant.1

@@ -1,10 +1,9 @@
 -- `copying::tokens::recode` meets its contract.
-use Prim.Native.Nat.{◌≤◌, ◌-◌}
-use mathlib.Core.Path.{◌≡◌, refl, ap, ◌∙◌}
-use lib.ListN.{length, length-set}
+use mathlib.Core.Path.{refl, ap, ◌∙◌}
+use lib.ListN.{length-set}
 use native.Mathlib.Omega.{arith}
 use Rattle.carrying.specs.Recoding.{wider, name_fits}
-use Rattle.copying.proofs.TokenCases.{Turned, turned-begin, turned-at, turned_on, turned-ended, taken_at}
+use Rattle.copying.proofs.TokenCases.{turned-begin, turned-at, turned_on, turned-ended, taken_at}
 use Rattle.copying.proofs.tokens.recode.Goals as goal
 
 pub loop-i-init : goal.loop-i-init
@@ -35,8 +34,7 @@ loop-i-smaller c = omega arith
 
 pub loop-i-preserved : goal.loop-i-preserved
 loop-i-preserved c =
-    let l = c.loop-i in
-    (
+    let l = c.loop-i in (
       l.invariant.0,
       omega arith,
       turned_on c.args.form.now l.form l.i _ (omega arith)

@@ -1,9 +1,7 @@
 use Prim.Native.Nat.{◌≤◌, ◌-◌}
-use mathlib.Core.Path.{◌≡◌, refl, ap, ◌∙◌}
-use lib.ListN.{length, length-set}
-use native.Mathlib.Omega.{arith}
-use Rattle.carrying.specs.Recoding.{wider, name_fits}
-use Rattle.copying.proofs.TokenCases.{Turned, turned-begin, turned-at, turned_on, turned-ended, taken_at}
+use mathlib.Core.Path.{◌≡◌}
+use lib.ListN.{length}
+use Rattle.copying.proofs.TokenCases.{Turned}
 use Rattle.copying.proofs.tokens.recode.Given as goal
 
 abbrev pub invariant-loop-i : goal.invariant-loop-i

@@ -1,5 +1,4 @@
 -- `copying::tokens::widened` meets its contract, one case to each side of its test.
-use borrow.Author.Rules.{rules}
 use native.Mathlib.Omega.{arith}
 use mathlib.Core.Path.{sym}
 use Rattle.carrying.proofs.RecodingLaws.{named_small, wider-functor, wider-other}

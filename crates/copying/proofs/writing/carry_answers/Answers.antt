@@ -1,10 +1,7 @@
 -- `copying::writing::carry_answers` meets its contract.
-use Prim.Native.Nat.{◌≤◌, ◌-◌}
-use mathlib.Core.Path.{◌≡◌, refl}
+use mathlib.Core.Path.{refl}
 use native.Mathlib.Omega.{arith}
-use lib.ListN.{length}
 use Rattle.space.proofs.HeaderLaws.{bounds-nodes}
-use Rattle.copying.specs.Clauses.{with_answers}
 use Rattle.copying.proofs.GiveCases.{answers-none, answers-ended, own-used, answer-ready, answers_next}
 use Rattle.copying.proofs.writing.carry_answers.Goals as goal
 
@@ -20,14 +17,12 @@ answer_in-y-requires c = (c.requires.0, omega arith, omega arith)
 pub subgoal_in-g-requires : goal.subgoal_in-g-requires
 subgoal_in-g-requires c =
     let l = c.loop-i in
-    
     let u = own-used c.args.source.now c.args.h c.args.target.now l.target l.i _ c.answer_in-y.ensures (c.requires.1 l.i (omega arith)) in
     (c.requires.0, u.0, u.1)
 
 pub carry_answer-requires : goal.carry_answer-requires
 carry_answer-requires c =
     let l = c.loop-i in
-    
     let r = answer-ready c.args.source.now c.args.h c.args.target.now l.target l.i _ c.answer_in-y.ensures _
     c.subgoal_in-g.ensures (c.requires.1 l.i (omega arith)) l.invariant.1 in
     record { ends = ((bounds-nodes _ _ c.requires.0, r.0), r.1); target_value = (r.2, r.3) }
@@ -40,10 +35,7 @@ loop-i-smaller c = omega arith
 
 pub loop-i-preserved : goal.loop-i-preserved
 loop-i-preserved c =
-    
-    
-    let l = c.loop-i in
-    (
+    let l = c.loop-i in (
       omega arith,
       answers_next c.args.source.now c.args.h c.args.target.now l.target l.i _ c.answer_in-y.ensures _ c.subgoal_in-g.ensures _ l.invariant.1
           c.carry_answer.ensures,
@@ -56,5 +48,4 @@ shape_of-target c = c.loop-i.invariant.2
 pub returns : goal.returns
 returns c =
     let l = c.loop-i in
-    
     answers-ended c.args.source.now c.args.h c.args.target.now l.target l.i l.invariant.0 (omega arith) l.invariant.1

@@ -1,10 +1,7 @@
 use Prim.Native.Nat.{◌≤◌, ◌-◌}
-use mathlib.Core.Path.{◌≡◌, refl}
-use native.Mathlib.Omega.{arith}
+use mathlib.Core.Path.{◌≡◌}
 use lib.ListN.{length}
-use Rattle.space.proofs.HeaderLaws.{bounds-nodes}
 use Rattle.copying.specs.Clauses.{with_answers}
-use Rattle.copying.proofs.GiveCases.{answers-none, answers-ended, own-used, answer-ready, answers_next}
 use Rattle.copying.proofs.writing.carry_answers.Given as goal
 
 abbrev pub invariant-loop-i : goal.invariant-loop-i

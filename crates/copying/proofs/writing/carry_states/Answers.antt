@@ -1,9 +1,7 @@
 -- `copying::writing::carry_states` meets its contract.
-use Prim.Native.Nat.{◌≤◌, ◌<◌, ◌-◌}
-use mathlib.Core.Path.{◌≡◌, refl, sym}
+use Prim.Native.Nat.{◌<◌}
+use mathlib.Core.Path.{refl, sym}
 use native.Mathlib.Omega.{arith}
-use lib.ListN.{length}
-use Rattle.copying.specs.Clauses.{with_states}
 use Rattle.copying.proofs.StateCases.{states-none, states-ended, state-room, record-bounds, states-next}
 use Rattle.copying.proofs.writing.carry_states.Goals as goal
 
@@ -21,14 +19,12 @@ overflow_add-i-in-loop-i c = omega (arith, c.requires.0)
 
 pub overflow_cast-g : goal.overflow_cast-g
 overflow_cast-g c =
-    
     let l = c.loop-i in
     let low : l.i < c.args.h.subgoals = omega arith in
     omega (arith, c.requires.0, record-bounds _ _ _ _ c.requires.1 l.i low _ c.subgoal_in-g.ensures)
 
 pub write_state-requires : goal.write_state-requires
 write_state-requires c =
-    
     let l = c.loop-i in
     let low : l.i < c.args.h.subgoals = omega arith in
     state-room _ _ _ _ c.requires.1 l.i low l.target l.invariant.2
@@ -41,10 +37,8 @@ loop-i-smaller c = omega arith
 
 pub loop-i-preserved : goal.loop-i-preserved
 loop-i-preserved c =
-    
     let l = c.loop-i in
-    let low : l.i < c.args.h.subgoals = omega arith in
-    (
+    let low : l.i < c.args.h.subgoals = omega arith in (
       omega arith,
       states-next _ _ _ _ c.requires.1 l.i low _ c.subgoal_in-g.ensures c.args.target.now l.target _ l.invariant.1 c.write_state.ensures,
       omega (arith, c.write_state.auto, l.invariant.2),

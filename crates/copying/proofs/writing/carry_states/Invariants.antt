@@ -1,9 +1,7 @@
-use Prim.Native.Nat.{◌≤◌, ◌<◌, ◌-◌}
-use mathlib.Core.Path.{◌≡◌, refl, sym}
-use native.Mathlib.Omega.{arith}
+use Prim.Native.Nat.{◌≤◌, ◌-◌}
+use mathlib.Core.Path.{◌≡◌}
 use lib.ListN.{length}
 use Rattle.copying.specs.Clauses.{with_states}
-use Rattle.copying.proofs.StateCases.{states-none, states-ended, state-room, record-bounds, states-next}
 use Rattle.copying.proofs.writing.carry_states.Given as goal
 
 abbrev pub invariant-loop-i : goal.invariant-loop-i

@@ -1,9 +1,6 @@
 -- `copying::writing::carry_subgoals` meets its contract.
-use Prim.Native.Nat.{◌≤◌, ◌-◌}
-use mathlib.Core.Path.{◌≡◌, refl}
+use mathlib.Core.Path.{refl}
 use native.Mathlib.Omega.{arith}
-use lib.ListN.{length}
-use Rattle.copying.specs.Clauses.{with_first}
 use Rattle.copying.proofs.GiveCases.{first-none, ready_at, first_next, first_ended}
 use Rattle.space.proofs.HeaderLaws.{bounds-nodes}
 use Rattle.copying.proofs.writing.carry_subgoals.Goals as goal
@@ -20,7 +17,6 @@ subgoal_in-g-requires c = (c.requires.0, omega arith, omega arith)
 pub carry_subgoal-requires : goal.carry_subgoal-requires
 carry_subgoal-requires c =
     let l = c.loop-i in
-    
     let r = ready_at c.args.source.now c.args.h c.args.target.now l.target l.i _ c.subgoal_in-g.ensures (c.requires.1 l.i (omega arith)) l.invariant.1 in
     record { ends = ((bounds-nodes _ _ c.requires.0, r.0), r.1); target_value = (r.2, r.3) }
 
@@ -32,9 +28,7 @@ loop-i-smaller c = omega arith
 
 pub loop-i-preserved : goal.loop-i-preserved
 loop-i-preserved c =
-    
-    let l = c.loop-i in
-    (
+    let l = c.loop-i in (
       omega arith,
       first_next c.args.source.now c.args.h c.args.target.now l.target l.i _ c.subgoal_in-g.ensures _ l.invariant.1 c.carry_subgoal.ensures,
       omega (arith, c.carry_subgoal.auto, l.invariant.2),
@@ -46,5 +40,4 @@ shape_of-target c = c.loop-i.invariant.2
 pub returns : goal.returns
 returns c =
     let l = c.loop-i in
-    
     first_ended c.args.source.now c.args.h c.args.target.now l.target l.i l.invariant.0 (omega arith) l.invariant.1

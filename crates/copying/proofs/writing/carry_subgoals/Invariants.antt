@@ -1,10 +1,7 @@
 use Prim.Native.Nat.{◌≤◌, ◌-◌}
-use mathlib.Core.Path.{◌≡◌, refl}
-use native.Mathlib.Omega.{arith}
+use mathlib.Core.Path.{◌≡◌}
 use lib.ListN.{length}
 use Rattle.copying.specs.Clauses.{with_first}
-use Rattle.copying.proofs.GiveCases.{first-none, ready_at, first_next, first_ended}
-use Rattle.space.proofs.HeaderLaws.{bounds-nodes}
 use Rattle.copying.proofs.writing.carry_subgoals.Given as goal
 
 abbrev pub invariant-loop-i : goal.invariant-loop-i

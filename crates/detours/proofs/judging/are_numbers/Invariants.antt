@@ -1,10 +1,7 @@
-use Prim.Native.Nat.{ℕ, suc, ◌+◌, ◌-◌, ◌≤◌}
-use mathlib.Core.Path.{◌≡◌, refl, sym, ap, ◌∙◌}
-use native.Mathlib.Omega.{arith}
-use borrow.Author.Rules.{rules}
+use Prim.Native.Nat.{◌-◌, ◌≤◌}
+use mathlib.Core.Path.{◌≡◌}
 use lib.ListN.{length, drop}
 use Rattle.plain.specs.Detours.{all_within}
-use Rattle.detours.proofs.GoalCases.{within-zero, within-above, within_on, within-ended}
 use Rattle.detours.proofs.judging.are_numbers.Given as goal
 
 abbrev pub invariant-loop-i : goal.invariant-loop-i

@@ -8,29 +8,25 @@ use Rattle.detours.proofs.judging.judge_answer.Goals as goal
 
 pub returns-in_default : goal.returns-in_default
 returns-in_default c =
-    
     answer-damaged c.args.space.now c.args.h c.args.s c.args.a (λ e. omega (arith, c.requires.1))
     (told c.in_default.is c.read_answer.ensures)
 
 pub returns-then-y-s : goal.returns-then-y-s
 returns-then-y-s c =
-    
     answer-other c.args.space.now c.args.h c.args.s c.args.a (λ e. omega (arith, c.requires.1))
     c.in-Sound.y
     (told c.in-Sound.is c.read_answer.ensures) (search rules)
 
 pub judge_path-judged-requires : goal.judge_path-judged-requires
-judge_path-judged-requires c =
-    (
-      bounds-nodes _ _ c.requires.0.0,
-      answer-leaf c.args.space.now c.args.h c.args.s c.args.a (λ e. omega (arith, c.requires.1))
-          c.in-Sound.y
-          (told c.in-Sound.is c.read_answer.ensures),
-    )
+judge_path-judged-requires c = (
+  bounds-nodes _ _ c.requires.0.0,
+  answer-leaf c.args.space.now c.args.h c.args.s c.args.a (λ e. omega (arith, c.requires.1))
+      c.in-Sound.y
+      (told c.in-Sound.is c.read_answer.ensures),
+)
 
 pub returns-in-Damaged : goal.returns-in-Damaged
 returns-in-Damaged c =
-    
     answer-severed c.args.space.now c.args.h c.args.s c.args.a (λ e. omega (arith, c.requires.1))
     c.in-Sound.y (told c.in-Sound.is
     c.read_answer.ensures) (search rules) c.args.g c.requires.0.3
@@ -38,7 +34,6 @@ returns-in-Damaged c =
 
 pub returns-in-Fit : goal.returns-in-Fit
 returns-in-Fit c =
-    
     answer-held c.args.space.now c.args.h c.args.s c.args.a (λ e. omega (arith, c.requires.1))
     c.in-Sound.y (told c.in-Sound.is
     c.read_answer.ensures) (search rules) c.args.g c.requires.0.3 _
@@ -46,7 +41,6 @@ returns-in-Fit c =
 
 pub returns-in-Unfit : goal.returns-in-Unfit
 returns-in-Unfit c =
-    
     answer-held c.args.space.now c.args.h c.args.s c.args.a (λ e. omega (arith, c.requires.1))
     c.in-Sound.y (told c.in-Sound.is
     c.read_answer.ensures) (search rules) c.args.g c.requires.0.3 _

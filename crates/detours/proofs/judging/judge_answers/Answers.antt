@@ -1,6 +1,6 @@
 -- `detours::judging::judge_answers` meets its contract.
-use Rattle.store.proofs.ChainMeasure.{ahead, ahead-less}
-use Rattle.detours.proofs.JudgeCases.{Passed, passed-begin, passed-ended, passed-severed, passed_on}
+use Rattle.store.proofs.ChainMeasure.{ahead-less}
+use Rattle.detours.proofs.JudgeCases.{passed-begin, passed-ended, passed-severed, passed_on}
 use Rattle.detours.specs.Judging.{AnswerJudged}
 use Rattle.detours.specs.declared.Member.TheVariants as member
 use mathlib.Core.Path.{refl}
@@ -26,22 +26,18 @@ loop-a-preserved c =
     let sound_here : AnswerJudged c.args.space.now
     c.args.h c.args.s
     c.loop-a.a (member.Sound c.in-Sound.next c.in-Sound.fits) = rw c.in-Sound.is at c.judge_answer-member.ensures in
-    
     passed_on c.args.space.now c.args.h c.args.s c.loop-a.invariant (search rules) _
     _ _ (sound_here) c.both-fit.ensures
 
 pub returns-in-Damaged : goal.returns-in-Damaged
 returns-in-Damaged c =
-    
     passed-severed c.args.space.now c.args.h c.args.s c.loop-a.invariant (search rules)
     (rw c.in-Damaged.is at c.judge_answer-member.ensures)
 
 pub returns-then-fit : goal.returns-then-fit
 returns-then-fit c =
-    
     passed-ended c.args.space.now c.args.h c.args.s (rw c.if-fit.true at c.loop-a.invariant) (search rules)
 
 pub returns : goal.returns
 returns c =
-    
     passed-ended c.args.space.now c.args.h c.args.s (rw c.if-fit.false at c.loop-a.invariant) (search rules)

@@ -1,10 +1,5 @@
-use Rattle.store.proofs.ChainMeasure.{ahead, ahead-less}
-use Rattle.detours.proofs.JudgeCases.{Passed, passed-begin, passed-ended, passed-severed, passed_on}
-use Rattle.detours.specs.Judging.{AnswerJudged}
-use Rattle.detours.specs.declared.Member.TheVariants as member
-use mathlib.Core.Path.{refl}
-use native.Mathlib.Omega.{arith}
-use borrow.Author.Rules.{rules}
+use Rattle.store.proofs.ChainMeasure.{ahead}
+use Rattle.detours.proofs.JudgeCases.{Passed}
 use Rattle.detours.proofs.judging.judge_answers.Given as goal
 
 abbrev pub invariant-loop-a : goal.invariant-loop-a

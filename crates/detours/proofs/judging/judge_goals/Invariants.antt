@@ -1,10 +1,6 @@
-use Prim.Native.Nat.{◌+◌, ◌-◌}
-use mathlib.Core.Path.{◌≡◌, refl, sym, ap, ◌∙◌}
-use native.Mathlib.Omega.{arith}
-use borrow.Author.Rules.{rules}
-use lib.ListN.{length, get_or}
-use Rattle.detours.specs.declared.GoalJudged.TheVariants as goal_judged
-use Rattle.detours.proofs.GoalCases.{Judging, within-each, told-goal, judging-begun, judging-damaged, judging-on, judging-ended}
+use Prim.Native.Nat.{◌-◌}
+use lib.ListN.{length}
+use Rattle.detours.proofs.GoalCases.{Judging}
 use Rattle.detours.proofs.judging.judge_goals.Given as goal
 
 abbrev pub invariant-loop-i : goal.invariant-loop-i

@@ -7,18 +7,15 @@ use Rattle.detours.proofs.judging.judge_path.Goals as goal
 
 pub returns-then-is_fit : goal.returns-then-is_fit
 returns-then-is_fit c =
-    
     path-fit c.args.edition c.args.m (path_to c.args.space.now c.args.end)
     (told c.if-is_fit.true c.is_fit.ensures)
 
 pub returns-then-path_worth-eq0 : goal.returns-then-path_worth-eq0
 returns-then-path_worth-eq0 c =
-    
     path-severed c.args.edition c.args.m (path_to c.args.space.now c.args.end) _ c.path_worth.ensures
     (search rules)
 
 pub returns : goal.returns
 returns c =
-    
     path-unfit c.args.edition c.args.m (path_to c.args.space.now c.args.end) _ c.path_worth.ensures
     (search rules) (told c.if-is_fit.false c.is_fit.ensures)

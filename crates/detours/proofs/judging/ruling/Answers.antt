@@ -13,11 +13,9 @@ returns-then-n-gt-MOST_GOALS c = ruled-many c.args.opened c.args.fit c.args.n c.
 
 pub returns-then-fit : goal.returns-then-fit
 returns-then-fit c =
-    
     ruled-fit c.args.opened c.args.fit c.args.n c.if-opened.false c.if-n-eq0.false
     c.if-n-gt-MOST_GOALS.false c.if-fit.true
 
 pub returns : goal.returns
 returns c =
-    
     ruled-unfit c.args.opened c.args.fit c.args.n c.if-opened.false c.if-fit.false

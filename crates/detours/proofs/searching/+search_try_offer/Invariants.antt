@@ -1,17 +1,7 @@
 use Prim.Native.Nat.{suc, ◌+◌, ◌-◌, ◌*◌}
-use mathlib.Core.Path.{◌≡◌, refl, sym, ap, ◌∙◌}
-use native.Mathlib.Omega.{arith}
-use borrow.Author.Rules.{rules}
-use borrow.Author.Tests.{not-true, not-false}
-use lib.ListN.{length, get_or, length-set}
-use Rattle.basis.proofs.Tests.{told}
-use Rattle.space.specs.Sound.{subgoal_under}
-use Rattle.detours.specs.declared.Offer.{Offer}
-use Rattle.space.proofs.HeaderLaws.{bounds-nodes}
-use Rattle.store.proofs.ChainMeasure.{ahead, ahead-less}
-use Rattle.detours.proofs.SearchCases.{searchable-kept, searchable-next, look-stopped, look-taken, look-last, look-deeper, put-size}
-use Rattle.detours.proofs.GoalSteps.{Trying, trying-begun, trying-ended, trying-stopped, trying-on, stop}
-use Prim.Native.Nat.{ℕ, ◌<◌}
+use lib.ListN.{length}
+use Rattle.store.proofs.ChainMeasure.{ahead}
+use Rattle.detours.proofs.GoalSteps.{Trying}
 use Rattle.detours.proofs.searching.+search_try_offer.Given as goal
 
 abbrev pub decreases-search : goal.decreases-search

@@ -1,9 +1,8 @@
 -- `detours::searching::copy_numbers` meets its contract.
-use Prim.Native.Nat.{ℕ, suc, ◌+◌, ◌≤◌, ◌<◌, ◌-◌}
+use Prim.Native.Nat.{ℕ, suc, ◌+◌, ◌≤◌, ◌<◌}
 use mathlib.Core.Path.{◌≡◌}
 use native.Mathlib.Omega.{arith}
 use borrow.Author.Rules.{rules}
-use Rattle.detours.specs.Searching.{Copied}
 use Rattle.detours.proofs.WorkLaws.{copied_none, copied_more}
 use Rattle.detours.proofs.searching.copy_numbers.Goals as goal
 
@@ -41,12 +40,11 @@ pub loop-i-smaller : goal.loop-i-smaller
 loop-i-smaller c = omega arith
 
 pub loop-i-preserved : goal.loop-i-preserved
-loop-i-preserved c =
-    (
-      omega arith,
-      rw (add-one c.loop-i.i)
-          (copied_more c.args.work.now c.loop-i.work c.loop-i.i (omega arith) (search rules) c.loop-i.invariant.1),
-    )
+loop-i-preserved c = (
+  omega arith,
+  rw (add-one c.loop-i.i)
+      (copied_more c.args.work.now c.loop-i.work c.loop-i.i (omega arith) (search rules) c.loop-i.invariant.1),
+)
 
 pub returns : goal.returns
 returns c = rw (ends _ _ (search rules) c.loop-i.invariant.0) c.loop-i.invariant.1

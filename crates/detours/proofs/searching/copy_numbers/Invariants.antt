@@ -1,9 +1,5 @@
-use Prim.Native.Nat.{ℕ, suc, ◌+◌, ◌≤◌, ◌<◌, ◌-◌}
-use mathlib.Core.Path.{◌≡◌}
-use native.Mathlib.Omega.{arith}
-use borrow.Author.Rules.{rules}
+use Prim.Native.Nat.{◌≤◌, ◌-◌}
 use Rattle.detours.specs.Searching.{Copied}
-use Rattle.detours.proofs.WorkLaws.{copied_none, copied_more}
 use Rattle.detours.proofs.searching.copy_numbers.Given as goal
 
 abbrev pub invariant-loop-i : goal.invariant-loop-i

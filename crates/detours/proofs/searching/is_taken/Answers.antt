@@ -1,9 +1,7 @@
 -- `detours::searching::is_taken` meets its contract.
-use Prim.Native.Nat.{◌≤◌}
-use mathlib.Core.Path.{◌≡◌, refl}
+use mathlib.Core.Path.{refl}
 use native.Mathlib.Omega.{arith}
 use borrow.Author.Rules.{rules}
-use Rattle.detours.specs.Searching.{among, diverters_in}
 use Rattle.detours.proofs.WorkLaws.{among-found, among-lower, among-ended}
 use Rattle.detours.proofs.searching.is_taken.Goals as goal
 
@@ -30,7 +28,6 @@ loop-i-smaller c = omega arith
 
 pub loop-i-preserved : goal.loop-i-preserved
 loop-i-preserved c =
-    
     (omega arith, among-lower _ c.args.work.now _ c.loop-i.i (search rules) c.loop-i.invariant.1 (search rules))
 
 pub returns : goal.returns

@@ -1,9 +1,6 @@
 use Prim.Native.Nat.{◌≤◌}
-use mathlib.Core.Path.{◌≡◌, refl}
-use native.Mathlib.Omega.{arith}
-use borrow.Author.Rules.{rules}
+use mathlib.Core.Path.{◌≡◌}
 use Rattle.detours.specs.Searching.{among, diverters_in}
-use Rattle.detours.proofs.WorkLaws.{among-found, among-lower, among-ended}
 use Rattle.detours.proofs.searching.is_taken.Given as goal
 
 abbrev pub invariant-loop-i : goal.invariant-loop-i

@@ -6,7 +6,6 @@ use Rattle.detours.proofs.searching.keep.Goals as goal
 
 pub returns-then-total-work : goal.returns-then-total-work
 returns-then-total-work c =
-    
     kept c.args.work.now _ _ c.requires.0 c.requires.1 c.requires.2 _ (search rules) c.copy_numbers.ensures
 
 pub returns-else-total-work : goal.returns-else-total-work

@@ -1,6 +1,5 @@
 -- `detours::searching::offer_in` meets its contract.
 use mathlib.Core.Path.{refl}
-use borrow.Author.Rules.{rules}
 use Rattle.detours.proofs.searching.offer_in.Goals as goal
 
 pub node_in-first-requires : goal.node_in-first-requires

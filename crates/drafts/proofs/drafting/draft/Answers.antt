@@ -1,8 +1,6 @@
 -- `drafts::drafting::draft` meets its contract.
 use native.Mathlib.Omega.{arith}
-use Prim.Native.Nat.{◌-◌, ◌≤◌}
-use lib.ListN.{length}
-use Rattle.drafts.proofs.DraftCases.{Drafting, drafting-begun, drafting-reachable, drafting-on, drafting-full, mark-node, drafting-done}
+use Rattle.drafts.proofs.DraftCases.{drafting-begun, drafting-reachable, drafting-on, drafting-full, mark-node, drafting-done}
 use borrow.Author.Rules.{rules}
 use Rattle.drafts.proofs.drafting.draft.Goals as goal
 

@@ -1,6 +1,5 @@
 -- `drafts::entries::place` meets its contract.
 use Rattle.drafts.proofs.EntryCases.{place-room, place-done}
-use borrow.Author.Rules.{rules}
 use Rattle.drafts.proofs.entries.place.Goals as goal
 
 pub write_node-requires : goal.write_node-requires

@@ -1,10 +1,6 @@
-use native.Mathlib.Omega.{arith}
-use Rattle.basis.proofs.Tests.{told}
 use Rattle.space.specs.Layout.{sizes, node_in}
 use Rattle.drafts.specs.Entries.{Seekable}
 use Rattle.drafts.proofs.EntryLaws.{Seeking}
-use Rattle.drafts.proofs.EntryCases.{seek-begun, seek-none, seek_found, seek-on, seek-less}
-use borrow.Author.Rules.{rules}
 use Rattle.drafts.proofs.entries.seek.Given as goal
 
 abbrev pub invariant-loop-n : goal.invariant-loop-n

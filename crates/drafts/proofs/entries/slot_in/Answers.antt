@@ -1,6 +1,5 @@
 -- `drafts::entries::slot_in` meets its contract.
 use Rattle.drafts.proofs.EntryCases.{slot_is}
-use borrow.Author.Rules.{rules}
 use Rattle.drafts.proofs.entries.slot_in.Goals as goal
 
 pub returns : goal.returns

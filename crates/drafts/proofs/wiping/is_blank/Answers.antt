@@ -1,10 +1,8 @@
 -- `drafts::wiping::is_blank` meets its contract.
 use native.Mathlib.Omega.{arith}
-use Prim.Native.Nat.{◌-◌, ◌≤◌}
 use mathlib.Core.Path.{◌≡◌}
-use lib.ListN.{length}
 use Prim.Native.Nat.{ℕ}
-use Rattle.drafts.proofs.WipeCases.{Zeros, zeros-none, zeros-more, blank-all}
+use Rattle.drafts.proofs.WipeCases.{zeros-none, zeros-more, blank-all}
 use borrow.Author.Rules.{rules}
 use Rattle.drafts.proofs.wiping.is_blank.Goals as goal
 

@@ -1,10 +1,6 @@
-use native.Mathlib.Omega.{arith}
 use Prim.Native.Nat.{◌-◌, ◌≤◌}
-use mathlib.Core.Path.{◌≡◌}
 use lib.ListN.{length}
-use Prim.Native.Nat.{ℕ}
-use Rattle.drafts.proofs.WipeCases.{Zeros, zeros-none, zeros-more, blank-all}
-use borrow.Author.Rules.{rules}
+use Rattle.drafts.proofs.WipeCases.{Zeros}
 use Rattle.drafts.proofs.wiping.is_blank.Given as goal
 
 abbrev pub invariant-loop-i : goal.invariant-loop-i

@@ -1,10 +1,7 @@
 -- `drafts::wiping::wipe` meets its contract.
 use native.Mathlib.Omega.{arith}
-use Prim.Native.Nat.{◌-◌, ◌≤◌}
-use lib.ListN.{length}
-use Rattle.agreement.proofs.CellRecords.{Kept}
 use Rattle.drafts.proofs.DraftLaws.{kept_same}
-use Rattle.drafts.proofs.WipeCases.{Zeros, zeros-none, wipe_on, wiped-all}
+use Rattle.drafts.proofs.WipeCases.{zeros-none, wipe_on, wiped-all}
 use borrow.Author.Rules.{rules}
 use Rattle.drafts.proofs.wiping.wipe.Goals as goal
 

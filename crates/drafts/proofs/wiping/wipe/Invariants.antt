@@ -1,10 +1,7 @@
-use native.Mathlib.Omega.{arith}
 use Prim.Native.Nat.{◌-◌, ◌≤◌}
 use lib.ListN.{length}
 use Rattle.agreement.proofs.CellRecords.{Kept}
-use Rattle.drafts.proofs.DraftLaws.{kept_same}
-use Rattle.drafts.proofs.WipeCases.{Zeros, zeros-none, wipe_on, wiped-all}
-use borrow.Author.Rules.{rules}
+use Rattle.drafts.proofs.WipeCases.{Zeros}
 use Rattle.drafts.proofs.wiping.wipe.Given as goal
 
 abbrev pub invariant-loop-i : goal.invariant-loop-i

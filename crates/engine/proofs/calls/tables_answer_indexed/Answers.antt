@@ -1,7 +1,6 @@
 -- `engine::calls::tables_answer_indexed` meets its contract: the word of what `answer_indexed` gives.
 use Rattle.words.proofs.WordLaws.{given-bounded}
 use Rattle.words.proofs.ReplyBounds.{step-bounded}
-use borrow.Author.Rules.{rules}
 use Rattle.engine.proofs.calls.tables_answer_indexed.Goals as goal
 
 pub answer_word-requires : goal.answer_word-requires

@@ -2,7 +2,6 @@
 use mathlib.Core.Path.{ap, ◌∙◌}
 use Rattle.words.specs.Words.{word_build}
 use Rattle.words.proofs.BuildBounds.{build-bounded, reply-bounded}
-use borrow.Author.Rules.{rules}
 use Rattle.engine.proofs.calls.tables_build.Goals as goal
 
 pub build_word-requires : goal.build_word-requires

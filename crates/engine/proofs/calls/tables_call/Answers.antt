@@ -1,7 +1,6 @@
 -- `engine::calls::tables_call` meets its contract: the word of what `call` gives.
 use Rattle.words.proofs.WordLaws.{given-bounded}
 use Rattle.words.proofs.ReplyBounds.{step-bounded}
-use borrow.Author.Rules.{rules}
 use Rattle.engine.proofs.calls.tables_call.Goals as goal
 
 pub call_word-requires : goal.call_word-requires

@@ -1,7 +1,6 @@
 -- `engine::calls::tables_call_indexed` meets its contract: the word of what `call_indexed` gives.
 use Rattle.words.proofs.WordLaws.{given-bounded}
 use Rattle.words.proofs.ReplyBounds.{step-bounded}
-use borrow.Author.Rules.{rules}
 use Rattle.engine.proofs.calls.tables_call_indexed.Goals as goal
 
 pub call_word-requires : goal.call_word-requires

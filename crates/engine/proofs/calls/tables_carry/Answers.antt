@@ -3,7 +3,6 @@ use mathlib.Core.Path.{ap}
 use Rattle.words.specs.Words.{said_fresh}
 use Rattle.words.proofs.WordLaws.{given_word, given-bounded}
 use Rattle.words.proofs.CarryBounds.{carry-bounded}
-use borrow.Author.Rules.{rules}
 use Rattle.engine.proofs.calls.tables_carry.Goals as goal
 
 pub fresh_word-requires : goal.fresh_word-requires

@@ -2,7 +2,6 @@
 use mathlib.Core.Path.{ap, ◌∙◌}
 use Rattle.words.specs.Words.{word_check}
 use Rattle.words.proofs.FaultBounds.{fault-bounded, given-bounded}
-use borrow.Author.Rules.{rules}
 use Rattle.engine.proofs.calls.tables_check.Goals as goal
 
 pub check_word-requires : goal.check_word-requires

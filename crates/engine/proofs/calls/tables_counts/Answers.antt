@@ -9,7 +9,6 @@ use Rattle.words.specs.Words.{word, counts_of}
 use Rattle.words.proofs.ReplyBounds.{step-bounded}
 use Rattle.words.proofs.WordLaws.{given-bounded, counts-refused, counts-short, counts-given}
 use Rattle.engine.proofs.CountsLaw.{counts-returns}
-use borrow.Author.Rules.{rules}
 use Rattle.engine.proofs.calls.tables_counts.Goals as goal
 
 pub returns-then-out-lt3 : goal.returns-then-out-lt3

@@ -1,7 +1,6 @@
 -- `engine::calls::tables_finish` meets its contract: the word of what `finish` gives.
 use Rattle.words.proofs.WordLaws.{given-bounded}
 use Rattle.words.proofs.ReplyBounds.{step-bounded}
-use borrow.Author.Rules.{rules}
 use Rattle.engine.proofs.calls.tables_finish.Goals as goal
 
 pub finish_word-requires : goal.finish_word-requires

@@ -1,7 +1,6 @@
 -- `engine::calls::tables_join` meets its contract: the word of what `join` gives.
 use Rattle.words.proofs.WordLaws.{given-bounded}
 use Rattle.words.proofs.ReplyBounds.{step-bounded}
-use borrow.Author.Rules.{rules}
 use Rattle.engine.proofs.calls.tables_join.Goals as goal
 
 pub join_word-requires : goal.join_word-requires

@@ -1,7 +1,6 @@
 -- `engine::calls::tables_load` meets its contract: the word of what `load` gives.
 use Rattle.words.proofs.WordLaws.{given-bounded}
 use Rattle.words.proofs.ReplyBounds.{step-bounded}
-use borrow.Author.Rules.{rules}
 use Rattle.engine.proofs.calls.tables_load.Goals as goal
 
 pub cells_word-requires : goal.cells_word-requires

@@ -1,7 +1,6 @@
 -- `engine::calls::tables_next` meets its contract: the word of what `next` gives.
 use Rattle.words.proofs.WordLaws.{given-bounded}
 use Rattle.words.proofs.ReplyBounds.{step-bounded}
-use borrow.Author.Rules.{rules}
 use Rattle.engine.proofs.calls.tables_next.Goals as goal
 
 pub next_word-requires : goal.next_word-requires

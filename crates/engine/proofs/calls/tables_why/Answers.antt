@@ -1,7 +1,6 @@
 -- `engine::calls::tables_why` meets its contract: the word and the cells of what `why` gives.
 use Rattle.words.proofs.WordLaws.{given-bounded}
 use Rattle.words.proofs.ReplyBounds.{step-bounded}
-use borrow.Author.Rules.{rules}
 use Rattle.engine.proofs.calls.tables_why.Goals as goal
 
 pub give_reason-requires : goal.give_reason-requires

@@ -2,7 +2,6 @@
 use mathlib.Core.Path.{sym, ap, ◌∙◌}
 use Rattle.words.specs.Listings.{word_listing}
 use Rattle.words.proofs.ListingBounds.{first-bounded, listing-bounded, listing-left}
-use borrow.Author.Rules.{rules}
 use Rattle.engine.proofs.listings.tables_first_term.Goals as goal
 
 pub listing_word-requires : goal.listing_word-requires

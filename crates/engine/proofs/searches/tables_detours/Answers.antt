@@ -1,7 +1,6 @@
 -- `engine::searches::tables_detours` meets its contract: the word and the cells of what `detours` gives.
 use Rattle.words.proofs.WordLaws.{given-bounded}
 use Rattle.words.proofs.ReplyBounds.{step-bounded}
-use borrow.Author.Rules.{rules}
 use Rattle.engine.proofs.searches.tables_detours.Goals as goal
 
 pub detours_result-requires : goal.detours_result-requires

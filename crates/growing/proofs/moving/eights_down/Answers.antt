@@ -1,10 +1,7 @@
 -- `growing::moving::eights_down` meets its contract.
 use borrow.Author.Rules.{rules}
-use Prim.Native.Nat.{◌≤◌, ◌-◌}
-use mathlib.Core.Path.{◌≡◌, refl}
+use mathlib.Core.Path.{refl}
 use native.Mathlib.Omega.{arith}
-use lib.ListN.{length}
-use Rattle.growing.specs.Moving.{moved}
 use Rattle.growing.proofs.MovingLaws.{moved_none, down-more}
 use Rattle.growing.proofs.moving.eights_down.Goals as goal
 
@@ -31,7 +28,6 @@ loop-i-smaller c = omega arith
 
 pub loop-i-preserved : goal.loop-i-preserved
 loop-i-preserved c =
-    
     (omega arith, search rules, down-more _ _ _ 8 _ _ _ (omega arith) (omega arith) c.loop-i.invariant.2 c.move_eight.ensures)
 
 pub shape_of-space : goal.shape_of-space

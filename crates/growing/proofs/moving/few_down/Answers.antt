@@ -1,7 +1,6 @@
 -- `growing::moving::few_down` meets its contract.
 use native.Mathlib.Omega.{arith}
 use Rattle.growing.proofs.MovingLaws.{down-both}
-use borrow.Author.Rules.{rules}
 use Rattle.growing.proofs.moving.few_down.Goals as goal
 
 pub returns : goal.returns

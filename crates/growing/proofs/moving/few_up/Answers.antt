@@ -1,7 +1,6 @@
 -- `growing::moving::few_up` meets its contract.
 use native.Mathlib.Omega.{arith}
 use Rattle.growing.proofs.MovingLaws.{up-both}
-use borrow.Author.Rules.{rules}
 use Rattle.growing.proofs.moving.few_up.Goals as goal
 
 pub returns : goal.returns

@@ -1,9 +1,8 @@
 -- `growing::moving::load_run` meets its contract.
 use borrow.Author.Rules.{rules}
-use Prim.Native.Nat.{◌≤◌, ◌+◌, ◌-◌}
-use mathlib.Core.Path.{◌≡◌, refl}
+use mathlib.Core.Path.{refl}
 use native.Mathlib.Omega.{arith}
-use lib.ListN.{length, take, drop, length-set}
+use lib.ListN.{length-set}
 use Rattle.growing.proofs.MovingLaws.{loaded-more, loaded-full}
 use Rattle.growing.proofs.moving.load_run.Goals as goal
 

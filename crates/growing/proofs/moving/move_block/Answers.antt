@@ -1,7 +1,6 @@
 -- `growing::moving::move_block` meets its contract.
 use native.Mathlib.Omega.{arith}
 use Rattle.growing.proofs.MovingLaws.{block-still}
-use borrow.Author.Rules.{rules}
 use Rattle.growing.proofs.moving.move_block.Goals as goal
 
 pub returns-else-block-2 : goal.returns-else-block-2

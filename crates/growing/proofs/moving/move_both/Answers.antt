@@ -1,7 +1,6 @@
 -- `growing::moving::move_both` meets its contract.
 use native.Mathlib.Omega.{arith}
 use Rattle.growing.proofs.MovingLaws.{both-up, both-down}
-use borrow.Author.Rules.{rules}
 use Rattle.growing.proofs.moving.move_both.Goals as goal
 
 pub returns-then-b : goal.returns-then-b

@@ -1,5 +1,4 @@
 -- `growing::moving::move_run` meets its contract.
-use native.Mathlib.Omega.{arith}
 use Rattle.growing.proofs.MovingLaws.{run_length, moved-run}
 use borrow.Author.Rules.{rules}
 use Rattle.growing.proofs.moving.move_run.Goals as goal
@@ -10,5 +9,4 @@ store_run-requires c =
 
 pub returns : goal.returns
 returns c =
-    
     moved-run _ _ 256 _ _ _ c.requires.0 c.load_run.ensures c.store_run.ensures

@@ -1,9 +1,7 @@
-use Prim.Native.Nat.{◌≤◌, ◌+◌, ◌-◌}
-use mathlib.Core.Path.{◌≡◌, refl}
-use native.Mathlib.Omega.{arith}
-use lib.ListN.{length, length-set}
+use Prim.Native.Nat.{◌≤◌, ◌-◌}
+use mathlib.Core.Path.{◌≡◌}
+use lib.ListN.{length}
 use Rattle.growing.specs.Moving.{moved}
-use Rattle.growing.proofs.MovingLaws.{moved_none, moved-one, down-more, down-full}
 use Rattle.growing.proofs.moving.ones_down.Given as goal
 
 abbrev pub invariant-loop-i : goal.invariant-loop-i

@@ -1,9 +1,7 @@
 -- `growing::moving::ones_up` meets its contract.
-use Prim.Native.Nat.{◌≤◌, ◌+◌, ◌-◌}
-use mathlib.Core.Path.{◌≡◌, refl}
+use mathlib.Core.Path.{refl}
 use native.Mathlib.Omega.{arith}
-use lib.ListN.{length, length-set}
-use Rattle.growing.specs.Moving.{moved}
+use lib.ListN.{length-set}
 use Rattle.growing.proofs.MovingLaws.{moved-one, up_none, up_more, up-full}
 use Rattle.growing.proofs.moving.ones_up.Goals as goal
 
@@ -36,7 +34,6 @@ loop-i-smaller c = omega arith
 
 pub loop-i-preserved : goal.loop-i-preserved
 loop-i-preserved c =
-    
     (omega arith, simp length-set c.loop-i.invariant.1, up_more _ _ _ _ c.loop-i.i 1 _ c.loop-i.space _ (omega arith) (omega arith) (omega arith) (omega arith) c.loop-i.invariant.2 (moved-one _ _ _ (omega arith) (omega arith)))
 
 pub shape_of-space : goal.shape_of-space

@@ -1,10 +1,7 @@
-use borrow.Author.Rules.{rules}
 use Prim.Native.Nat.{◌≤◌, ◌+◌, ◌-◌}
-use mathlib.Core.Path.{◌≡◌, refl}
-use native.Mathlib.Omega.{arith}
+use mathlib.Core.Path.{◌≡◌}
 use lib.ListN.{length}
 use Rattle.growing.specs.Moving.{moved}
-use Rattle.growing.proofs.MovingLaws.{up_none, up_more}
 use Rattle.growing.proofs.moving.runs_up.Given as goal
 
 abbrev pub invariant-loop-i : goal.invariant-loop-i

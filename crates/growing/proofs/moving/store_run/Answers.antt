@@ -1,10 +1,8 @@
 -- `growing::moving::store_run` meets its contract.
-use borrow.Author.Rules.{rules}
-use Prim.Native.Nat.{◌≤◌, ◌+◌, ◌-◌}
-use mathlib.Core.Path.{◌≡◌, refl}
+use mathlib.Core.Path.{refl}
 use native.Mathlib.Omega.{arith}
-use lib.ListN.{length, length-set}
-use lib.Seq.{paste, paste-zero}
+use lib.ListN.{length-set}
+use lib.Seq.{paste-zero}
 use Rattle.growing.proofs.MovingLaws.{stored_more, stored-full}
 use Rattle.growing.proofs.moving.store_run.Goals as goal
 

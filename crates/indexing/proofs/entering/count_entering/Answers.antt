@@ -2,11 +2,7 @@
 use Rattle.indexing.proofs.EnterCases.{counted-begin, counted-one, counted_none, counted-ended, entering-most}
 use Rattle.indexing.specs.Parts.{tries_in}
 use Rattle.basis.proofs.Tests.{told}
-use Rattle.trie.specs.Index.{entering}
-use Prim.Native.Nat.{◌≤◌, ◌-◌}
-use mathlib.Core.Path.{◌≡◌, ◌∙◌}
-use mathlib.Core.Logic.{⊎_elim}
-use lib.ListN.{length}
+use mathlib.Core.Path.{◌∙◌}
 use native.Mathlib.Omega.{arith}
 use Rattle.indexing.proofs.entering.count_entering.Goals as goal
 use Rattle.indexing.proofs.entering.count_entering.Goals.{then-enters, else-enters}
@@ -27,9 +23,13 @@ pub loop-n-smaller : goal.loop-n-smaller
 loop-n-smaller c = omega arith
 
 pub loop-n-preserved : goal.loop-n-preserved
-loop-n-preserved c = (omega arith, elim c.if-enters.branch [
-    then-enters w ↦ w.count-is ∙ counted-one _ _ _ c.loop-n.invariant.1 (told c.enters.ensures w.if-enters.true)
-    | else-enters w ↦ w.count-is ∙ counted_none _ _ _ c.loop-n.invariant.1 (told c.enters.ensures w.if-enters.false) ])
+loop-n-preserved c = (
+  omega arith,
+  elim c.if-enters.branch [
+    | then-enters w ↦ w.count-is ∙ counted-one _ _ _ c.loop-n.invariant.1 (told c.enters.ensures w.if-enters.true)
+    | else-enters w ↦ w.count-is ∙ counted_none _ _ _ c.loop-n.invariant.1 (told c.enters.ensures w.if-enters.false)
+  ],
+)
 
 pub returns : goal.returns
 returns c = counted-ended _ _ _ c.loop-n.invariant.1 _ c.loop-n.invariant.0 (omega arith)

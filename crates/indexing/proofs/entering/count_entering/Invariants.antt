@@ -1,12 +1,8 @@
-use Rattle.indexing.proofs.EnterCases.{counted-begin, counted-one, counted_none, counted-ended, entering-most}
 use Rattle.indexing.specs.Parts.{tries_in}
-use Rattle.basis.proofs.Tests.{told}
 use Rattle.trie.specs.Index.{entering}
 use Prim.Native.Nat.{◌≤◌, ◌-◌}
-use mathlib.Core.Path.{◌≡◌, ◌∙◌}
-use mathlib.Core.Logic.{⊎_elim}
+use mathlib.Core.Path.{◌≡◌}
 use lib.ListN.{length}
-use native.Mathlib.Omega.{arith}
 use Rattle.indexing.proofs.entering.count_entering.Given as goal
 
 abbrev pub invariant-loop-n : goal.invariant-loop-n

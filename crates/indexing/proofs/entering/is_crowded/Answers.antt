@@ -1,9 +1,7 @@
 -- `indexing::entering::is_crowded` meets its contract.
 use Rattle.indexing.proofs.NodeCases.{fit-named}
-use Rattle.indexing.proofs.EnterCases.{Passing, passing-begin, passing-full, passing-on, passing-ended}
-use Rattle.indexing.specs.Parts.{tries_in}
+use Rattle.indexing.proofs.EnterCases.{passing-begin, passing-full, passing-on, passing-ended}
 use Rattle.space.proofs.HeaderLaws.{bounds-nodes}
-use Prim.Native.Nat.{◌-◌}
 use borrow.Author.Rules.{rules}
 use native.Mathlib.Omega.{arith}
 use Rattle.indexing.proofs.entering.is_crowded.Goals as goal

@@ -1,8 +1,7 @@
 -- `indexing::filling::clear` meets its contract.
-use Rattle.indexing.proofs.FillCases.{Freed, freed-begin, freed-on, freed-ended}
-use Prim.Native.Nat.{◌≤◌, ◌-◌}
-use mathlib.Core.Path.{◌≡◌, refl}
-use lib.ListN.{length, length-set}
+use Rattle.indexing.proofs.FillCases.{freed-begin, freed-on, freed-ended}
+use mathlib.Core.Path.{refl}
+use lib.ListN.{length-set}
 use native.Mathlib.Omega.{arith}
 use Rattle.indexing.proofs.filling.clear.Goals as goal
 

@@ -1,8 +1,7 @@
-use Rattle.indexing.proofs.FillCases.{Freed, freed-begin, freed-on, freed-ended}
+use Rattle.indexing.proofs.FillCases.{Freed}
 use Prim.Native.Nat.{◌≤◌, ◌-◌}
-use mathlib.Core.Path.{◌≡◌, refl}
-use lib.ListN.{length, length-set}
-use native.Mathlib.Omega.{arith}
+use mathlib.Core.Path.{◌≡◌}
+use lib.ListN.{length}
 use Rattle.indexing.proofs.filling.clear.Given as goal
 
 abbrev pub invariant-loop-i : goal.invariant-loop-i

@@ -2,7 +2,6 @@
 use Rattle.indexing.proofs.NodeCases.{fit-named}
 use Rattle.indexing.proofs.FillCases.{enter_one, enter-none}
 use Rattle.basis.proofs.Tests.{told}
-use borrow.Author.Rules.{rules}
 use native.Mathlib.Omega.{arith}
 use Rattle.indexing.proofs.filling.enter.Goals as goal
 

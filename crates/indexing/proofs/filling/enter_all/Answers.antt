@@ -1,9 +1,7 @@
 -- `indexing::filling::enter_all` meets its contract.
-use Rattle.indexing.proofs.FillCases.{Entered, entered-begin, entered_on, entered-ended, entered-length}
-use Rattle.indexing.specs.Parts.{tries_in, Slots}
-use Prim.Native.Nat.{◌≤◌, ◌-◌}
-use mathlib.Core.Path.{◌≡◌, refl, sym, ◌∙◌, subst}
-use lib.ListN.{length}
+use Rattle.indexing.proofs.FillCases.{entered-begin, entered_on, entered-ended, entered-length}
+use Rattle.indexing.specs.Parts.{Slots}
+use mathlib.Core.Path.{refl, sym, ◌∙◌, subst}
 use native.Mathlib.Omega.{arith}
 use Rattle.indexing.proofs.filling.enter_all.Goals as goal
 

@@ -1,9 +1,8 @@
-use Rattle.indexing.proofs.FillCases.{Entered, entered-begin, entered_on, entered-ended, entered-length}
-use Rattle.indexing.specs.Parts.{tries_in, Slots}
+use Rattle.indexing.proofs.FillCases.{Entered}
+use Rattle.indexing.specs.Parts.{tries_in}
 use Prim.Native.Nat.{◌≤◌, ◌-◌}
-use mathlib.Core.Path.{◌≡◌, refl, sym, ◌∙◌, subst}
+use mathlib.Core.Path.{◌≡◌}
 use lib.ListN.{length}
-use native.Mathlib.Omega.{arith}
 use Rattle.indexing.proofs.filling.enter_all.Given as goal
 
 abbrev pub invariant-loop-n : goal.invariant-loop-n

@@ -4,7 +4,6 @@ use Rattle.indexing.specs.Parts.{tries_in, Slots}
 use mathlib.Core.Path.{sym, subst}
 use lib.ListN.{length}
 use borrow.Author.Tests.{leb-true, leb-false}
-use borrow.Author.Rules.{rules}
 use native.Mathlib.Omega.{arith}
 use Rattle.indexing.proofs.filling.fill.Goals as goal
 

@@ -1,9 +1,7 @@
 -- `indexing::filling::insert` meets its contract.
-use Rattle.indexing.proofs.FillCases.{Probing, probing-begin, probing-free, probing-on, probing-ended}
-use mathlib.Core.Path.{◌≡◌, refl}
-use mathlib.Core.Bool.{true}
-use Rattle.trie.specs.Index.{power_of_two}
-use lib.ListN.{length, length-set}
+use Rattle.indexing.proofs.FillCases.{probing-begin, probing-free, probing-on, probing-ended}
+use mathlib.Core.Path.{refl}
+use lib.ListN.{length-set}
 use borrow.Author.Rules.{rules}
 use native.Mathlib.Omega.{arith}
 use Rattle.indexing.proofs.filling.insert.Goals as goal

@@ -1,10 +1,8 @@
-use Rattle.indexing.proofs.FillCases.{Probing, probing-begin, probing-free, probing-on, probing-ended}
-use mathlib.Core.Path.{◌≡◌, refl}
+use Rattle.indexing.proofs.FillCases.{Probing}
+use mathlib.Core.Path.{◌≡◌}
 use mathlib.Core.Bool.{true}
 use Rattle.trie.specs.Index.{power_of_two}
-use lib.ListN.{length, length-set}
-use borrow.Author.Rules.{rules}
-use native.Mathlib.Omega.{arith}
+use lib.ListN.{length}
 use Rattle.indexing.proofs.filling.insert.Given as goal
 
 abbrev pub invariant-loop-left : goal.invariant-loop-left

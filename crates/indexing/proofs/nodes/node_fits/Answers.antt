@@ -7,7 +7,6 @@ use Rattle.space.proofs.HeaderLaws.{bounds-nodes}
 use Rattle.basis.proofs.Tests.{told}
 use Prim.Native.Nat.{◌+◌}
 use mathlib.Core.Path.{◌≡◌, ◌∙◌}
-use borrow.Author.Rules.{rules}
 use Rattle.indexing.proofs.nodes.node_fits.Goals as goal
 
 pub returns-in_default : goal.returns-in_default

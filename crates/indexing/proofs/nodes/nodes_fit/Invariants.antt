@@ -1,12 +1,8 @@
-use Rattle.indexing.proofs.NodeCases.{nodes-begin, nodes-on, nodes-failed, nodes-ended}
 use Rattle.store.specs.Clauses.{view_in}
 use Rattle.store.specs.Building.{nodes_fit}
-use Rattle.basis.proofs.Tests.{told}
 use Prim.Native.Nat.{◌≤◌, ◌-◌}
 use mathlib.Core.Bool.{true}
 use mathlib.Core.Path.{◌≡◌}
-use borrow.Author.Tests.{not-true, not-false}
-use native.Mathlib.Omega.{arith}
 use Rattle.indexing.proofs.nodes.nodes_fit.Given as goal
 
 abbrev pub invariant-loop-n : goal.invariant-loop-n

@@ -1,6 +1,5 @@
 -- `indexing::nodes::root_above` meets its contract.
-use Rattle.indexing.proofs.NodeCases.{Climbing, climb-begin, climb-ended, climb-falls, climb-on}
-use Rattle.space.specs.Layout.{sizes, node_in}
+use Rattle.indexing.proofs.NodeCases.{climb-begin, climb-ended, climb-falls, climb-on}
 use borrow.Author.Rules.{rules}
 use native.Mathlib.Omega.{arith}
 use Rattle.indexing.proofs.nodes.root_above.Goals as goal

@@ -1,7 +1,5 @@
-use Rattle.indexing.proofs.NodeCases.{Climbing, climb-begin, climb-ended, climb-falls, climb-on}
+use Rattle.indexing.proofs.NodeCases.{Climbing}
 use Rattle.space.specs.Layout.{sizes, node_in}
-use borrow.Author.Rules.{rules}
-use native.Mathlib.Omega.{arith}
 use Rattle.indexing.proofs.nodes.root_above.Given as goal
 
 abbrev pub invariant-loop-root : goal.invariant-loop-root

@@ -1,7 +1,5 @@
-use Rattle.store.proofs.ChainMeasure.{ahead, ahead-less}
-use Rattle.integrity.proofs.ChainCases.{Counting, next-rises, counting-begin, counting-less, counting-on, counting-ended}
-use native.Mathlib.Omega.{arith}
-use borrow.Author.Rules.{rules}
+use Rattle.store.proofs.ChainMeasure.{ahead}
+use Rattle.integrity.proofs.ChainCases.{Counting}
 use Rattle.integrity.proofs.chains.chain_length.Given as goal
 
 abbrev pub invariant-loop-a : goal.invariant-loop-a

@@ -1,7 +1,6 @@
 -- `integrity::chains::chains_length` meets its contract.
 use Rattle.integrity.proofs.ChainCases.{lengths_to, lengths_none, lengths-on, first-named}
-use Rattle.space.specs.Layout.{most}
-use Prim.Native.Nat.{◌≤◌, ◌+◌, ◌-◌, ◌*◌}
+use Prim.Native.Nat.{◌+◌}
 use mathlib.Core.Path.{◌≡◌, ◌∙◌, ap}
 use native.Mathlib.Omega.{arith}
 use Rattle.integrity.proofs.chains.chains_length.Goals as goal

@@ -1,8 +1,7 @@
-use Rattle.integrity.proofs.ChainCases.{lengths_to, lengths_none, lengths-on, first-named}
+use Rattle.integrity.proofs.ChainCases.{lengths_to}
 use Rattle.space.specs.Layout.{most}
-use Prim.Native.Nat.{◌≤◌, ◌+◌, ◌-◌, ◌*◌}
-use mathlib.Core.Path.{◌≡◌, ◌∙◌, ap}
-use native.Mathlib.Omega.{arith}
+use Prim.Native.Nat.{◌≤◌, ◌-◌, ◌*◌}
+use mathlib.Core.Path.{◌≡◌}
 use Rattle.integrity.proofs.chains.chains_length.Given as goal
 
 abbrev pub invariant-loop-i : goal.invariant-loop-i

@@ -1,9 +1,7 @@
 -- `integrity::chains::first_lost` meets its contract.
 use Rattle.integrity.proofs.CheckCases.{pass-begin, pass-ended, later-failed, later-on}
-use Rattle.integrity.specs.Tests.{chained_in, AllChained}
-use Prim.Native.Nat.{◌≤◌, ◌-◌}
+use Rattle.integrity.specs.Tests.{chained_in}
 use Rattle.basis.proofs.Tests.{told}
-use borrow.Author.Tests.{not-true, not-false}
 use native.Mathlib.Omega.{arith}
 use Rattle.integrity.proofs.chains.first_lost.Goals as goal
 

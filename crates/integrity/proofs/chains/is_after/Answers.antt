@@ -1,6 +1,6 @@
 -- `integrity::chains::is_after` meets its contract.
-use Rattle.store.proofs.ChainMeasure.{ahead, ahead-less}
-use Rattle.integrity.proofs.ChainCases.{Searching, next-rises, searching-begin, searching-found, searching-on, searching-ended}
+use Rattle.store.proofs.ChainMeasure.{ahead-less}
+use Rattle.integrity.proofs.ChainCases.{next-rises, searching-begin, searching-found, searching-on, searching-ended}
 use native.Mathlib.Omega.{arith}
 use borrow.Author.Rules.{rules}
 use Rattle.integrity.proofs.chains.is_after.Goals as goal

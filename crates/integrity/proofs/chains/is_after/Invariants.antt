@@ -1,7 +1,5 @@
-use Rattle.store.proofs.ChainMeasure.{ahead, ahead-less}
-use Rattle.integrity.proofs.ChainCases.{Searching, next-rises, searching-begin, searching-found, searching-on, searching-ended}
-use native.Mathlib.Omega.{arith}
-use borrow.Author.Rules.{rules}
+use Rattle.store.proofs.ChainMeasure.{ahead}
+use Rattle.integrity.proofs.ChainCases.{Searching}
 use Rattle.integrity.proofs.chains.is_after.Given as goal
 
 abbrev pub invariant-loop-b : goal.invariant-loop-b

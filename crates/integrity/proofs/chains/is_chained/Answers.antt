@@ -1,6 +1,5 @@
 -- `integrity::chains::is_chained` meets its contract.
 use Rattle.integrity.proofs.ChainCases.{owner-named, first-named, chained-by}
-use borrow.Author.Rules.{rules}
 use Rattle.integrity.proofs.chains.is_chained.Goals as goal
 
 pub subgoal_in-g-requires : goal.subgoal_in-g-requires

@@ -1,6 +1,5 @@
 -- `integrity::firsts::first_leaf` meets its contract.
-use Prim.Native.Nat.{◌-◌}
-use Rattle.integrity.proofs.FirstCases.{Descending, child-rises, descending-begin, descending-ended, descending-on}
+use Rattle.integrity.proofs.FirstCases.{child-rises, descending-begin, descending-ended, descending-on}
 use Rattle.space.proofs.HeaderLaws.{bounds-nodes}
 use native.Mathlib.Omega.{arith}
 use borrow.Author.Rules.{rules}

@@ -1,8 +1,5 @@
 use Prim.Native.Nat.{◌-◌}
-use Rattle.integrity.proofs.FirstCases.{Descending, child-rises, descending-begin, descending-ended, descending-on}
-use Rattle.space.proofs.HeaderLaws.{bounds-nodes}
-use native.Mathlib.Omega.{arith}
-use borrow.Author.Rules.{rules}
+use Rattle.integrity.proofs.FirstCases.{Descending}
 use Rattle.integrity.proofs.firsts.first_leaf.Given as goal
 
 abbrev pub invariant-loop-h : goal.invariant-loop-h

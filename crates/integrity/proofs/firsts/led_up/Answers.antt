@@ -1,5 +1,5 @@
 -- `integrity::firsts::led_up` meets its contract.
-use Rattle.integrity.proofs.FirstCases.{Climbing, parent-falls, climbing-begin, climbing-ended, climbing-root, climbing-above, climbing-on}
+use Rattle.integrity.proofs.FirstCases.{parent-falls, climbing-begin, climbing-ended, climbing-root, climbing-above, climbing-on}
 use Rattle.space.proofs.HeaderLaws.{bounds-nodes}
 use native.Mathlib.Omega.{arith}
 use borrow.Author.Rules.{rules}

@@ -1,7 +1,4 @@
-use Rattle.integrity.proofs.FirstCases.{Climbing, parent-falls, climbing-begin, climbing-ended, climbing-root, climbing-above, climbing-on}
-use Rattle.space.proofs.HeaderLaws.{bounds-nodes}
-use native.Mathlib.Omega.{arith}
-use borrow.Author.Rules.{rules}
+use Rattle.integrity.proofs.FirstCases.{Climbing}
 use Rattle.integrity.proofs.firsts.led_up.Given as goal
 
 abbrev pub invariant-loop-left : goal.invariant-loop-left

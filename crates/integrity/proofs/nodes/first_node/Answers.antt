@@ -1,9 +1,7 @@
 -- `integrity::nodes::first_node` meets its contract.
 use Rattle.integrity.proofs.CheckCases.{pass-begin, pass-ended, pass-failed, pass_on}
-use Rattle.integrity.specs.Tests.{node_test, NodesWhole}
-use Prim.Native.Nat.{◌≤◌, ◌-◌}
+use Rattle.integrity.specs.Tests.{node_test}
 use Rattle.basis.proofs.Tests.{told}
-use borrow.Author.Tests.{not-true, not-false}
 use native.Mathlib.Omega.{arith}
 use Rattle.integrity.proofs.nodes.first_node.Goals as goal
 

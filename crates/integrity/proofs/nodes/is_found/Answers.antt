@@ -1,7 +1,6 @@
 -- `integrity::nodes::is_found` meets its contract.
 use Rattle.integrity.proofs.NodeCases.{found_at, found-last, found-damaged}
 use Rattle.basis.proofs.Tests.{told}
-use borrow.Author.Rules.{rules}
 use Rattle.integrity.proofs.nodes.is_found.Goals as goal
 
 pub returns-in-Found : goal.returns-in-Found

@@ -1,9 +1,5 @@
-use Rattle.integrity.proofs.CheckCases.{pass-begin, pass-ended, later-failed, later-on}
-use Rattle.integrity.specs.Tests.{answer_test, AnswersWhole}
+use Rattle.integrity.specs.Tests.{AnswersWhole}
 use Prim.Native.Nat.{◌≤◌, ◌-◌}
-use Rattle.basis.proofs.Tests.{told}
-use borrow.Author.Tests.{not-true, not-false}
-use native.Mathlib.Omega.{arith}
 use Rattle.integrity.proofs.records.first_answer.Given as goal
 
 abbrev pub invariant-loop-i : goal.invariant-loop-i

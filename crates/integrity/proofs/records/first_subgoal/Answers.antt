@@ -1,9 +1,7 @@
 -- `integrity::records::first_subgoal` meets its contract.
 use Rattle.integrity.proofs.CheckCases.{pass-begin, pass-ended, later-failed, later-on}
-use Rattle.integrity.specs.Tests.{subgoal_test, SubgoalsWhole}
-use Prim.Native.Nat.{◌≤◌, ◌-◌}
+use Rattle.integrity.specs.Tests.{subgoal_test}
 use Rattle.basis.proofs.Tests.{told}
-use borrow.Author.Tests.{not-true, not-false}
 use native.Mathlib.Omega.{arith}
 use Rattle.integrity.proofs.records.first_subgoal.Goals as goal
 

@@ -4,7 +4,6 @@ use Rattle.basis.proofs.Tests.{told}
 use mathlib.Core.Path.{◌∙◌}
 use Rattle.space.proofs.HeaderLaws.{bounds-nodes}
 use Rattle.store.specs.Clauses.{view_in}
-use borrow.Author.Rules.{rules}
 use Rattle.integrity.proofs.records.subgoal_whole.Goals as goal
 
 pub path_whole-requires : goal.path_whole-requires

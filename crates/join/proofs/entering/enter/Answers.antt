@@ -1,13 +1,10 @@
 -- `join::entering::enter` meets its contract.
 use Prim.Native.Nat.{◌<◌}
-use mathlib.Core.Path.{◌≡◌, refl, sym, ◌∙◌, subst}
+use mathlib.Core.Path.{refl, sym, ◌∙◌, subst}
 use lib.ListN.{length}
 use lib.Seq.{length-take-le}
 use Rattle.trie.specs.Index.{search_indexed}
 use Rattle.trie.proofs.IndexLaws.{indexes-find}
-use borrow.Author.Rules.{rules}
-use mathlib.Core.List.{[], ◌∷◌}
-use types.Run.{miss}
 use Rattle.basis.proofs.Tests.{told}
 use Rattle.pairing.specs.declared.Cursor.{Cursor}
 use Rattle.pairing.specs.declared.Sides.{Sides}

@@ -1,18 +1,8 @@
-use Prim.Native.Nat.{◌<◌}
-use mathlib.Core.Path.{◌≡◌, refl, sym, ◌∙◌, subst}
+use mathlib.Core.Path.{◌≡◌}
 use lib.ListN.{length}
-use lib.Seq.{length-take-le}
 use Rattle.trie.specs.Index.{search_indexed}
-use Rattle.trie.proofs.IndexLaws.{indexes-find}
-use borrow.Author.Rules.{rules}
-use mathlib.Core.List.{[], ◌∷◌}
-use types.Run.{miss}
-use Rattle.basis.proofs.Tests.{told}
-use Rattle.pairing.specs.declared.Cursor.{Cursor}
-use Rattle.pairing.specs.declared.Sides.{Sides}
-use Rattle.pairing.specs.declared.Match.TheVariants as match
-use Rattle.pairing.specs.Pairing.{to_come, Advances}
-use Rattle.join.proofs.EnterLaws.{Entering, entering-begun, entered-other, entering-less, entering-on, entering-size, still-sound, target-givable}
+use Rattle.pairing.specs.Pairing.{to_come}
+use Rattle.join.proofs.EnterLaws.{Entering}
 use Rattle.join.proofs.entering.enter.Given as goal
 
 abbrev pub invariant-loop-behind : goal.invariant-loop-behind

@@ -1,7 +1,6 @@
 -- `join::entering::give` meets its contract.
 use Rattle.join.proofs.EnterLaws.{given_by, givable-held}
 use Rattle.trie.specs.Index.{search_indexed}
-use borrow.Author.Rules.{rules}
 use Rattle.join.proofs.entering.give.Goals as goal
 
 pub answer_at-requires : goal.answer_at-requires

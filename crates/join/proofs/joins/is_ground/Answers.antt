@@ -1,6 +1,5 @@
 -- `join::joins::is_ground` meets its contract.
 use Rattle.join.proofs.RuleCases.{ground-damaged, ground-ground, ground-variable}
-use borrow.Author.Rules.{rules}
 use Rattle.join.proofs.joins.is_ground.Goals as goal
 
 pub returns-in-Damaged : goal.returns-in-Damaged

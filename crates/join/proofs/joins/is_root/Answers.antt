@@ -1,7 +1,6 @@
 -- `join::joins::is_root` meets its contract.
 use Rattle.join.proofs.CallCases.{root-unsound, root-read}
 use Rattle.basis.proofs.Tests.{told}
-use borrow.Author.Rules.{rules}
 use Rattle.join.proofs.joins.is_root.Goals as goal
 
 pub returns-in_default : goal.returns-in_default

@@ -1,6 +1,5 @@
 -- `join::joins::is_whole` meets its contract.
 use Rattle.join.proofs.RuleCases.{whole-damaged, whole-ground, whole-variable}
-use borrow.Author.Rules.{rules}
 use Rattle.join.proofs.joins.is_whole.Goals as goal
 
 pub returns-in-Damaged : goal.returns-in-Damaged

@@ -1,6 +1,5 @@
 -- `join::joins::join` meets its contract.
 use Rattle.store.proofs.FindingLaws.{unindexed-answers}
-use borrow.Author.Rules.{rules}
 use Rattle.join.proofs.joins.join.Goals as goal
 
 pub returns : goal.returns

@@ -3,7 +3,6 @@ use Rattle.join.proofs.CallCases.{entered-unsound, entered-bounds, entered-more,
 use native.Mathlib.Omega.{arith}
 use Rattle.basis.proofs.Tests.{told}
 use Rattle.trie.proofs.IndexLaws.{indexes-find}
-use borrow.Author.Rules.{rules}
 use Rattle.join.proofs.joins.join_entered.Goals as goal
 
 pub enter-requires : goal.enter-requires

@@ -2,7 +2,6 @@
 use Rattle.join.proofs.CallCases.{first-none, second_none, target_none}
 use Rattle.basis.proofs.Tests.{told}
 use Rattle.trie.specs.Index.{search_indexed}
-use borrow.Author.Rules.{rules}
 use Rattle.join.proofs.joins.join_in.Goals as goal
 
 pub join_known-requires : goal.join_known-requires

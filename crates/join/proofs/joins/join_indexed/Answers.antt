@@ -2,7 +2,6 @@
 use Rattle.join.proofs.CallCases.{join-header, join-counted}
 use Rattle.basis.proofs.Tests.{told}
 use Rattle.store.specs.Calls.{indexed_way}
-use borrow.Author.Rules.{rules}
 use Rattle.join.proofs.joins.join_indexed.Goals as goal
 
 pub returns-in-Refused : goal.returns-in-Refused

@@ -2,7 +2,6 @@
 use Rattle.join.proofs.CallCases.{number-used, read-root, first-unread, second-unread, target-unread, root-unread, parties-in}
 use Rattle.basis.proofs.Tests.{told}
 use Rattle.trie.specs.Index.{search_indexed}
-use borrow.Author.Rules.{rules}
 use Rattle.join.proofs.joins.join_known.Goals as goal
 
 pub read_subgoal-requires : goal.read_subgoal-requires

@@ -1,5 +1,5 @@
 -- `join::joins::join_new` meets its contract.
-use mathlib.Core.Path.{ap, ◌∙◌}
+use mathlib.Core.Path.{ap}
 use lib.ListN.{length}
 use Rattle.join.proofs.CallCases.{target-last, sums-room, new-bounds, new-last, may-enter, new-by-sums, new-exactly, new-full}
 use Rattle.join.proofs.TrialCases.{new-roomed, enter-after, entered-after, refused-after}

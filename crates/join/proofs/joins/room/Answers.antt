@@ -1,5 +1,4 @@
 -- `join::joins::room` meets its contract.
-use native.Mathlib.Omega.{arith}
 use mathlib.Core.Path.{ap}
 use lib.ListN.{length}
 use Rattle.trie.specs.Index.{search_indexed}

@@ -1,7 +1,6 @@
 -- `join::joins::rule` meets its contract.
 use Rattle.join.proofs.RuleCases.{rule-first, rule-second, rule-whole}
 use Rattle.basis.proofs.Tests.{told}
-use borrow.Author.Rules.{rules}
 use Rattle.join.proofs.joins.rule.Goals as goal
 
 pub returns-then-is_whole-2 : goal.returns-then-is_whole-2

@@ -3,7 +3,6 @@ use mathlib.Core.Path.{ap}
 use lib.ListN.{length}
 use Rattle.trie.specs.Index.{search_indexed}
 use Rattle.join.proofs.TrialCases.{trial-room, trial-blank, trial-counts, trial-settled, trial-unsettled}
-use borrow.Author.Rules.{rules}
 use Rattle.join.proofs.trial.on_trial.Goals as goal
 
 pub is_blank-requires : goal.is_blank-requires

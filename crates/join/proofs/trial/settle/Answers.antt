@@ -1,6 +1,5 @@
 -- `join::trial::settle` meets its contract.
 use mathlib.Core.Path.{sym, subst}
-use native.Mathlib.Omega.{arith}
 use Rattle.join.specs.declared.Tried.{Tried}
 use Rattle.join.specs.Trial.{Settles}
 use Rattle.join.proofs.TrialCases.{settle-nodes, settle-records, settle-none, settle-over}

@@ -4,7 +4,6 @@ use lib.ListN.{length}
 use Rattle.trie.proofs.IndexLaws.{indexes-find}
 use Rattle.drafts.proofs.Steady.{indexes-steady}
 use Rattle.join.proofs.TrialLoop.{trial-nodes, tried-all}
-use borrow.Author.Rules.{rules}
 use Rattle.join.proofs.trial.try_all.Goals as goal
 
 pub try_forms-r-requires : goal.try_forms-r-requires

@@ -1,14 +1,7 @@
-use mathlib.Core.Path.{refl, sym, subst}
 use lib.ListN.{length}
-use lib.Seq.{length-take-le}
 use Rattle.trie.specs.Index.{search_indexed}
-use Rattle.trie.proofs.IndexLaws.{indexes-find}
-use Rattle.drafts.proofs.Steady.{indexes-steady}
-use Rattle.pairing.specs.declared.Cursor.{Cursor}
-use Rattle.pairing.specs.declared.Match.TheVariants as match
-use Rattle.pairing.specs.Pairing.{to_come, Advances}
-use Rattle.join.proofs.TrialLoop.{Trying, no_tally, trying-begun, trying-known, trying-stands, trying-next, tried-long, tried-end, trying-less, trying-on, trying-formable, tried-over, tried-unknown}
-use borrow.Author.Rules.{rules}
+use Rattle.pairing.specs.Pairing.{to_come}
+use Rattle.join.proofs.TrialLoop.{Trying}
 use Rattle.join.proofs.trial.try_forms.Given as goal
 
 abbrev pub invariant-loop-behind : goal.invariant-loop-behind

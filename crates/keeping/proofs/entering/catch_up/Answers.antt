@@ -1,9 +1,5 @@
 -- `keeping::entering::catch_up` meets its contract.
-use Rattle.keeping.proofs.Cases.{Cells, held-some, Catching, catch-none, catching-begin, catching-on, catching-all, catching-full}
-use Rattle.keeping.specs.Clauses.{nodes_held}
-use mathlib.Core.Path.{◌≡◌}
-use Prim.Native.Nat.{◌<◌, ◌-◌}
-use lib.ListN.{length}
+use Rattle.keeping.proofs.Cases.{held-some, catch-none, catching-begin, catching-on, catching-all, catching-full}
 use borrow.Author.Rules.{rules}
 use native.Mathlib.Omega.{arith}
 use Rattle.keeping.proofs.entering.catch_up.Goals as goal

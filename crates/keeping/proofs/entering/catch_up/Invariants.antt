@@ -1,10 +1,8 @@
-use Rattle.keeping.proofs.Cases.{Cells, held-some, Catching, catch-none, catching-begin, catching-on, catching-all, catching-full}
+use Rattle.keeping.proofs.Cases.{Cells, Catching}
 use Rattle.keeping.specs.Clauses.{nodes_held}
 use mathlib.Core.Path.{◌≡◌}
-use Prim.Native.Nat.{◌<◌, ◌-◌}
+use Prim.Native.Nat.{◌-◌}
 use lib.ListN.{length}
-use borrow.Author.Rules.{rules}
-use native.Mathlib.Omega.{arith}
 use Rattle.keeping.proofs.entering.catch_up.Given as goal
 
 abbrev pub invariant-loop-n : goal.invariant-loop-n

@@ -1,7 +1,7 @@
 -- `keeping::entering::insert` meets its contract.
-use Rattle.keeping.proofs.Cases.{Probing, probing-begin, probing-free, probing-on, probing-ended}
-use mathlib.Core.Path.{◌≡◌, refl}
-use lib.ListN.{length, length-set}
+use Rattle.keeping.proofs.Cases.{probing-begin, probing-free, probing-on, probing-ended}
+use mathlib.Core.Path.{refl}
+use lib.ListN.{length-set}
 use borrow.Author.Rules.{rules}
 use native.Mathlib.Omega.{arith}
 use Rattle.keeping.proofs.entering.insert.Goals as goal

@@ -1,8 +1,6 @@
-use Rattle.keeping.proofs.Cases.{Probing, probing-begin, probing-free, probing-on, probing-ended}
-use mathlib.Core.Path.{◌≡◌, refl}
-use lib.ListN.{length, length-set}
-use borrow.Author.Rules.{rules}
-use native.Mathlib.Omega.{arith}
+use Rattle.keeping.proofs.Cases.{Probing}
+use mathlib.Core.Path.{◌≡◌}
+use lib.ListN.{length}
 use Rattle.keeping.proofs.entering.insert.Given as goal
 
 abbrev pub invariant-loop-left : goal.invariant-loop-left

@@ -1,7 +1,6 @@
 -- `keeping::searching::look_up` meets its contract.
-use Rattle.keeping.proofs.FindCases.{Looking, looking-begin, looking-free, looking-met, looking-on, looking-ended}
-use mathlib.Core.Path.{◌≡◌, refl}
-use lib.ListN.{length}
+use Rattle.keeping.proofs.FindCases.{looking-begin, looking-free, looking-met, looking-on, looking-ended}
+use mathlib.Core.Path.{refl}
 use borrow.Author.Rules.{rules}
 use native.Mathlib.Omega.{arith}
 use Rattle.keeping.proofs.searching.look_up.Goals as goal

@@ -1,8 +1,6 @@
-use Rattle.keeping.proofs.FindCases.{Looking, looking-begin, looking-free, looking-met, looking-on, looking-ended}
-use mathlib.Core.Path.{◌≡◌, refl}
+use Rattle.keeping.proofs.FindCases.{Looking}
+use mathlib.Core.Path.{◌≡◌}
 use lib.ListN.{length}
-use borrow.Author.Rules.{rules}
-use native.Mathlib.Omega.{arith}
 use Rattle.keeping.proofs.searching.look_up.Given as goal
 
 abbrev pub invariant-loop-left : goal.invariant-loop-left

@@ -1,15 +1,11 @@
-use Rattle.basis.proofs.Tests.{told}
-use Rattle.trie.proofs.WalkCases.{Descent, descent-begin, descent-whole, descent-last, descent-damaged, descent-found}
+use Rattle.trie.proofs.WalkCases.{Descent}
 use Rattle.trie.specs.Walks.{walk_from_by}
 use Rattle.trie.specs.Ledger.{search_in}
 use Rattle.keeping.specs.Clauses.{ledger_in}
-use Rattle.trie.proofs.LedgerLaws.{ledgers-find}
 use Rattle.trie.specs.Siblings.{trie_in}
 use Rattle.space.specs.Layout.{sizes}
 use lib.ListN.{length}
 use Prim.Native.Nat.{◌-◌}
-use borrow.Author.Rules.{rules}
-use native.Mathlib.Omega.{arith}
 use Rattle.keeping.proofs.walking.walk_from.Given as goal
 
 abbrev pub invariant-loop-i : goal.invariant-loop-i

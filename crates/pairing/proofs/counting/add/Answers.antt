@@ -1,6 +1,5 @@
 -- `pairing::counting::add` meets its contract.
 use Rattle.pairing.proofs.CountCases.{sums-added}
-use borrow.Author.Rules.{rules}
 use Rattle.pairing.proofs.counting.add.Goals as goal
 
 pub returns : goal.returns

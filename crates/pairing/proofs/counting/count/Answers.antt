@@ -6,10 +6,9 @@ use lib.ListN.{length, take}
 use lib.Seq.{length-take-le}
 use Rattle.trie.specs.Index.{search_indexed}
 use Rattle.trie.proofs.IndexLaws.{indexes-find}
-use borrow.Author.Rules.{rules}
 use Rattle.pairing.specs.declared.Cursor.{Cursor}
 use Rattle.pairing.specs.declared.Match.TheVariants as match
-use Rattle.pairing.specs.Pairing.{to_come, Advances}
+use Rattle.pairing.specs.Pairing.{Advances}
 use Rattle.pairing.proofs.CountLaws.{Counting, no_sums, counting-begun, counted-end, counted-long, counting-on, sums-small, missing-most, all-few}
 use Rattle.pairing.proofs.counting.count.Goals as goal
 

@@ -1,15 +1,7 @@
-use Prim.Native.Nat.{◌≤◌}
-use mathlib.Core.Path.{refl, sym, ap, subst}
-use native.Mathlib.Omega.{arith}
-use lib.ListN.{length, take}
-use lib.Seq.{length-take-le}
+use lib.ListN.{length}
 use Rattle.trie.specs.Index.{search_indexed}
-use Rattle.trie.proofs.IndexLaws.{indexes-find}
-use borrow.Author.Rules.{rules}
-use Rattle.pairing.specs.declared.Cursor.{Cursor}
-use Rattle.pairing.specs.declared.Match.TheVariants as match
-use Rattle.pairing.specs.Pairing.{to_come, Advances}
-use Rattle.pairing.proofs.CountLaws.{Counting, no_sums, counting-begun, counted-end, counted-long, counting-on, sums-small, missing-most, all-few}
+use Rattle.pairing.specs.Pairing.{to_come}
+use Rattle.pairing.proofs.CountLaws.{Counting}
 use Rattle.pairing.proofs.counting.count.Given as goal
 
 abbrev pub invariant-loop-behind : goal.invariant-loop-behind

@@ -1,13 +1,5 @@
-use Prim.Native.Nat.{◌+◌, ◌-◌, ◌≤◌}
-use mathlib.Core.Path.{refl, sym, subst}
-use native.Mathlib.Omega.{arith}
-use lib.Seq.{length-take-le}
-use borrow.Author.Rules.{rules}
-use Rattle.pairing.specs.declared.Cursor.{Cursor}
-use Rattle.pairing.specs.declared.Match.TheVariants as match
-use Rattle.pairing.specs.Pairing.{Advances}
-use Rattle.pairing.proofs.CountLaws.{not-long}
-use Rattle.pairing.proofs.NeedLaws.{Comparing, none_earlier, comparing-begun, compared-end, compared-held, comparing-short, comparing-on}
+use Prim.Native.Nat.{◌-◌, ◌≤◌}
+use Rattle.pairing.proofs.NeedLaws.{Comparing}
 use Rattle.pairing.proofs.counting.earlier.Given as goal
 
 abbrev pub invariant-loop-i : goal.invariant-loop-i

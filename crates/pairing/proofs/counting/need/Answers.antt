@@ -1,6 +1,5 @@
 -- `pairing::counting::need` meets its contract.
 use Rattle.pairing.proofs.CountCases.{needs-added}
-use borrow.Author.Rules.{rules}
 use Rattle.pairing.proofs.counting.need.Goals as goal
 
 pub returns : goal.returns

@@ -8,7 +8,7 @@ use Rattle.trie.specs.Index.{search_indexed}
 use borrow.Author.Rules.{rules}
 use Rattle.pairing.specs.declared.Cursor.{Cursor}
 use Rattle.pairing.specs.declared.Match.TheVariants as match
-use Rattle.pairing.specs.Pairing.{to_come, Advances}
+use Rattle.pairing.specs.Pairing.{Advances}
 use Rattle.pairing.specs.Counting.{all_forms}
 use Rattle.pairing.proofs.CountLaws.{not-long, all-few}
 use Rattle.pairing.proofs.NeedLaws.{Needing, no_needs, needing-begun, needed-end, needed-over, passed-within, needs-small, needing-on, shared-length}

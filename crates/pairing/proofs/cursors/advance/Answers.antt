@@ -1,13 +1,9 @@
 -- `pairing::cursors::advance` meets its contract.
-use Rattle.pairing.proofs.AdvanceLaws.{Advancing, cursor, advancing-begun, compared, advanced-as, advanced-end, first-takeable, advancing-less, advancing-on}
+use Rattle.pairing.proofs.AdvanceLaws.{advancing-begun, compared, advanced-as, advanced-end, first-takeable, advancing-less, advancing-on}
 use Rattle.pairing.specs.declared.Found.TheVariants as found
-use Rattle.pairing.specs.Pairing.{forms_from, Finds}
+use Rattle.pairing.specs.Pairing.{Finds}
 use native.Mathlib.Omega.{arith}
 use mathlib.Core.Path.{◌∙◌, sym}
-use mathlib.Core.List.{[], ◌∷◌}
-use types.Run.{miss}
-use lib.ListN.{length}
-use borrow.Author.Rules.{rules}
 use Rattle.pairing.proofs.cursors.advance.Goals as goal
 
 pub loop-y-init : goal.loop-y-init

@@ -1,12 +1,6 @@
-use Rattle.pairing.proofs.AdvanceLaws.{Advancing, cursor, advancing-begun, compared, advanced-as, advanced-end, first-takeable, advancing-less, advancing-on}
-use Rattle.pairing.specs.declared.Found.TheVariants as found
-use Rattle.pairing.specs.Pairing.{forms_from, Finds}
-use native.Mathlib.Omega.{arith}
-use mathlib.Core.Path.{◌∙◌, sym}
-use mathlib.Core.List.{[], ◌∷◌}
-use types.Run.{miss}
+use Rattle.pairing.proofs.AdvanceLaws.{Advancing, cursor}
+use Rattle.pairing.specs.Pairing.{forms_from}
 use lib.ListN.{length}
-use borrow.Author.Rules.{rules}
 use Rattle.pairing.proofs.cursors.advance.Given as goal
 
 abbrev pub invariant-loop-y : goal.invariant-loop-y

@@ -1,10 +1,7 @@
 -- `pairing::cursors::find_match` meets its contract.
-use Rattle.pairing.proofs.FindLaws.{Finding, finding-begun, finding-end, second-takeable, finding-less, size, comparable, finding-on, copyable, finding-long, finding-at}
-use Rattle.pairing.specs.Pairing.{forms_from}
+use Rattle.pairing.proofs.FindLaws.{finding-begun, finding-end, second-takeable, finding-less, size, comparable, finding-on, copyable, finding-long, finding-at}
 use native.Mathlib.Omega.{arith}
 use mathlib.Core.Path.{◌∙◌, sym}
-use lib.ListN.{length}
-use borrow.Author.Rules.{rules}
 use Rattle.pairing.proofs.cursors.find_match.Goals as goal
 
 pub loop-b-init : goal.loop-b-init

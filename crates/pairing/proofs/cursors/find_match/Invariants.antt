@@ -1,9 +1,6 @@
-use Rattle.pairing.proofs.FindLaws.{Finding, finding-begun, finding-end, second-takeable, finding-less, size, comparable, finding-on, copyable, finding-long, finding-at}
+use Rattle.pairing.proofs.FindLaws.{Finding}
 use Rattle.pairing.specs.Pairing.{forms_from}
-use native.Mathlib.Omega.{arith}
-use mathlib.Core.Path.{◌∙◌, sym}
 use lib.ListN.{length}
-use borrow.Author.Rules.{rules}
 use Rattle.pairing.proofs.cursors.find_match.Given as goal
 
 abbrev pub invariant-loop-b : goal.invariant-loop-b

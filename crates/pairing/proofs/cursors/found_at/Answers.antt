@@ -1,6 +1,5 @@
 -- `pairing::cursors::found_at` meets its contract.
 use Rattle.pairing.proofs.AdvanceLaws.{match-at, match-long, match-end}
-use borrow.Author.Rules.{rules}
 use Rattle.pairing.proofs.cursors.found_at.Goals as goal
 
 pub returns-in-At : goal.returns-in-At

@@ -1,5 +1,5 @@
 -- `pairing::cursors::gather_path` meets its contract.
-use Rattle.pairing.proofs.GatherLaws.{Gathering, gathering-begun, gathered-all, gathered-root, gathering-on}
+use Rattle.pairing.proofs.GatherLaws.{gathering-begun, gathered-all, gathered-root, gathering-on}
 use native.Mathlib.Omega.{arith}
 use borrow.Author.Rules.{rules}
 use Rattle.pairing.proofs.cursors.gather_path.Goals as goal

@@ -1,6 +1,4 @@
-use Rattle.pairing.proofs.GatherLaws.{Gathering, gathering-begun, gathered-all, gathered-root, gathering-on}
-use native.Mathlib.Omega.{arith}
-use borrow.Author.Rules.{rules}
+use Rattle.pairing.proofs.GatherLaws.{Gathering}
 use Rattle.pairing.proofs.cursors.gather_path.Given as goal
 
 abbrev pub invariant-loop-at : goal.invariant-loop-at

@@ -1,6 +1,5 @@
 -- `pairing::cursors::hands_match` meets its contract.
 use Rattle.pairing.proofs.HandLaws.{part-comparable, part-compare}
-use borrow.Author.Rules.{rules}
 use Rattle.pairing.proofs.cursors.hands_match.Goals as goal
 
 pub matches-requires : goal.matches-requires

@@ -1,6 +1,5 @@
 -- `pairing::cursors::join_hands` meets its contract.
 use Rattle.pairing.proofs.HandLaws.{part-copyable, part-copied}
-use borrow.Author.Rules.{rules}
 use Rattle.pairing.proofs.cursors.join_hands.Goals as goal
 
 pub put_together-requires : goal.put_together-requires

@@ -4,7 +4,6 @@ use lib.ListN.{length}
 use native.Mathlib.Omega.{arith}
 use Rattle.trie.specs.Runs.{path_to}
 use Rattle.pairing.proofs.HandLaws.{path-there, path-gatherable, path-takeable, path-takes}
-use borrow.Author.Rules.{rules}
 use Rattle.pairing.proofs.cursors.take_path.Goals as goal
 
 pub gather_path-k-requires : goal.gather_path-k-requires

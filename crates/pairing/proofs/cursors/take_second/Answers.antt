@@ -1,6 +1,5 @@
 -- `pairing::cursors::take_second` meets its contract.
 use Rattle.pairing.proofs.HandLaws.{second-taken}
-use borrow.Author.Rules.{rules}
 use Rattle.pairing.proofs.cursors.take_second.Goals as goal
 
 pub returns : goal.returns

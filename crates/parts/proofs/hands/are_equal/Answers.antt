@@ -1,9 +1,6 @@
 -- `are_equal` meets its contract: the tokens passed are equal, and the rests of both terms decide.
-use Prim.Native.Nat.{◌-◌}
 use native.Mathlib.Omega.{arith}
-use borrow.Author.Rules.{rules}
-use Rattle.parts.specs.Segments.{until, segment}
-use Rattle.parts.proofs.EqualTokens.{EqualFrom, unequal, equal-start, equal-more, equal-other, equal-end}
+use Rattle.parts.proofs.EqualTokens.{unequal, equal-start, equal-more, equal-other, equal-end}
 use Rattle.parts.proofs.hands.are_equal.Goals as goal
 
 pub returns-then-end-at : goal.returns-then-end-at

@@ -1,8 +1,6 @@
 use Prim.Native.Nat.{◌-◌}
-use native.Mathlib.Omega.{arith}
-use borrow.Author.Rules.{rules}
 use Rattle.parts.specs.Segments.{until, segment}
-use Rattle.parts.proofs.EqualTokens.{EqualFrom, unequal, equal-start, equal-more, equal-other, equal-end}
+use Rattle.parts.proofs.EqualTokens.{EqualFrom}
 use Rattle.parts.proofs.hands.are_equal.Given as goal
 
 abbrev pub invariant-loop-at : goal.invariant-loop-at

@@ -1,5 +1,4 @@
 -- `copy_from` meets its contract, one case to each side.
-use borrow.Author.Rules.{rules}
 use borrow.Author.Tests.{eq-eqb, ne_eqb}
 use Rattle.parts.proofs.hands.copy_from.Goals as goal
 

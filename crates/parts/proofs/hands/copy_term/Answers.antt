@@ -1,8 +1,7 @@
 -- `copy_term` meets its contract: the tokens passed are copied.
-use Prim.Native.Nat.{◌-◌}
 use mathlib.Core.Path.{refl}
 use borrow.Author.Rules.{rules}
-use Rattle.parts.proofs.CopyTokens.{Copying, copying-start, copying-more, copying-end, copying-none}
+use Rattle.parts.proofs.CopyTokens.{copying-start, copying-more, copying-end, copying-none}
 use Rattle.parts.proofs.hands.copy_term.Goals as goal
 
 pub returns-then-behind-gt-MOST_TOKENS : goal.returns-then-behind-gt-MOST_TOKENS

@@ -1,7 +1,5 @@
 use Prim.Native.Nat.{◌-◌}
-use mathlib.Core.Path.{refl}
-use borrow.Author.Rules.{rules}
-use Rattle.parts.proofs.CopyTokens.{Copying, copying-start, copying-more, copying-end, copying-none}
+use Rattle.parts.proofs.CopyTokens.{Copying}
 use Rattle.parts.proofs.hands.copy_term.Given as goal
 
 abbrev pub invariant-loop-at : goal.invariant-loop-at

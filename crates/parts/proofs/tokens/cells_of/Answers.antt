@@ -1,9 +1,6 @@
 -- `cells_of` meets its contract: both sums are those of the tokens passed.
-use Prim.Native.Nat.{◌+◌, ◌*◌, ◌-◌, ◌≤◌}
-use mathlib.Core.Path.{◌≡◌, refl}
+use mathlib.Core.Path.{refl}
 use native.Mathlib.Omega.{arith}
-use lib.ListN.{take}
-use borrow.Author.Rules.{rules}
 use Rattle.forms.specs.Cells.{arity_of}
 use Rattle.parts.specs.Segments.{weights, all_take}
 use Rattle.parts.proofs.Counting.{weights-grow, take-grow-one, sums-end}

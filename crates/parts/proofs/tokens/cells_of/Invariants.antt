@@ -1,11 +1,8 @@
 use Prim.Native.Nat.{◌+◌, ◌*◌, ◌-◌, ◌≤◌}
-use mathlib.Core.Path.{◌≡◌, refl}
-use native.Mathlib.Omega.{arith}
+use mathlib.Core.Path.{◌≡◌}
 use lib.ListN.{take}
-use borrow.Author.Rules.{rules}
 use Rattle.forms.specs.Cells.{arity_of}
 use Rattle.parts.specs.Segments.{weights, all_take}
-use Rattle.parts.proofs.Counting.{weights-grow, take-grow-one, sums-end}
 use Rattle.parts.proofs.tokens.cells_of.Given as goal
 
 abbrev pub invariant-loop-at : goal.invariant-loop-at

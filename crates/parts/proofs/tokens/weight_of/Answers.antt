@@ -4,7 +4,6 @@ use native.Mathlib.Omega.{arith}
 use borrow.Author.Tests.{eq-eqb}
 use Rattle.parts.specs.Segments.{weight, solid}
 use Rattle.parts.proofs.Counting.{symbol-weight, other-weight, solid-weight}
-use borrow.Author.Rules.{rules}
 use Rattle.parts.proofs.tokens.weight_of.Goals as goal
 
 pub returns-then-c-eq-ELIST : goal.returns-then-c-eq-ELIST

@@ -1,6 +1,6 @@
 -- `sides::chains::judge` meets its contract.
-use Rattle.store.proofs.ChainMeasure.{ahead, ahead-less}
-use Rattle.sides.proofs.ChainCases.{Passed, passed-begin, passed-ended, passed-broken, passed_on}
+use Rattle.store.proofs.ChainMeasure.{ahead-less}
+use Rattle.sides.proofs.ChainCases.{passed-begin, passed-ended, passed-broken, passed_on}
 use Rattle.sides.specs.Chains.{AnswerJudged}
 use Rattle.sides.specs.declared.Member.TheVariants as member
 use native.Mathlib.Omega.{arith}

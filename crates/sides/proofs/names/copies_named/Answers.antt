@@ -1,11 +1,7 @@
 -- `sides::names::copies_named` meets its contract.
 use Rattle.sides.proofs.NameCases.{copies-ended, copies-above, copies-next}
-use Rattle.plain.specs.Joins.{copies_named}
-use lib.ListN.{length, drop}
-use mathlib.Core.Path.{◌≡◌, refl}
-use Prim.Native.Nat.{◌≤◌, ◌-◌}
+use mathlib.Core.Path.{refl}
 use native.Mathlib.Omega.{arith}
-use borrow.Author.Rules.{rules}
 use Rattle.sides.proofs.names.copies_named.Goals as goal
 
 pub loop-i-init : goal.loop-i-init

@@ -1,11 +1,7 @@
 -- `sides::names::pairs_named` meets its contract.
 use Rattle.sides.proofs.NameCases.{pairs-ended, pairs_first, pairs-second, pairs_next}
-use Rattle.plain.specs.Joins.{pairs_named}
-use lib.ListN.{length, drop}
-use mathlib.Core.Path.{◌≡◌, refl}
-use Prim.Native.Nat.{◌≤◌, ◌-◌}
+use mathlib.Core.Path.{refl}
 use native.Mathlib.Omega.{arith}
-use borrow.Author.Rules.{rules}
 use Rattle.sides.proofs.names.pairs_named.Goals as goal
 
 pub loop-i-init : goal.loop-i-init

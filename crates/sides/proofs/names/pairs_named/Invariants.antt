@@ -1,10 +1,7 @@
-use Rattle.sides.proofs.NameCases.{pairs-ended, pairs_first, pairs-second, pairs_next}
 use Rattle.plain.specs.Joins.{pairs_named}
 use lib.ListN.{length, drop}
-use mathlib.Core.Path.{◌≡◌, refl}
+use mathlib.Core.Path.{◌≡◌}
 use Prim.Native.Nat.{◌≤◌, ◌-◌}
-use native.Mathlib.Omega.{arith}
-use borrow.Author.Rules.{rules}
 use Rattle.sides.proofs.names.pairs_named.Given as goal
 
 abbrev pub invariant-loop-i : goal.invariant-loop-i

@@ -1,9 +1,5 @@
 -- `sides::searches::common` meets its contract.
 use Rattle.sides.proofs.SearchCases.{common-first, common-second, common-other, common-next}
-use Rattle.plain.specs.Words.{common}
-use lib.ListN.{length, drop}
-use mathlib.Core.Path.{◌≡◌}
-use Prim.Native.Nat.{◌≤◌, ◌-◌, ◌+◌}
 use native.Mathlib.Omega.{arith}
 use borrow.Author.Rules.{rules}
 use Rattle.sides.proofs.searches.common.Goals as goal

@@ -3,7 +3,6 @@ use lib.ListN.{length}
 use Rattle.sides.specs.Searches.{all_shared}
 use Rattle.sides.proofs.SharedLaws.{meets}
 use mathlib.Core.Path.{◌∙◌, ap}
-use borrow.Author.Rules.{rules}
 use Rattle.sides.proofs.searches.meet.Goals as goal
 
 pub returns : goal.returns

@@ -4,7 +4,6 @@ use Rattle.store.proofs.CallsCases.{leaf-within, link-within}
 use Rattle.trie.proofs.IndexLaws.{indexes-find}
 use Rattle.basis.proofs.Tests.{told}
 use Rattle.space.proofs.HeaderLaws.{bounds-nodes}
-use borrow.Author.Rules.{rules}
 use Rattle.sides.proofs.searches.search.Goals as goal
 
 pub node_in-y-requires : goal.node_in-y-requires

@@ -1,10 +1,5 @@
 -- `sources::comparing::all_differ` meets its contract.
-use Prim.Native.Nat.{◌≤◌, ◌-◌}
-use mathlib.Core.Path.{◌≡◌}
-use mathlib.Core.Bool.{true}
 use native.Mathlib.Omega.{arith}
-use borrow.Author.Rules.{rules}
-use Rattle.agreement.specs.Whole.{every_below}
 use Rattle.sources.specs.Records.{count_of, differs_at}
 use Rattle.sources.proofs.PassLaws.{pass-begin, pass_on, pass-failed, pass-ended}
 use Rattle.sources.proofs.CompareCases.{differs, differs-not}

@@ -1,8 +1,6 @@
 -- `sources::comparing::brought` meets its contract.
-use Prim.Native.Nat.{◌≤◌, ◌-◌}
 use native.Mathlib.Omega.{arith}
-use borrow.Author.Rules.{rules}
-use Rattle.sources.specs.Records.{count_of, Brings}
+use Rattle.sources.specs.Records.{count_of}
 use Rattle.sources.proofs.CompareCases.{brings-begin, brings-on, brings-ended}
 use Rattle.sources.proofs.TableLaws.{count_most}
 use Rattle.sources.proofs.comparing.brought.Goals as goal

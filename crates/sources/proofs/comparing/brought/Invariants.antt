@@ -1,9 +1,5 @@
 use Prim.Native.Nat.{◌≤◌, ◌-◌}
-use native.Mathlib.Omega.{arith}
-use borrow.Author.Rules.{rules}
-use Rattle.sources.specs.Records.{count_of, Brings}
-use Rattle.sources.proofs.CompareCases.{brings-begin, brings-on, brings-ended}
-use Rattle.sources.proofs.TableLaws.{count_most}
+use Rattle.sources.specs.Records.{Brings}
 use Rattle.sources.proofs.comparing.brought.Given as goal
 
 abbrev pub invariant-loop-i : goal.invariant-loop-i

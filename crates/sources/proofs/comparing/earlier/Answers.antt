@@ -1,9 +1,6 @@
 -- `sources::comparing::earlier` meets its contract.
-use Prim.Native.Nat.{◌≤◌, ◌-◌}
-use mathlib.Core.Path.{◌≡◌, refl}
-use lib.ListN.{length}
+use mathlib.Core.Path.{refl}
 use native.Mathlib.Omega.{arith}
-use Rattle.sources.specs.Records.{EarlierTo, before}
 use Rattle.sources.proofs.CompareCases.{earlier-begin, earlier_on, earlier-ended}
 use Rattle.sources.proofs.comparing.earlier.Goals as goal
 

@@ -1,9 +1,7 @@
 use Prim.Native.Nat.{◌≤◌, ◌-◌}
-use mathlib.Core.Path.{◌≡◌, refl}
+use mathlib.Core.Path.{◌≡◌}
 use lib.ListN.{length}
-use native.Mathlib.Omega.{arith}
 use Rattle.sources.specs.Records.{EarlierTo, before}
-use Rattle.sources.proofs.CompareCases.{earlier-begin, earlier_on, earlier-ended}
 use Rattle.sources.proofs.comparing.earlier.Given as goal
 
 abbrev pub invariant-loop-j : goal.invariant-loop-j

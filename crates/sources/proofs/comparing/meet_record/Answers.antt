@@ -1,5 +1,4 @@
 -- `sources::comparing::meet_record` meets its contract.
-use borrow.Author.Rules.{rules}
 use native.Mathlib.Omega.{arith}
 use Rattle.sources.proofs.PlaceCases.{gathered}
 use Rattle.sources.proofs.CompareCases.{meets-other, meets-same}

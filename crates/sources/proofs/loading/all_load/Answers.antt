@@ -1,12 +1,6 @@
 -- `sources::loading::all_load` meets its contract.
-use Prim.Native.Nat.{◌≤◌, ◌-◌}
-use mathlib.Core.Path.{◌≡◌}
-use mathlib.Core.Bool.{true}
 use native.Mathlib.Omega.{arith}
-use borrow.Author.Tests.{not-true, not-false}
-use borrow.Author.Rules.{rules}
 use Rattle.basis.proofs.Tests.{told}
-use Rattle.agreement.specs.Whole.{every_below}
 use Rattle.sources.specs.Records.{count_of, loads_at}
 use Rattle.sources.proofs.PassLaws.{pass-begin, pass_on, pass-failed, pass-ended}
 use Rattle.sources.proofs.loading.all_load.Goals as goal

@@ -1,5 +1,4 @@
 -- `sources::loading::answer_loads` meets its contract.
-use borrow.Author.Rules.{rules}
 use Rattle.basis.proofs.Tests.{told}
 use Rattle.space.proofs.HeaderLaws.{bounds-nodes}
 use Rattle.sources.proofs.LoadCases.{answer-damaged, answer-within, owner-damaged, answer-formed}

@@ -1,5 +1,4 @@
 -- `sources::loading::subgoal_loads` meets its contract.
-use borrow.Author.Rules.{rules}
 use native.Mathlib.Omega.{arith}
 use Rattle.basis.proofs.Tests.{told}
 use Rattle.space.proofs.HeaderLaws.{bounds-nodes}

@@ -1,13 +1,7 @@
 -- `sources::names::all_named` meets its contract.
-use Prim.Native.Nat.{◌≤◌, ◌-◌}
-use mathlib.Core.Path.{◌≡◌, refl}
-use mathlib.Core.Bool.{true}
+use mathlib.Core.Path.{refl}
 use native.Mathlib.Omega.{arith}
-use borrow.Author.Tests.{not-true, not-false}
-use borrow.Author.Rules.{rules}
 use Rattle.basis.proofs.Tests.{told}
-use Rattle.agreement.specs.Whole.{every_below}
-use lib.ListN.{length}
 use Rattle.sources.specs.Records.{count_of, named_at}
 use Rattle.sources.proofs.PassLaws.{pass-begin, pass_on, pass-failed, pass-ended}
 use Rattle.sources.proofs.names.all_named.Goals as goal

@@ -1,14 +1,9 @@
 use Prim.Native.Nat.{◌≤◌, ◌-◌}
-use mathlib.Core.Path.{◌≡◌, refl}
+use mathlib.Core.Path.{◌≡◌}
 use mathlib.Core.Bool.{true}
-use native.Mathlib.Omega.{arith}
-use borrow.Author.Tests.{not-true, not-false}
-use borrow.Author.Rules.{rules}
-use Rattle.basis.proofs.Tests.{told}
 use Rattle.agreement.specs.Whole.{every_below}
 use lib.ListN.{length}
-use Rattle.sources.specs.Records.{count_of, named_at}
-use Rattle.sources.proofs.PassLaws.{pass-begin, pass_on, pass-failed, pass-ended}
+use Rattle.sources.specs.Records.{named_at}
 use Rattle.sources.proofs.names.all_named.Given as goal
 
 abbrev pub invariant-loop-i : goal.invariant-loop-i

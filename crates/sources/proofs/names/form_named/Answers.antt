@@ -1,10 +1,7 @@
 -- `sources::names::form_named` meets its contract.
-use Prim.Native.Nat.{◌≤◌, ◌-◌}
 use native.Mathlib.Omega.{arith}
-use lib.ListN.{length}
-use borrow.Author.Tests.{not-true, not-false}
 use Rattle.basis.proofs.Tests.{told}
-use Rattle.sources.proofs.NameCases.{Rest, rest-begin, rest-unnamed, rest-on, rest_ended}
+use Rattle.sources.proofs.NameCases.{rest-begin, rest-unnamed, rest-on, rest_ended}
 use Rattle.sources.proofs.names.form_named.Goals as goal
 
 pub loop-i-init : goal.loop-i-init

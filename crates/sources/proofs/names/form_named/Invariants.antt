@@ -1,9 +1,6 @@
 use Prim.Native.Nat.{◌≤◌, ◌-◌}
-use native.Mathlib.Omega.{arith}
 use lib.ListN.{length}
-use borrow.Author.Tests.{not-true, not-false}
-use Rattle.basis.proofs.Tests.{told}
-use Rattle.sources.proofs.NameCases.{Rest, rest-begin, rest-unnamed, rest-on, rest_ended}
+use Rattle.sources.proofs.NameCases.{Rest}
 use Rattle.sources.proofs.names.form_named.Given as goal
 
 abbrev pub invariant-loop-i : goal.invariant-loop-i

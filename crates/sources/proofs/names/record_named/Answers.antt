@@ -1,5 +1,4 @@
 -- `sources::names::record_named` meets its contract.
-use borrow.Author.Rules.{rules}
 use native.Mathlib.Omega.{arith}
 use mathlib.Core.Path.{◌∙◌}
 use Rattle.sources.proofs.PlaceCases.{gathered}

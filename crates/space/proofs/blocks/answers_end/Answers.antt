@@ -1,5 +1,4 @@
 -- `space::blocks::answers_end` meets its contract.
-use borrow.Author.Rules.{rules}
 use native.Mathlib.Omega.{arith}
 use Rattle.space.proofs.WidthLaws.{answer-narrow}
 use Rattle.space.proofs.blocks.answers_end.Goals as goal

@@ -1,5 +1,4 @@
 -- `space::blocks::subgoals_end` meets its contract.
-use borrow.Author.Rules.{rules}
 use native.Mathlib.Omega.{arith}
 use Rattle.space.proofs.WidthLaws.{subgoal-narrow}
 use Rattle.space.proofs.blocks.subgoals_end.Goals as goal

@@ -1,12 +1,11 @@
 -- `space::fresh::clear` meets its contract.
 use borrow.Author.Rules.{rules}
 use Rattle.space.proofs.FreshCases.{zeros-none, zeros-more, zeros-full}
-use Prim.Native.Nat.{ℕ, ◌≤◌, ◌-◌}
+use Prim.Native.Nat.{ℕ}
 use mathlib.Core.List.{List}
-use mathlib.Core.Path.{◌≡◌, refl, ap, ◌∙◌}
-use lib.ListN.{length, set}
+use mathlib.Core.Path.{refl, ap, ◌∙◌}
+use lib.ListN.{set}
 use native.Mathlib.Omega.{arith}
-use Rattle.space.specs.Fresh.{cleared}
 use Rattle.space.proofs.fresh.clear.Goals as goal
 
 pub loop-i-init : goal.loop-i-init

@@ -1,10 +1,6 @@
-use borrow.Author.Rules.{rules}
-use Rattle.space.proofs.FreshCases.{zeros-none, zeros-more, zeros-full}
-use Prim.Native.Nat.{ℕ, ◌≤◌, ◌-◌}
-use mathlib.Core.List.{List}
-use mathlib.Core.Path.{◌≡◌, refl, ap, ◌∙◌}
-use lib.ListN.{length, set}
-use native.Mathlib.Omega.{arith}
+use Prim.Native.Nat.{◌≤◌, ◌-◌}
+use mathlib.Core.Path.{◌≡◌}
+use lib.ListN.{length}
 use Rattle.space.specs.Fresh.{cleared}
 use Rattle.space.proofs.fresh.clear.Given as goal
 

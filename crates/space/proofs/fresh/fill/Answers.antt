@@ -1,5 +1,4 @@
 -- `space::fresh::fill` meets its contract.
-use borrow.Author.Rules.{rules}
 use Rattle.space.specs.Layout.{sizes_of}
 use Rattle.space.proofs.FreshCases.{fresh-written}
 use native.Mathlib.Omega.{arith}

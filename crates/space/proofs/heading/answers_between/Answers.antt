@@ -1,5 +1,4 @@
 -- `space::heading::answers_between` meets its contract.
-use borrow.Author.Rules.{rules}
 use Rattle.space.proofs.WidthLaws.{answer-narrow}
 use Rattle.space.proofs.heading.answers_between.Goals as goal
 

@@ -1,5 +1,4 @@
 -- `space::heading::subgoals_between` meets its contract.
-use borrow.Author.Rules.{rules}
 use Rattle.space.proofs.WidthLaws.{subgoal-narrow}
 use Rattle.space.proofs.heading.subgoals_between.Goals as goal
 

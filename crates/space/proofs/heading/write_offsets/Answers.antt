@@ -1,7 +1,6 @@
 -- `space::heading::write_offsets` meets its contract.
 use lib.ListN.{length-set}
 use native.Mathlib.Omega.{arith}
-use borrow.Author.Rules.{rules}
 use Rattle.space.proofs.heading.write_offsets.Goals as goal
 
 pub bounds-space-6 : goal.bounds-space-6

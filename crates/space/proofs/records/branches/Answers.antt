@@ -2,7 +2,6 @@
 use mathlib.Core.Path.{◌∙◌}
 use Rattle.basis.proofs.Tests.{told}
 use Rattle.space.proofs.JudgingCases.{and_second, and_none}
-use borrow.Author.Rules.{rules}
 use Rattle.space.proofs.records.branches.Goals as goal
 
 pub returns-then-follows_in : goal.returns-then-follows_in

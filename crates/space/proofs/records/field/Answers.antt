@@ -1,5 +1,4 @@
 -- `space::records::field` meets its contract.
-use borrow.Author.Rules.{rules}
 use Rattle.space.proofs.records.field.Goals as goal
 
 pub returns : goal.returns

@@ -2,7 +2,6 @@
 use mathlib.Core.Path.{sym, ◌∙◌}
 use Rattle.basis.proofs.Tests.{told}
 use Rattle.space.proofs.JudgingCases.{node-halves, node-unsound-below}
-use borrow.Author.Rules.{rules}
 use Rattle.space.proofs.records.node_sound.Goals as goal
 
 pub returns-then-branches : goal.returns-then-branches

@@ -1,5 +1,4 @@
 -- `space::records::write_answer` meets its contract.
-use borrow.Author.Rules.{rules}
 use Prim.Native.Nat.{ℕ}
 use Rattle.space.specs.Layout.{answer_to}
 use Rattle.space.proofs.FieldLaws.{record-written}

@@ -4,7 +4,6 @@ use Prim.Native.Nat.{ℕ}
 use Rattle.space.specs.Layout.{node_to}
 use Rattle.space.proofs.FieldLaws.{record-written}
 use native.Mathlib.Omega.{arith}
-use borrow.Author.Rules.{rules}
 use Rattle.space.proofs.records.write_node.Goals as goal
 
 pub offset_bounds-space-at : goal.offset_bounds-space-at

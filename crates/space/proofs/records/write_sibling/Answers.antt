@@ -1,5 +1,4 @@
 -- `space::records::write_sibling` meets its contract.
-use borrow.Author.Rules.{rules}
 use Rattle.space.proofs.FieldLaws.{field-written}
 use Rattle.space.proofs.records.write_sibling.Goals as goal
 

@@ -1,5 +1,4 @@
 -- `space::records::write_state` meets its contract.
-use borrow.Author.Rules.{rules}
 use Rattle.space.proofs.FieldLaws.{field-written}
 use Rattle.space.proofs.records.write_state.Goals as goal
 

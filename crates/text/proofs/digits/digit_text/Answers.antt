@@ -1,6 +1,5 @@
 -- `digit_text` meets its contract: a digit, or a letter.
 use borrow.Author.Tests.{lt-ltb, le-ltb}
-use borrow.Author.Rules.{rules}
 use Rattle.text.proofs.digits.digit_text.Goals as goal
 
 pub returns-then-d-lt-DECIMAL : goal.returns-then-d-lt-DECIMAL

@@ -1,13 +1,10 @@
 -- `fill` meets its contract: what is left of the number has its digits before those made so far.
-use Prim.Native.Nat.{◌≤◌, ◌<◌, ◌-◌, ◌^◌, suc}
+use Prim.Native.Nat.{◌-◌, suc}
 use mathlib.Core.Path.{◌≡◌, sym, ◌∙◌}
 use native.Mathlib.Nat.{mod-lt}
 use native.Mathlib.Omega.{arith}
-use borrow.Author.Rules.{rules}
-use borrow.Author.Tests.{not-false}
-use lib.ListN.{length, drop, length-set}
-use Rattle.text.specs.Digits.{digits, digits_before}
-use Rattle.text.proofs.DigitsLaws.{not_made, place-left, fill_start, fill-next, digits-end, quotient-below}
+use lib.ListN.{drop, length-set}
+use Rattle.text.proofs.DigitsLaws.{place-left, fill_start, fill-next, digits-end, quotient-below}
 use Rattle.text.proofs.digits.fill.Goals as goal
 
 pub loop-i-init : goal.loop-i-init

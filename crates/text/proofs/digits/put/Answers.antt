@@ -1,9 +1,7 @@
 -- `put` meets its contract: the bytes passed are put.
-use Prim.Native.Nat.{◌≤◌, ◌-◌}
-use mathlib.Core.Path.{◌≡◌, refl}
+use mathlib.Core.Path.{refl}
 use native.Mathlib.Omega.{arith}
-use lib.ListN.{length, take, length-set}
-use lib.Seq.{sets}
+use lib.ListN.{length-set}
 use Rattle.text.proofs.DigitsLaws.{puts-next, puts-all}
 use Rattle.text.proofs.digits.put.Goals as goal
 

@@ -1,9 +1,7 @@
 use Prim.Native.Nat.{◌≤◌, ◌-◌}
-use mathlib.Core.Path.{◌≡◌, refl}
-use native.Mathlib.Omega.{arith}
-use lib.ListN.{length, take, length-set}
+use mathlib.Core.Path.{◌≡◌}
+use lib.ListN.{length, take}
 use lib.Seq.{sets}
-use Rattle.text.proofs.DigitsLaws.{puts-next, puts-all}
 use Rattle.text.proofs.digits.put.Given as goal
 
 abbrev pub invariant-loop-i : goal.invariant-loop-i

@@ -1,9 +1,7 @@
 -- `put_cells` meets its contract: the cells passed are put, nine bytes for each.
-use Prim.Native.Nat.{◌≤◌, ◌-◌, ◌+◌, ◌*◌}
 use mathlib.Core.Path.{◌≡◌, refl}
 use native.Mathlib.Omega.{arith}
-use lib.ListN.{length, take, get_or}
-use Rattle.text.specs.Digits.{cell_texts, Puts}
+use lib.ListN.{get_or}
 use Rattle.text.proofs.DigitsLaws.{cell-length, cells-next, cells-none}
 use Rattle.text.proofs.digits.put_cells.Goals as goal
 

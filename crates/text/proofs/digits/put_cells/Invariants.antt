@@ -1,9 +1,7 @@
 use Prim.Native.Nat.{◌≤◌, ◌-◌, ◌+◌, ◌*◌}
-use mathlib.Core.Path.{◌≡◌, refl}
-use native.Mathlib.Omega.{arith}
-use lib.ListN.{length, take, get_or}
+use mathlib.Core.Path.{◌≡◌}
+use lib.ListN.{length, take}
 use Rattle.text.specs.Digits.{cell_texts, Puts}
-use Rattle.text.proofs.DigitsLaws.{cell-length, cells-next, cells-none}
 use Rattle.text.proofs.digits.put_cells.Given as goal
 
 abbrev pub invariant-loop-i : goal.invariant-loop-i

@@ -2,7 +2,6 @@
 use mathlib.Core.List.{◌∷◌}
 use Rattle.text.specs.Digits.{decimal_text}
 use Rattle.text.proofs.DigitsLaws.{puts-append}
-use borrow.Author.Rules.{rules}
 use Rattle.text.proofs.digits.put_numbered.Goals as goal
 
 pub returns : goal.returns

@@ -1,7 +1,6 @@
 -- `digit_of` meets its contract.
 use lib.Dec.{leb}
 use native.Mathlib.Omega.{arith}
-use borrow.Author.Rules.{rules}
 use borrow.Author.Tests.{leb-true}
 use Rattle.basis.proofs.Tests.{told}
 use Rattle.text.proofs.FieldsLaws.{and_first, digit_low, digit-high, digit-none}

@@ -1,13 +1,9 @@
-use Prim.Native.Nat.{◌+◌, ◌-◌, ◌≤◌}
+use Prim.Native.Nat.{◌-◌, ◌≤◌}
 use mathlib.Core.List.{◌++◌}
-use mathlib.Core.Path.{◌≡◌, refl, sym, ◌∙◌}
-use native.Mathlib.Omega.{arith}
+use mathlib.Core.Path.{◌≡◌}
 use lib.ListN.{length, take}
-use borrow.Author.Rules.{rules}
-use Rattle.basis.proofs.Tests.{told}
 use Rattle.text.specs.Fields.{fields}
 use Rattle.text.specs.Places.{field_at, rest_at}
-use Rattle.text.proofs.FieldsLaws.{field-more, field-over, first_step, first-whole}
 use Rattle.text.proofs.fields.first_end.Given as goal
 
 abbrev pub invariant-loop-i : goal.invariant-loop-i

@@ -1,5 +1,4 @@
 -- `in_field` meets its contract.
-use borrow.Author.Rules.{rules}
 use borrow.Author.Tests.{lt-ltb, le-ltb}
 use Rattle.text.proofs.FieldsLaws.{and-holds, and-fails}
 use Rattle.text.proofs.fields.in_field.Goals as goal

@@ -1,9 +1,6 @@
 -- `is_word` meets its contract.
-use Prim.Native.Nat.{◌-◌, ◌≤◌}
-use mathlib.Core.Path.{◌≡◌, refl}
+use mathlib.Core.Path.{refl}
 use native.Mathlib.Omega.{arith}
-use lib.ListN.{length, drop}
-use Rattle.forms.specs.Compact.{same}
 use Rattle.text.proofs.FieldsLaws.{same-longer, same_step, same-apart, same_over}
 use Rattle.text.proofs.fields.is_word.Goals as goal
 

@@ -1,9 +1,7 @@
 use Prim.Native.Nat.{◌-◌, ◌≤◌}
-use mathlib.Core.Path.{◌≡◌, refl}
-use native.Mathlib.Omega.{arith}
+use mathlib.Core.Path.{◌≡◌}
 use lib.ListN.{length, drop}
 use Rattle.forms.specs.Compact.{same}
-use Rattle.text.proofs.FieldsLaws.{same-longer, same_step, same-apart, same_over}
 use Rattle.text.proofs.fields.is_word.Given as goal
 
 abbrev pub invariant-loop-i : goal.invariant-loop-i

@@ -1,7 +1,6 @@
 -- `only_number` meets its contract.
 use mathlib.Core.Path.{sym, ◌∙◌}
 use native.Mathlib.Omega.{arith}
-use borrow.Author.Rules.{rules}
 use Rattle.text.specs.Places.{rest_at}
 use Rattle.text.proofs.FieldsLaws.{place_end, rest-next, only-right, only-many, only_none}
 use Rattle.text.proofs.fields.only_number.Goals as goal

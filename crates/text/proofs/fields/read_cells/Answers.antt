@@ -1,12 +1,10 @@
 -- `read_cells` meets its contract: the cells read come before those still to be read.
-use Prim.Native.Nat.{◌*◌, ◌-◌, ◌≤◌}
-use mathlib.Core.Path.{◌≡◌, refl}
+use mathlib.Core.Path.{refl}
 use native.Mathlib.Omega.{arith}
-use lib.ListN.{length, take, length-set}
-use borrow.Author.Rules.{rules}
+use lib.ListN.{length-set}
 use Rattle.text.specs.Fields.{hex_cells}
-use Rattle.text.specs.Places.{rest_at, FieldEnds}
-use Rattle.text.proofs.FieldsLaws.{prepend, prepend-none, cells-step, cells_over, cells-refused}
+use Rattle.text.specs.Places.{rest_at}
+use Rattle.text.proofs.FieldsLaws.{prepend-none, cells-step, cells_over, cells-refused}
 use Rattle.text.proofs.fields.read_cells.Goals as goal
 
 pub loop-i-init : goal.loop-i-init

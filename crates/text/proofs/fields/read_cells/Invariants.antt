@@ -1,11 +1,9 @@
 use Prim.Native.Nat.{◌*◌, ◌-◌, ◌≤◌}
-use mathlib.Core.Path.{◌≡◌, refl}
-use native.Mathlib.Omega.{arith}
-use lib.ListN.{length, take, length-set}
-use borrow.Author.Rules.{rules}
+use mathlib.Core.Path.{◌≡◌}
+use lib.ListN.{length, take}
 use Rattle.text.specs.Fields.{hex_cells}
 use Rattle.text.specs.Places.{rest_at, FieldEnds}
-use Rattle.text.proofs.FieldsLaws.{prepend, prepend-none, cells-step, cells_over, cells-refused}
+use Rattle.text.proofs.FieldsLaws.{prepend}
 use Rattle.text.proofs.fields.read_cells.Given as goal
 
 abbrev pub invariant-loop-i : goal.invariant-loop-i

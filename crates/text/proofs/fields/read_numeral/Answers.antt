@@ -1,11 +1,9 @@
 -- `read_numeral` meets its contract.
 use Prim.Native.Nat.{◌+◌, ◌-◌}
-use mathlib.Core.Path.{◌≡◌, sym, ◌∙◌}
+use mathlib.Core.Path.{sym, ◌∙◌}
 use native.Mathlib.Omega.{arith}
-use lib.ListN.{length}
-use borrow.Author.Rules.{rules}
 use Rattle.basis.proofs.Tests.{told}
-use Rattle.text.proofs.FieldsLaws.{Reading, field-more, field-over, hex-room-seven, product-most, first-none, first-numeral, first-behind, reading-starts, reading-digit, reading-bad, reading-long, reading-short, reading-done}
+use Rattle.text.proofs.FieldsLaws.{field-more, field-over, hex-room-seven, product-most, first-none, first-numeral, first-behind, reading-starts, reading-digit, reading-bad, reading-long, reading-short, reading-done}
 use Rattle.text.proofs.fields.read_numeral.Goals as goal
 
 pub returns-then-line-at : goal.returns-then-line-at

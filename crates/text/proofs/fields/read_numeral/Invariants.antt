@@ -1,10 +1,7 @@
 use Prim.Native.Nat.{◌+◌, ◌-◌}
-use mathlib.Core.Path.{◌≡◌, sym, ◌∙◌}
-use native.Mathlib.Omega.{arith}
+use mathlib.Core.Path.{◌≡◌}
 use lib.ListN.{length}
-use borrow.Author.Rules.{rules}
-use Rattle.basis.proofs.Tests.{told}
-use Rattle.text.proofs.FieldsLaws.{Reading, field-more, field-over, hex-room-seven, product-most, first-none, first-numeral, first-behind, reading-starts, reading-digit, reading-bad, reading-long, reading-short, reading-done}
+use Rattle.text.proofs.FieldsLaws.{Reading}
 use Rattle.text.proofs.fields.read_numeral.Given as goal
 
 abbrev pub invariant-loop-d : goal.invariant-loop-d

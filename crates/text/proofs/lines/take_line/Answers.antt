@@ -1,10 +1,7 @@
 -- `take_line` meets its contract: at each turn, what is left to take comes to what the whole does.
-use Prim.Native.Nat.{◌-◌}
-use mathlib.Core.Path.{◌≡◌, refl, ◌∙◌}
+use mathlib.Core.Path.{refl, ◌∙◌}
 use native.Mathlib.Omega.{arith}
-use lib.ListN.{length, drop}
 use borrow.Author.Rules.{rules}
-use Rattle.text.specs.Cutting.{taking}
 use Rattle.text.proofs.CuttingLaws.{in-range, step-over, step_end, step-turn}
 use Rattle.text.proofs.lines.take_line.Goals as goal
 

@@ -1,10 +1,7 @@
 use Prim.Native.Nat.{◌-◌}
-use mathlib.Core.Path.{◌≡◌, refl, ◌∙◌}
-use native.Mathlib.Omega.{arith}
+use mathlib.Core.Path.{◌≡◌}
 use lib.ListN.{length, drop}
-use borrow.Author.Rules.{rules}
 use Rattle.text.specs.Cutting.{taking}
-use Rattle.text.proofs.CuttingLaws.{in-range, step-over, step_end, step-turn}
 use Rattle.text.proofs.lines.take_line.Given as goal
 
 abbrev pub invariant-loop-i : goal.invariant-loop-i

@@ -1,6 +1,5 @@
 -- `trie::appends::append_node` meets its contract.
 use Rattle.trie.proofs.AppendCases.{node-appended}
-use Rattle.std.proofs.Common.{rules}
 use Rattle.trie.proofs.appends.append_node.Goals as goal
 
 pub returns : goal.returns

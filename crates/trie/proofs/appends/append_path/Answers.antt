@@ -1,8 +1,6 @@
 -- `trie::appends::append_path` meets its contract.
-use Rattle.trie.proofs.AppendCases.{Growth, growth-begin, growth-end, growth-more}
-use Rattle.trie.specs.Append.{append_path}
-use Rattle.space.specs.Layout.{sizes}
-use Rattle.std.proofs.Common.{◌-◌, length, arith, rules}
+use Rattle.trie.proofs.AppendCases.{growth-begin, growth-end, growth-more}
+use Rattle.std.proofs.Common.{arith, rules}
 use Rattle.trie.proofs.appends.append_path.Goals as goal
 
 pub loop-i-init : goal.loop-i-init

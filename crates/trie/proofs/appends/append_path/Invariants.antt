@@ -1,7 +1,7 @@
-use Rattle.trie.proofs.AppendCases.{Growth, growth-begin, growth-end, growth-more}
+use Rattle.trie.proofs.AppendCases.{Growth}
 use Rattle.trie.specs.Append.{append_path}
 use Rattle.space.specs.Layout.{sizes}
-use Rattle.std.proofs.Common.{◌-◌, length, arith, rules}
+use Rattle.std.proofs.Common.{◌-◌, length}
 use Rattle.trie.proofs.appends.append_path.Given as goal
 
 abbrev pub invariant-loop-i : goal.invariant-loop-i

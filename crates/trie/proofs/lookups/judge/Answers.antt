@@ -1,7 +1,7 @@
 -- `trie::lookups::judge` meets its contract.
 use Rattle.basis.proofs.Tests.{told}
 use Rattle.trie.proofs.TurnCases.{judge-damaged, judge-sound}
-use Rattle.std.proofs.Common.{sym, ◌∙◌, rules}
+use Rattle.std.proofs.Common.{sym, ◌∙◌}
 use Rattle.trie.proofs.lookups.judge.Goals as goal
 
 pub returns-in_default : goal.returns-in_default

@@ -1,6 +1,6 @@
 -- `trie::paths::climb_runs` meets its contract. The number to go on from falls, and with it the node's.
 use Rattle.trie.proofs.PathCases.{run-falls, run_on, runs-whole, runs-lost, runs_last, runs-next}
-use Rattle.std.proofs.Common.{ℕ, ◌<◌, refl, arith, rules}
+use Rattle.std.proofs.Common.{refl, arith, rules}
 use Rattle.trie.proofs.paths.+climb_runs.Goals as goal
 
 pub overflow_sub-from : goal.overflow_sub-from

@@ -1,5 +1,5 @@
 -- `trie::paths::copy_run` meets its contract: at each turn the cells from the i-th on are copied.
-use Rattle.std.proofs.Common.{◌≡◌, ℕ, ◌+◌, ◌-◌, ◌≤◌, ◌++◌, length, drop, refl, ap, ◌∙◌, arith, length-set}
+use Rattle.std.proofs.Common.{◌≡◌, ℕ, ◌+◌, ◌-◌, ◌++◌, drop, refl, ap, ◌∙◌, arith, length-set}
 use Rattle.trie.specs.Runs.{levels}
 use Rattle.trie.proofs.PathCases.{copied-step, copied_none}
 use Rattle.trie.proofs.paths.copy_run.Goals as goal

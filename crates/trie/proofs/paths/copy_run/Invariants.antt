@@ -1,6 +1,5 @@
-use Rattle.std.proofs.Common.{◌≡◌, ℕ, ◌+◌, ◌-◌, ◌≤◌, ◌++◌, length, drop, refl, ap, ◌∙◌, arith, length-set}
+use Rattle.std.proofs.Common.{◌≡◌, ◌+◌, ◌≤◌, ◌++◌, length, drop}
 use Rattle.trie.specs.Runs.{levels}
-use Rattle.trie.proofs.PathCases.{copied-step, copied_none}
 use Rattle.trie.proofs.paths.copy_run.Given as goal
 
 abbrev pub invariant-loop-i : goal.invariant-loop-i

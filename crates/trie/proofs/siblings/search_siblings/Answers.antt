@@ -1,8 +1,7 @@
 -- `trie::siblings::search_siblings` meets its contract.
-use Rattle.std.proofs.Common.{◌≡◌, ◌-◌, arith, rules}
+use Rattle.std.proofs.Common.{◌≡◌, arith, rules}
 use Rattle.basis.proofs.Tests.{told}
-use Rattle.trie.proofs.SearchCases.{Chain, chain-begin, chain-damaged, chain-stray, chain-found, chain-last, chain_next}
-use Rattle.trie.specs.Siblings.{trie_in, search_siblings}
+use Rattle.trie.proofs.SearchCases.{chain-begin, chain-damaged, chain-stray, chain-found, chain-last, chain_next}
 use Rattle.space.specs.Layout.{sizes, node_in}
 use Rattle.space.specs.Judging.{read_node}
 use Rattle.space.specs.declared.NodeRead.TheVariants as node

@@ -1,7 +1,6 @@
 -- `trie::slots::used_slots` meets its contract.
 use Rattle.trie.proofs.SlotLaws.{used_all, used-none}
 use Rattle.basis.proofs.Tests.{told}
-use Rattle.std.proofs.Common.{rules}
 use Rattle.trie.proofs.slots.used_slots.Goals as goal
 
 pub returns-then-is_power_of_two : goal.returns-then-is_power_of_two

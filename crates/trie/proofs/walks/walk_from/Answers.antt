@@ -1,12 +1,8 @@
 -- `trie::walks::walk_from` meets its contract.
 use Rattle.basis.proofs.Tests.{told}
-use Rattle.trie.proofs.WalkCases.{Descent, descent-begin, descent-whole, descent-last, descent-damaged, descent-found}
-use Rattle.trie.specs.Walks.{walk_from_by}
-use Rattle.trie.specs.Index.{search_indexed}
+use Rattle.trie.proofs.WalkCases.{descent-begin, descent-whole, descent-last, descent-damaged, descent-found}
 use Rattle.trie.proofs.IndexLaws.{indexes-find}
-use Rattle.trie.specs.Siblings.{trie_in}
-use Rattle.space.specs.Layout.{sizes}
-use Rattle.std.proofs.Common.{◌-◌, length, arith, rules}
+use Rattle.std.proofs.Common.{arith, rules}
 use Rattle.trie.proofs.walks.walk_from.Goals as goal
 
 pub loop-i-init : goal.loop-i-init

@@ -1,11 +1,9 @@
-use Rattle.basis.proofs.Tests.{told}
-use Rattle.trie.proofs.WalkCases.{Descent, descent-begin, descent-whole, descent-last, descent-damaged, descent-found}
+use Rattle.trie.proofs.WalkCases.{Descent}
 use Rattle.trie.specs.Walks.{walk_from_by}
 use Rattle.trie.specs.Index.{search_indexed}
-use Rattle.trie.proofs.IndexLaws.{indexes-find}
 use Rattle.trie.specs.Siblings.{trie_in}
 use Rattle.space.specs.Layout.{sizes}
-use Rattle.std.proofs.Common.{◌-◌, length, arith, rules}
+use Rattle.std.proofs.Common.{◌-◌, length}
 use Rattle.trie.proofs.walks.walk_from.Given as goal
 
 abbrev pub invariant-loop-i : goal.invariant-loop-i

@@ -13,7 +13,6 @@ use Rattle.words.proofs.detours.detours_result.Goals as goal
 pub returns-then-out-lt-DETOUR_CELLS : goal.returns-then-out-lt-DETOUR_CELLS
 unfolding word
 returns-then-out-lt-DETOUR_CELLS c =
-    
     detours-short (said_detours c.args.answer) c.args.out.now _ _
     (ap (λ (x : DetourOutcome). said_outcome x (take c.args.answer.count c.args.answer.numbers))
     (sym c.in-Found.is)) (search rules) c.result_word.ensures
@@ -21,7 +20,6 @@ returns-then-out-lt-DETOUR_CELLS c =
 pub returns-in-Found : goal.returns-in-Found
 unfolding word
 returns-in-Found c =
-    
     detours-found (said_detours c.args.answer) c.args.out.now _
     c.in-Found.total
     c.in-Found.tried
@@ -35,7 +33,6 @@ returns-in-Found c =
 pub returns-then-out-lt-DETOUR_CELLS-2 : goal.returns-then-out-lt-DETOUR_CELLS-2
 unfolding word
 returns-then-out-lt-DETOUR_CELLS-2 c =
-    
     detours-short (said_detours c.args.answer) c.args.out.now _ _
     (ap (λ (x : DetourOutcome). said_outcome x (take c.args.answer.count c.args.answer.numbers))
     (sym c.in-Nothing.is)) (search rules) c.result_word-then-out-lt-DETOUR_CELLS-2.ensures
@@ -43,7 +40,6 @@ returns-then-out-lt-DETOUR_CELLS-2 c =
 pub returns-in-Nothing : goal.returns-in-Nothing
 unfolding word
 returns-in-Nothing c =
-    
     detours-none (said_detours c.args.answer) c.args.out.now _
     c.in-Nothing.tried
     c.in-Nothing.ended
@@ -53,7 +49,6 @@ returns-in-Nothing c =
 
 pub refusal_word-requires : goal.refusal_word-requires
 refusal_word-requires c =
-    
     let h = given-bounded
     (ap (λ (x : DetourOutcome). said_outcome x (take c.args.answer.count c.args.answer.numbers)) (sym c.in-Refused.is))
     c.requires in
@@ -62,7 +57,6 @@ refusal_word-requires c =
 pub returns-in-Refused : goal.returns-in-Refused
 unfolding word
 returns-in-Refused c =
-    
     detours-refused (said_detours c.args.answer) c.args.out.now _ _
     (ap (λ (x : DetourOutcome). said_outcome x (take c.args.answer.count c.args.answer.numbers))
     (sym c.in-Refused.is)) c.refusal_word.ensures

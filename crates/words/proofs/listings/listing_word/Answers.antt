@@ -3,7 +3,6 @@ use native.Mathlib.Omega.{arith}
 use Rattle.words.specs.Words.{word}
 use Rattle.words.specs.Listings.{word_listing}
 use Rattle.words.proofs.ListingBounds.{listing-word, listing-bounded}
-use borrow.Author.Rules.{rules}
 use Rattle.words.proofs.listings.listing_word.Goals as goal
 
 pub overflow_cast-n : goal.overflow_cast-n

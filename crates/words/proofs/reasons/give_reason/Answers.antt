@@ -9,7 +9,6 @@ use Rattle.store.specs.declared.Reason.TheVariants as reason
 use Rattle.words.specs.Words.{word}
 use Rattle.words.proofs.WordLaws.{given-bounded}
 use Rattle.words.proofs.WhyLaws.{why-refused, why-short, why-given, old-cells, new-cells}
-use borrow.Author.Rules.{rules}
 use Rattle.words.proofs.reasons.give_reason.Goals as goal
 
 pub returns-then-out-lt-WHY_CELLS : goal.returns-then-out-lt-WHY_CELLS
@@ -28,7 +27,6 @@ unfolding word
 returns-in-Old c =
     let old_said_here : because (old_as c.in-Old.s (take c.in-Old.m c.args.answer.variables)) ≡ said_why c.args.answer = sym (ap (λ (r : Reason). said_reason r c.args.answer.variables) c.in-Old.is) in
     let held_here : NamedIn c.args.answer.variables (reason.Old c.in-Old.s c.in-Old.m) = rw c.in-Old.is at c.requires.1.1 in
-    
     why-given _ _ _ _ (old_said_here) _ (omega arith) c.result_word-in-Old.ensures (old-cells _ _ _ _ _ (held_here).0 c.give_variables.ensures)
 
 pub returns-then-out-lt-WHY_CELLS-2 : goal.returns-then-out-lt-WHY_CELLS-2
