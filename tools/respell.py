@@ -13,7 +13,8 @@ outputs keep their names. Beside that:
 - `result` of crate listing is `listed_result`, since `result` is a clause's word for what a function returns; with
   that its clauses lose their `λ r.`, which port.py had to leave.
 
-The pages and the must-fail edits are respelled too, by the same names alone.
+README.md, docs/*.md and the must-fail edits are respelled too, by the same names alone; docs/changes keeps the names of its
+time. What port.py itself respelled is left as it made it.
 """
 import glob
 import os
@@ -104,6 +105,8 @@ def moments(text):
 
 
 def main():
+    if not os.path.exists('crates/basis/specs/Moments.antt'):
+        raise SystemExit('respell.py: it has run here: nothing was changed')
     texts = {path: read(path) for path in sources()}
     names = own_names(texts)
     # the lemmas first, while definitions still have the other spelling

@@ -22,7 +22,8 @@ CellsAlike z step y other =
 -- the calls of the code on spaces of two editions
 abbrev pub EditionsAlike : (e i : ℕ) → Type 0
 EditionsAlike e i =
-    (n k f a : ℕ) (s r : List ℕ) (qs : List Request) → fresh_answer_in e n f a s ≡ Done → fresh_answer_in i k f a r ≡ Done
+    (n k f a : ℕ) (s r : List ℕ) (qs : List Request) → fresh_answer_in e n f a s ≡ Done
+    → fresh_answer_in i k f a r ≡ Done
     → (let xs = trace space_step counted_cells (fresh_space_in e n f a s) qs in
     let ys = trace space_step counted_cells (fresh_space_in i k f a r) qs in
     up_to_ten xs ys ≡ up_to_ten ys xs)
@@ -30,6 +31,7 @@ EditionsAlike e i =
 -- and every two histories of equal lists of calls, each call meeting its contract, alone or with an index of any cells
 abbrev pub HistoriesAlike : (e i : ℕ) → Type 0
 HistoriesAlike e i =
-    (n k f a : ℕ) (s r : List ℕ) (ms ps : List Made) → fresh_answer_in e n f a s ≡ Done → fresh_answer_in i k f a r ≡ Done
+    (n k f a : ℕ) (s r : List ℕ) (ms ps : List Made) → fresh_answer_in e n f a s ≡ Done
+    → fresh_answer_in i k f a r ≡ Done
     → History (fresh_space_in e n f a s) ms → History (fresh_space_in i k f a r) ps → asked ms ≡ asked ps
     → up_to_ten (map seen_of ms) (map seen_of ps) ≡ up_to_ten (map seen_of ps) (map seen_of ms)

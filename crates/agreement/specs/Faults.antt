@@ -1,7 +1,8 @@
 -- What is broken in a space that does not pass: the first thing that the check meets, in its own order: the header;
 -- then the nodes, the subgoals and the answers by number, each as Whole.antt tests it; then the chains, where the
 -- first answer is named that they leave out.
-use Rattle.std.specs.Prelude.{ℕ, zero, suc, ◌<◌, ◌≤◌, Bool, true, false, ◌||◌, List, [], ◌∷◌, ◌≡◌, eqb, ltb, length, get_or}
+use Rattle.std.specs.Prelude.{ℕ, zero, suc, ◌<◌, ◌≤◌, Bool, true, false, ◌||◌, List, [], ◌∷◌, ◌≡◌, eqb, ltb, length}
+use Rattle.std.specs.Prelude.{get_or}
 use Rattle.basis.specs.Choice.{pick}
 use Rattle.plain.specs.Coding.{Coding, coding_of}
 use Rattle.space.specs.Layout.{sizes_of, nodes_cell, subgoals_cell, answers_cell}

@@ -54,7 +54,8 @@ seen_of m = record { reply = m.reply; counted = counted_cells m.after; out = m.o
 -- every history of a space for which fresh answered done, in every edition that fresh takes
 abbrev pub Histories : Type 0
 Histories =
-    (e n f a : ℕ) (s : List ℕ) (ms : List Made) → fresh_answer_in e n f a s ≡ Done → History (fresh_space_in e n f a s) ms
+    (e n f a : ℕ) (s : List ℕ) (ms : List Made) → fresh_answer_in e n f a s ≡ Done
+    → History (fresh_space_in e n f a s) ms
     → map seen_of ms ≡ edition_trace e n f a (asked ms)
 
 -- and every history of a space that passes the check, whoever wrote it: the table is the one that it says

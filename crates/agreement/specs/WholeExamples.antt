@@ -20,7 +20,8 @@ use Rattle.trie.specs.Siblings.{search_siblings, search_children}
 use Rattle.trie.specs.Walks.{walk_by, walk_from_by}
 use Rattle.trie.specs.Paths.{gather}
 use Rattle.trie.specs.Append.{lead_cell, append_node, append_path}
-use Rattle.store.specs.Decisions.{answered_new, answered_old, answered_at, answered_by, starting, handed, onward, decide_by}
+use Rattle.store.specs.Decisions.{answered_new, answered_old, answered_at, answered_by, starting, handed, onward}
+use Rattle.store.specs.Decisions.{decide_by}
 use Rattle.store.specs.Decisions.{firsts_from, named_by, new_at, reasoned_at, reasoned_by}
 use Rattle.store.specs.Changes.{answer_entered, change_by}
 use Rattle.store.specs.Calls.{reply, out_after, under_by, under_any_by, space_step, space_step_by, counted_cells}
@@ -138,14 +139,14 @@ Crossed =
 
 pub crossing : Crossed
 unfolding up_to whole_space whole_any whole_under whole_view chains chain answer_whole subgoal_whole led_up first_leaf
-    ends_whole node_whole link_whole child_whole root_whole every_below trace lent in_range capacity counted known_edition
-    header_of space_header subgoal_width answer_width follows node_sound both_or_neither subgoal_sound answer_sound
-    search_siblings search_children walk_from_by walk_by gather lead_cell append_node append_path answered_new answered_old
-    answered_at answered_by starting handed onward decide_by answer_entered change_by reply out_after under_by under_any_by
-    space_step_by are_forms legal_form judged naming handed_on reading callable predicate taken stored_of compact_form are_terms
-    pair_form form_terms front symbolic token_of items entered filled last_of tail_of into inside collected reads begun
-    applied paired shape_of arity_of every compact elements pairs numbered renamed met seen rank same whole firsts_from
-    named_by new_at reasoned_at reasoned_by
+    ends_whole node_whole link_whole child_whole root_whole every_below trace lent in_range capacity counted
+    known_edition header_of space_header subgoal_width answer_width follows node_sound both_or_neither subgoal_sound
+    answer_sound search_siblings search_children walk_from_by walk_by gather lead_cell append_node append_path
+    answered_new answered_old answered_at answered_by starting handed onward decide_by answer_entered change_by reply
+    out_after under_by under_any_by space_step_by are_forms legal_form judged naming handed_on reading callable
+    predicate taken stored_of compact_form are_terms pair_form form_terms front symbolic token_of items entered filled
+    last_of tail_of into inside collected reads begun applied paired shape_of arity_of every compact elements pairs
+    numbered renamed met seen rank same whole firsts_from named_by new_at reasoned_at reasoned_by
 crossing = (refl, refl, refl, refl)
 
 -- unchained loses answer 2, and unlisted takes an answer that it holds for new: neither refuses, and neither passes
@@ -168,13 +169,14 @@ Checked =
 
 pub checked : Checked
 unfolding up_to whole_space whole_any whole_under whole_view chains chain answer_whole subgoal_whole led_up first_leaf
-    ends_whole node_whole link_whole child_whole root_whole every_below trace lent in_range capacity counted known_edition
-    header_of space_header subgoal_width answer_width follows node_sound both_or_neither subgoal_sound answer_sound
-    search_siblings search_children walk_from_by walk_by gather lead_cell append_node append_path answered_new answered_old
-    answered_at answered_by starting handed onward decide_by answer_entered change_by reply out_after under_by under_any_by
-    space_step_by are_forms legal_form judged naming handed_on reading callable predicate taken stored_of compact_form are_terms
-    pair_form form_terms front symbolic token_of items entered filled last_of tail_of into inside collected reads begun
-    applied paired shape_of arity_of every compact elements pairs numbered renamed met seen rank same whole
+    ends_whole node_whole link_whole child_whole root_whole every_below trace lent in_range capacity counted
+    known_edition header_of space_header subgoal_width answer_width follows node_sound both_or_neither subgoal_sound
+    answer_sound search_siblings search_children walk_from_by walk_by gather lead_cell append_node append_path
+    answered_new answered_old answered_at answered_by starting handed onward decide_by answer_entered change_by reply
+    out_after under_by under_any_by space_step_by are_forms legal_form judged naming handed_on reading callable
+    predicate taken stored_of compact_form are_terms pair_form form_terms front symbolic token_of items entered filled
+    last_of tail_of into inside collected reads begun applied paired shape_of arity_of every compact elements pairs
+    numbered renamed met seen rank same whole
 checked = (refl, refl, refl, refl, refl, refl, refl, refl, refl, refl, refl, refl, refl, refl)
 
 -- what is broken in them
@@ -192,15 +194,15 @@ FirstBroken =
     × (fault_of (in_edition 3 (fun 16 1)) ≡ heading)
 
 pub first-broken : FirstBroken
-unfolding fault_of fault_under fault_in first_failing chained among whole_space whole_any whole_under whole_view chains chain
-    answer_whole subgoal_whole led_up first_leaf ends_whole node_whole link_whole child_whole root_whole every_below trace lent
-    in_range capacity counted known_edition header_of space_header subgoal_width answer_width follows node_sound both_or_neither
-    subgoal_sound answer_sound search_siblings search_children walk_from_by walk_by gather lead_cell append_node append_path
-    answered_new answered_old answered_at answered_by starting handed onward decide_by answer_entered change_by reply out_after
-    under_by under_any_by space_step_by are_forms legal_form judged naming handed_on reading callable predicate taken stored_of
-    compact_form are_terms pair_form form_terms front symbolic token_of items entered filled last_of tail_of into inside
-    collected reads begun applied paired shape_of arity_of every compact elements pairs numbered renamed met seen rank
-    same whole
+unfolding fault_of fault_under fault_in first_failing chained among whole_space whole_any whole_under whole_view chains
+    chain answer_whole subgoal_whole led_up first_leaf ends_whole node_whole link_whole child_whole root_whole
+    every_below trace lent in_range capacity counted known_edition header_of space_header subgoal_width answer_width
+    follows node_sound both_or_neither subgoal_sound answer_sound search_siblings search_children walk_from_by walk_by
+    gather lead_cell append_node append_path answered_new answered_old answered_at answered_by starting handed onward
+    decide_by answer_entered change_by reply out_after under_by under_any_by space_step_by are_forms legal_form judged
+    naming handed_on reading callable predicate taken stored_of compact_form are_terms pair_form form_terms front
+    symbolic token_of items entered filled last_of tail_of into inside collected reads begun applied paired shape_of
+    arity_of every compact elements pairs numbered renamed met seen rank same whole
 first-broken = (refl, refl, refl, refl, refl, refl, refl, refl, refl, refl)
 
 -- answer 1 is followed by itself; and four answers, the first followed by the fourth, and the third by itself: answer 3
@@ -239,12 +241,13 @@ TwoBroken =
     × (fault_of (set strayed 62 4) ≡ faults.answer 2)
 
 pub two-broken : TwoBroken
-unfolding fault_of fault_under fault_in first_failing chained among chains chain answer_whole subgoal_whole led_up first_leaf
-    ends_whole node_whole link_whole child_whole root_whole in_range capacity counted known_edition header_of space_header
-    subgoal_width answer_width follows node_sound both_or_neither subgoal_sound answer_sound search_siblings search_children
-    walk_from_by walk_by gather are_forms legal_form judged naming callable predicate stored_of compact_form are_terms pair_form
-    form_terms front symbolic token_of items entered filled last_of tail_of into inside collected reads begun applied paired
-    shape_of arity_of every compact elements pairs numbered renamed met seen rank same whole
+unfolding fault_of fault_under fault_in first_failing chained among chains chain answer_whole subgoal_whole led_up
+    first_leaf ends_whole node_whole link_whole child_whole root_whole in_range capacity counted known_edition header_of
+    space_header subgoal_width answer_width follows node_sound both_or_neither subgoal_sound answer_sound
+    search_siblings search_children walk_from_by walk_by gather are_forms legal_form judged naming callable predicate
+    stored_of compact_form are_terms pair_form form_terms front symbolic token_of items entered filled last_of tail_of
+    into inside collected reads begun applied paired shape_of arity_of every compact elements pairs numbered renamed met
+    seen rank same whole
 two-broken = (refl, refl, refl, refl, refl, refl, refl, refl)
 
 -- a finished subgoal knows its own answers: 8 is for those that it lacks, and the last answer is judged (9) before it
@@ -260,11 +263,12 @@ Held =
 
 pub held : Held
 unfolding up_to whole_space whole_any whole_under whole_view chains chain answer_whole subgoal_whole led_up first_leaf
-    ends_whole node_whole link_whole child_whole root_whole every_below trace lent in_range capacity counted known_edition
-    header_of space_header subgoal_width answer_width follows node_sound both_or_neither subgoal_sound answer_sound
-    search_siblings search_children walk_from_by walk_by gather lead_cell append_node append_path answered_new answered_old
-    answered_at answered_by starting handed onward decide_by answer_entered change_by reply out_after under_by under_any_by
-    space_step_by are_forms legal_form judged naming handed_on reading callable predicate taken stored_of compact_form are_terms
-    pair_form form_terms front symbolic token_of items entered filled last_of tail_of into inside collected reads begun
-    applied paired shape_of arity_of every compact elements pairs numbered renamed met seen rank same whole
+    ends_whole node_whole link_whole child_whole root_whole every_below trace lent in_range capacity counted
+    known_edition header_of space_header subgoal_width answer_width follows node_sound both_or_neither subgoal_sound
+    answer_sound search_siblings search_children walk_from_by walk_by gather lead_cell append_node append_path
+    answered_new answered_old answered_at answered_by starting handed onward decide_by answer_entered change_by reply
+    out_after under_by under_any_by space_step_by are_forms legal_form judged naming handed_on reading callable
+    predicate taken stored_of compact_form are_terms pair_form form_terms front symbolic token_of items entered filled
+    last_of tail_of into inside collected reads begun applied paired shape_of arity_of every compact elements pairs
+    numbered renamed met seen rank same whole
 held = (refl, refl, refl, refl, refl, refl)

@@ -107,7 +107,8 @@ module _ (e d : ℕ) (r : Recoding) (n f a : ℕ) where
 
   -- the target after it: every cell as it was where the copy is refused
   unfoldable pub copy_space : List ℕ → List ℕ → List ℕ
-  copy_space source target = where_done (copy_reply source target) (copy_built source target (space_header source)) target
+  copy_space source target =
+      where_done (copy_reply source target) (copy_built source target (space_header source)) target
 
 -- Q-8: from edition 1 into edition 2
 abbrev pub carry_reply : (n f a : ℕ) → List ℕ → List ℕ → FreshAnswer

@@ -126,16 +126,16 @@ CopyExamples =
 
 pub examples : CopyExamples
 unfolding led_up first_leaf copy_space copy_built copy_reply copy_under built states_given answers_given subgoals_given
-    subgoal_given source_loads answer_loads subgoal_loads none_alike all_different carrying holdable takes_table takes_words
-    takes_word name_fits wider up_to whole_space whole_any whole_under whole_view chains chain answer_whole subgoal_whole
-    ends_whole node_whole link_whole child_whole root_whole every_below in_range capacity counted known_edition header_of
-    space_header fresh_cells fresh_fits fresh_answer fresh_space fresh_answer_in subgoal_width answer_width follows node_sound
-    both_or_neither subgoal_sound answer_sound search_siblings search_children walk_from_by walk_by gather lead_cell append_node
-    append_path called_old called_new called_at called_by answered_new answered_old answered_at subgoal_entered answer_entered
-    answer_given form_given_by change_by are_forms legal_form has add union inits all_inits prefixes distinct answers_to
-    answer_nodes nodes predicate callable pair_form form_terms front symbolic token_of items entered filled last_of tail_of
-    into inside collected shape_of arity_of stored_of every compact elements pairs numbered renamed met seen rank same
-    whole heading.whole
+    subgoal_given source_loads answer_loads subgoal_loads none_alike all_different carrying holdable takes_table
+    takes_words takes_word name_fits wider up_to whole_space whole_any whole_under whole_view chains chain answer_whole
+    subgoal_whole ends_whole node_whole link_whole child_whole root_whole every_below in_range capacity counted
+    known_edition header_of space_header fresh_cells fresh_fits fresh_answer fresh_space fresh_answer_in subgoal_width
+    answer_width follows node_sound both_or_neither subgoal_sound answer_sound search_siblings search_children
+    walk_from_by walk_by gather lead_cell append_node append_path called_old called_new called_at called_by answered_new
+    answered_old answered_at subgoal_entered answer_entered answer_given form_given_by change_by are_forms legal_form
+    has add union inits all_inits prefixes distinct answers_to answer_nodes nodes predicate callable pair_form
+    form_terms front symbolic token_of items entered filled last_of tail_of into inside collected shape_of arity_of
+    stored_of every compact elements pairs numbered renamed met seen rank same whole heading.whole
 examples = (
   refl,
   refl,

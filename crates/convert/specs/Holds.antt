@@ -101,4 +101,5 @@ Expands e m form out = Converts (expanding (stored_of e) m form (length out)) ((
 
 abbrev pub ExpandsIn : (e m : ℕ) (form out : List ℕ) → Answer → List ℕ → Type 0
 ExpandsIn e m form out =
-    Converts (in_edition e (expanding (compact_stored (arity_of e)) m form (length out))) (pair_form (arity_of e) form) out
+    Converts (in_edition e (expanding (compact_stored (arity_of e)) m form (length out)))
+    (pair_form (arity_of e) form) out

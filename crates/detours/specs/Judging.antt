@@ -1,5 +1,6 @@
 -- What judging goals gives: of one path, of one answer, of all answers of a goal, and of all goals.
-use Rattle.std.specs.Prelude.{ℕ, suc, ◌<◌, ◌≤◌, Bool, true, false, ◌&&◌, List, [], ◌∷◌, ◌++◌, ◌≡◌, eqb, leb, length, get_or}
+use Rattle.std.specs.Prelude.{ℕ, suc, ◌<◌, ◌≤◌, Bool, true, false, ◌&&◌, List, [], ◌∷◌, ◌++◌, ◌≡◌, eqb, leb, length}
+use Rattle.std.specs.Prelude.{get_or}
 use Rattle.basis.specs.Choice.{pick}
 use Rattle.forms.specs.Cells.{atomic, integral}
 use Rattle.forms.specs.Stored.{stored_of}
@@ -12,7 +13,8 @@ use Rattle.space.specs.Sound.{subgoal_under}
 use Rattle.space.specs.declared.Head.{Head}
 use Rattle.trie.specs.Paths.{Path, none, tokens}
 use Rattle.store.specs.Clauses.{view_in}
-use Rattle.store.specs.Decisions.{says, refuses, state_of, sound_subgoal, Lives, severed, lives, lives_behind, lives_from}
+use Rattle.store.specs.Decisions.{says, refuses, state_of, sound_subgoal, Lives, severed, lives, lives_behind}
+use Rattle.store.specs.Decisions.{lives_from}
 use Rattle.store.specs.Decisions.{lives_of, goals_in, detours_in}
 use Rattle.detours.specs.Searching.{Searched, answers_in, goals_from}
 use Rattle.detours.specs.declared.Judged.{Judged}
@@ -128,7 +130,8 @@ pub record GoalSound (cs : List ℕ) (h : Head) (s : ℕ) : Type 0 where
 abbrev pub GoalTold : List ℕ → Head → ℕ → GoalJudged → Type 0
 GoalTold cs h s goal.Damaged = GoalSevered cs h s
 GoalTold cs h s (goal.Sound o b) =
-    GoalSound cs h s × (is_open (state_of (subgoal_under cs h s).state) ≡ o) × (goal_fits cs h s (answers_in cs h s) ≡ b)
+    GoalSound cs h s × (is_open (state_of (subgoal_under cs h s).state) ≡ o)
+    × (goal_fits cs h s (answers_in cs h s) ≡ b)
 
 -- ---- all goals
 

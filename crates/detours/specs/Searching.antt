@@ -1,6 +1,7 @@
 -- The search for detours on cells: what a goal's answers offer, the cells that the search works in, and what each
 -- function asks of them and leaves in them.
-use Rattle.std.specs.Prelude.{ℕ, zero, suc, ◌+◌, ◌*◌, ◌^◌, ◌≤◌, ◌<◌, Bool, true, false, ◌||◌, List, [], ◌∷◌, ◌++◌, map, ◌≡◌, eqb, length, drop, get_or}
+use Rattle.std.specs.Prelude.{ℕ, zero, suc, ◌+◌, ◌*◌, ◌^◌, ◌≤◌, ◌<◌, Bool, true, false, ◌||◌, List, [], ◌∷◌, ◌++◌, map}
+use Rattle.std.specs.Prelude.{◌≡◌, eqb, length, drop, get_or}
 use Rattle.basis.specs.Choice.{pick}
 use Rattle.forms.specs.Cells.{payload}
 use Rattle.plain.specs.Coding.{coding_of}

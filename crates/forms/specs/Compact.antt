@@ -133,5 +133,6 @@ are_forms arity m cs =
 unfoldable pub legal_form : (ℕ → ℕ) → ℕ → List ℕ → Bool
 legal_form arity m cs =
     pick (same cs (numbered cs))
-    (pick (leb (length (met [] cs)) 32) (pick (are_forms arity m cs) (leb (length (pair_form arity cs)) 256) false) false)
+    (pick (leb (length (met [] cs)) 32)
+    (pick (are_forms arity m cs) (leb (length (pair_form arity cs)) 256) false) false)
     false

@@ -50,8 +50,8 @@ MarkedTerms =
 
 pub marked : MarkedTerms
 unfolding compact_form reading loading fitting_form fitting_terms compacting expanding legal_form are_terms are_forms
-    fitting pair_form form_terms front symbolic token_of items entered filled last_of tail_of into inside collected whole
-    reads begun applied paired shape_of arity_of every compact elements pairs numbered renamed met seen rank same
+    fitting pair_form form_terms front symbolic token_of items entered filled last_of tail_of into inside collected
+    whole reads begun applied paired shape_of arity_of every compact elements pairs numbered renamed met seen rank same
 marked = (refl, refl, refl, refl, refl, refl, refl, refl, refl, refl, refl)
 
 -- ---- edition 2
@@ -71,8 +71,8 @@ MarkedWide =
 
 pub marked-wide : MarkedWide
 unfolding compact_form reading loading fitting_form fitting_terms compacting expanding legal_form are_terms are_forms
-    fitting pair_form form_terms front symbolic token_of items entered filled last_of tail_of into inside collected whole
-    reads begun applied paired shape_of arity_of every compact elements pairs numbered renamed met seen rank same
+    fitting pair_form form_terms front symbolic token_of items entered filled last_of tail_of into inside collected
+    whole reads begun applied paired shape_of arity_of every compact elements pairs numbered renamed met seen rank same
 marked-wide = (refl, refl, refl, refl, refl)
 
 -- ---- what is in out afterwards

@@ -41,8 +41,8 @@ moves : (grow_reply 3 2 1 small ≡ Done)
     × (grow_space 2 1 1 large ≡ back)
     × (grow_space 4 1 1 large ≡ crossed)
     × (grow_space 2 1 1 small ≡ small)
-unfolding grow_reply grow_under grow_space grown_cells enough fresh_fits known_edition space_header header_of counted capacity
-    whole in_range subgoal_width answer_width
+unfolding grow_reply grow_under grow_space grown_cells enough fresh_fits known_edition space_header header_of counted
+    capacity whole in_range subgoal_width answer_width
 moves = (refl, refl, refl, refl, refl)
 
 -- 1 before 2: an unknown edition, and no node asked for; 2 before 19: no node, a cell too few; 19 by each count
@@ -53,6 +53,6 @@ refusals : (grow_reply 0 2 1 (set small 0 9) ≡ Refused 1)
     × (grow_reply 2 0 1 small ≡ Refused 19)
     × (grow_reply 2 1 0 small ≡ Refused 19)
     × (grow_space 2 1 0 small ≡ small)
-unfolding grow_reply grow_under grow_space grown_cells enough fresh_fits known_edition space_header header_of counted capacity
-    whole in_range subgoal_width answer_width
+unfolding grow_reply grow_under grow_space grown_cells enough fresh_fits known_edition space_header header_of counted
+    capacity whole in_range subgoal_width answer_width
 refusals = (refl, refl, refl, refl, refl, refl, refl)

@@ -61,7 +61,8 @@ GrownView = (n f a : ℕ) (cs : List ℕ) (h : Head) → space_header cs ≡ hea
 
 pub record FreeAsFresh (n f a : ℕ) (cs : List ℕ) (g : Head) : Type 0 where
   pub nodes-free : (i : ℕ) → g.nodes ≤ i → i < n → (view_after n f a cs g).node i ≡ (fresh_view n f a).node i
-  pub subgoals-free : (s : ℕ) → g.subgoals < s → s ≤ f → (view_after n f a cs g).subgoal s ≡ (fresh_view n f a).subgoal s
+  pub subgoals-free : (s : ℕ) → g.subgoals < s → s ≤ f
+      → (view_after n f a cs g).subgoal s ≡ (fresh_view n f a).subgoal s
   pub answers-free : (b : ℕ) → g.answers < b → b ≤ a → (view_after n f a cs g).answer b ≡ (fresh_view n f a).answer b
 
 abbrev pub GrownFree : Type 0

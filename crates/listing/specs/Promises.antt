@@ -40,7 +40,8 @@ module _ (e s : ℕ) (symbols : List ℕ) where
   -- it is in order
   abbrev pub InOrder : Type 0
   InOrder = (i j : ℕ) → i < j → j < length (listing e s symbols)
-      → stands_earlier (alphabet s symbols) (get_or (listing e s symbols) i []) (get_or (listing e s symbols) j []) ≡ true
+      → stands_earlier (alphabet s symbols) (get_or (listing e s symbols) i [])
+      (get_or (listing e s symbols) j []) ≡ true
 
   -- each term comes once
   abbrev pub Once : Type 0

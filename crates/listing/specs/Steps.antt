@@ -1,6 +1,7 @@
 -- The steps by which the code finds the first term and the one after a term without making the list: what may stand at
 -- a place, whether a term can still be ended there, the first cell that will do, and the filling from a place on.
-use Rattle.std.specs.Prelude.{ℕ, zero, suc, ◌-◌, Bool, true, false, List, [], ◌∷◌, ◌++◌, length, drop, get_or, eqb, leb, ltb}
+use Rattle.std.specs.Prelude.{ℕ, zero, suc, ◌-◌, Bool, true, false, List, [], ◌∷◌, ◌++◌, length, drop, get_or, eqb, leb}
+use Rattle.std.specs.Prelude.{ltb}
 use Rattle.basis.specs.Choice.{pick}
 use Rattle.forms.specs.Cells.{payload, variable, callable, shape_of, arity_of}
 use Rattle.forms.specs.Numbering.{rank}

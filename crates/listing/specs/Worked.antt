@@ -40,7 +40,8 @@ WorkedLists =
     × (listing 2 1 (atom 9 ∷ int 5 ∷ fun 2 1 ∷ nil ∷ []) ≡ (atom 9 ∷ []) ∷ (nil ∷ []) ∷ [])
     -- the first term, the one after a term, and the end, which needs no room
     × (first_answer 1 3 two 4 ≡ Cells 3)
-    × (listing_out (first_answer 1 3 two 4) (first_term 1 3 two) (1 ∷ 2 ∷ 3 ∷ 4 ∷ []) ≡ fun 1 2 ∷ atom 7 ∷ atom 7 ∷ 4 ∷ [])
+    × (listing_out (first_answer 1 3 two 4) (first_term 1 3 two) (1 ∷ 2 ∷ 3 ∷ 4 ∷ [])
+    ≡ fun 1 2 ∷ atom 7 ∷ atom 7 ∷ 4 ∷ [])
     × (listed_cells (term_after 1 3 two (fun 1 2 ∷ atom 7 ∷ var 0 ∷ [])) ≡ fun 1 2 ∷ var 0 ∷ atom 7 ∷ [])
     × (after_answer 1 3 two (fun 1 2 ∷ var 0 ∷ var 1 ∷ []) 0 ≡ End)
     × (first_answer 1 2 two 0 ≡ End)
@@ -63,14 +64,14 @@ WorkedRefusals =
 
 pub worked : WorkedLists
 unfolding listing alphabet variable_cells strings cells_before filtered call_term begins callable first_in next_in holds
-    first_term term_after legal_shape is_symbol contains are_symbols listable offered first_answer after_answer listed_cells
-    listing_out converter_edition are_terms reads begun applied paired every pairs shape_of arity_of numbered renamed met
-    seen rank same
+    first_term term_after legal_shape is_symbol contains are_symbols listable offered first_answer after_answer
+    listed_cells listing_out converter_edition are_terms reads begun applied paired every pairs shape_of arity_of
+    numbered renamed met seen rank same
 worked = (refl, refl, refl, refl, refl, refl, refl, refl, refl)
 
 pub worked-refusals : WorkedRefusals
 unfolding listing alphabet variable_cells strings cells_before filtered call_term begins callable first_in next_in holds
-    first_term term_after legal_shape is_symbol contains are_symbols listable offered first_answer after_answer listed_cells
-    listing_out converter_edition are_terms reads begun applied paired every pairs shape_of arity_of numbered renamed met
-    seen rank same
+    first_term term_after legal_shape is_symbol contains are_symbols listable offered first_answer after_answer
+    listed_cells listing_out converter_edition are_terms reads begun applied paired every pairs shape_of arity_of
+    numbered renamed met seen rank same
 worked-refusals = (refl, refl, refl, refl, refl, refl, refl, refl, refl, refl)

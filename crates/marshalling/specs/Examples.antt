@@ -36,8 +36,8 @@ pub exports :
     × (compact_bytes (arity_of 1) (compact_stored (arity_of 1)) (0 ∷ 0 ∷ 0 ∷ 80 ∷ 1 ∷ []) lent15
     ≡ outcome (2 ^ 31 + 3) lent15)
     × (expand_bytes (compact_stored (arity_of 1)) (0 ∷ 0 ∷ 0 ∷ 80 ∷ 1 ∷ []) lent15 ≡ outcome (2 ^ 31 + 3) lent15)
-unfolding cells_of bytes_of returned written_bytes outcome_of exported compact_bytes expand_bytes compact_form reading loading
-    fitting_form fitting_terms compacting expanding legal_form are_terms are_forms fitting pair_form form_terms front
-    symbolic token_of items entered filled last_of tail_of into inside collected whole reads begun applied paired shape_of
-    every compact elements pairs numbered renamed met seen rank same
+unfolding cells_of bytes_of returned written_bytes outcome_of exported compact_bytes expand_bytes compact_form reading
+    loading fitting_form fitting_terms compacting expanding legal_form are_terms are_forms fitting pair_form form_terms
+    front symbolic token_of items entered filled last_of tail_of into inside collected whole reads begun applied paired
+    shape_of every compact elements pairs numbered renamed met seen rank same
 exports = (refl, refl, refl, refl, refl)

@@ -40,8 +40,8 @@ Parted =
     × (map (start_of (stored_of 1) form) (0 ∷ 1 ∷ 2 ∷ 3 ∷ []) ≡ 0 ∷ 9 ∷ 11 ∷ 16 ∷ [])
 
 pub parted : Parted
-unfolding stored_of arity_of shape_of symbolic token_of every compact elements filled last_of tail_of inside into collected
-    whole entered items front form_terms
+unfolding stored_of arity_of shape_of symbolic token_of every compact elements filled last_of tail_of inside into
+    collected whole entered items front form_terms
 parted = (refl, refl)
 
 -- in hand
@@ -63,8 +63,8 @@ Counted =
     × (length ((stored_of 1).cells form) ≡ 18)
 
 pub counted : Counted
-unfolding weights all_take weight arguments solid stored_of arity_of shape_of symbolic token_of every pairs compact elements
-    filled last_of tail_of inside into collected whole entered items front form_terms pair_form
+unfolding weights all_take weight arguments solid stored_of arity_of shape_of symbolic token_of every pairs compact
+    elements filled last_of tail_of inside into collected whole entered items front form_terms pair_form
 counted = (refl, refl, refl)
 
 -- [1,1,..] of n ones: 2 n + 1 cells
@@ -81,6 +81,6 @@ Joined =
     × (fitted (stored_of 1) (form ∷ ones 127 ∷ []) ≡ declined 4)
 
 pub joined : Joined
-unfolding matching same copied all_fit stored_of arity_of shape_of symbolic token_of every pairs filled last_of tail_of inside
-    into collected whole entered items front form_terms pair_form
+unfolding matching same copied all_fit stored_of arity_of shape_of symbolic token_of every pairs filled last_of tail_of
+    inside into collected whole entered items front form_terms pair_form
 joined = (refl, refl, refl, refl, refl)

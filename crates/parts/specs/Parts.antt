@@ -1,6 +1,7 @@
 -- The terms of a stored form that holds no variable, by their tokens. Such terms are compared and put together as they
 -- are stored: equal terms have equal tokens, and nothing is numbered anew.
-use Rattle.std.specs.Prelude.{ℕ, ◌+◌, ◌≤◌, ◌<◌, Bool, true, false, List, [], ◌∷◌, map, ◌≡◌, leb, length, take, drop, get_or}
+use Rattle.std.specs.Prelude.{ℕ, ◌+◌, ◌≤◌, ◌<◌, Bool, true, false, List, [], ◌∷◌, map, ◌≡◌, leb, length, take, drop}
+use Rattle.std.specs.Prelude.{get_or}
 use Rattle.basis.specs.Choice.{pick}
 use Rattle.forms.specs.Terms.{every}
 use Rattle.forms.specs.Numbering.{met}

@@ -100,9 +100,9 @@ number-kept test n [] qs e = absurd (false≢true e)
 number-kept test n (r ∷ rs) qs e = by_cases (test r) (λ p. rw p) (λ p. rw p (number-kept test (suc n) rs qs (or_right (test r) (holds test rs) e p)))
 
 -- records are numbered from 1
-pub get_d-from-one : {R : Type 0} (rs : List R) (x d : R) (k : ℕ) → 0 < k → get_or (x ∷ rs) k d ≡ get_or rs (k - 1) d
-get_d-from-one rs x d zero h = absurd (omega arith)
-get_d-from-one rs x d (suc k) h = ap (λ (i : ℕ). get_or rs i d) (less k)
+pub get_or-from-one : {R : Type 0} (rs : List R) (x d : R) (k : ℕ) → 0 < k → get_or (x ∷ rs) k d ≡ get_or rs (k - 1) d
+get_or-from-one rs x d zero h = absurd (omega arith)
+get_or-from-one rs x d (suc k) h = ap (λ (i : ℕ). get_or rs i d) (less k)
   where
     less : (k : ℕ) → k ≡ suc k - 1
     less k = omega arith
@@ -134,7 +134,7 @@ subgoal_of-some t w e =
     record {
       low = low;
       high = omega (arith, r.high);
-      form = ap (λ (g : Subgoal). g.form) (get_d-from-one t.subgoals no_subgoal no_subgoal k low) ∙ same_true _ w r.passes;
+      form = ap (λ (g : Subgoal). g.form) (get_or-from-one t.subgoals no_subgoal no_subgoal k low) ∙ same_true _ w r.passes;
     }
 
 pub subgoal_of-new : (t : Table) (w v : Word) (m : ℕ) → has (called_forms t.subgoals) w ≡ false
@@ -182,7 +182,7 @@ answer_of-some t s w e =
     let k : ℕ = number (is_answer s w) 1 t.answers in
     let low : 0 < k = omega (arith, r.low) in
     let p = is_answer-parts s w _ r.passes in
-    let q = get_d-from-one t.answers no_answer no_answer k low in
+    let q = get_or-from-one t.answers no_answer no_answer k low in
     record {
       low = low;
       high = omega (arith, r.high);

@@ -22,7 +22,7 @@ use Rattle.plain.proofs.WordLaws.{or_right}
 use Rattle.plain.proofs.PrefixLaws.{starts, begins, begins-witness}
 use Rattle.plain.proofs.LongestShared.{starts-common, begins-most, most-le}
 use Rattle.plain.proofs.StoredCoding.{coding-laws}
-use Rattle.plain.proofs.NumberLaws.{holds, number-some, number-before, number_same, number-kept, number-snoc, get_d-from-one, subgoal_of-none, subgoal_of-some}
+use Rattle.plain.proofs.NumberLaws.{holds, number-some, number-before, number_same, number-kept, number-snoc, get_or-from-one, subgoal_of-none, subgoal_of-some}
 use Rattle.plain.proofs.RecordLaws.{called-held}
 use Rattle.plain.proofs.Changes.{appended-cases}
 use Rattle.plain.proofs.Soundness.{Sound, sound-reached}
@@ -57,8 +57,8 @@ lowest-some t u e =
     record {
       low = low;
       high = omega (arith, r.high);
-      begins-so = ap (λ (g : Subgoal). starts u g.form) (get_d-from-one t.subgoals no_subgoal no_subgoal k low) ∙ r.passes;
-      least = λ i h l. ap (λ (g : Subgoal). starts u g.form) (get_d-from-one t.subgoals no_subgoal no_subgoal i h) ∙ number-before (begun u) 1 t.subgoals no_subgoal i h l;
+      begins-so = ap (λ (g : Subgoal). starts u g.form) (get_or-from-one t.subgoals no_subgoal no_subgoal k low) ∙ r.passes;
+      least = λ i h l. ap (λ (g : Subgoal). starts u g.form) (get_or-from-one t.subgoals no_subgoal no_subgoal i h) ∙ number-before (begun u) 1 t.subgoals no_subgoal i h l;
     }
 
 -- a form that begins so is among the forms

@@ -134,9 +134,9 @@ Written =
 pub detour-examples : Detoured × Written
 unfolding trace left step counted settled called answered fits appended numbered_answers goal_of detouring detours_of
     all_within any_open few_goals goals_fit all_offer offers one_cell detour search tries trying better total_of diverts
-    none_twice each_before choices passing least_of looks_along looks made_whole fewest minima nodes answer_nodes answers_to
-    number subgoal_of answer_of subgoal_at answer_at no_subgoal no_answer distinct prefixes union add has all_inits inits
-    judged naming handed_on reading callable predicate taken stored_of compact_form are_terms pair_form form_terms front
-    symbolic token_of items entered filled last_of tail_of into inside collected forms.whole reads begun applied paired
-    shape_of arity_of every compact elements pairs numbered renamed met seen rank same
+    none_twice each_before choices passing least_of looks_along looks made_whole fewest minima nodes answer_nodes
+    answers_to number subgoal_of answer_of subgoal_at answer_at no_subgoal no_answer distinct prefixes union add has
+    all_inits inits judged naming handed_on reading callable predicate taken stored_of compact_form are_terms pair_form
+    form_terms front symbolic token_of items entered filled last_of tail_of into inside collected forms.whole reads
+    begun applied paired shape_of arity_of every compact elements pairs numbered renamed met seen rank same
 detour-examples = ((refl, refl, refl), (refl, refl, refl, refl, refl))

@@ -1,6 +1,7 @@
 -- What a search for detours promises (Q-11). All choices, and all that the search looks at, are written out as lists in
 -- the order of the request; what the search found, tried and left is said by these lists.
-use Rattle.std.specs.Prelude.{Bool, true, not, ◌&&◌, List, [], ◌∷◌, ◌++◌, map, ◌⊎◌, ◌≡◌, ℕ, ◌+◌, ◌-◌, ◌<◌, ◌≤◌, min, eqb, leb, length, take}
+use Rattle.std.specs.Prelude.{Bool, true, not, ◌&&◌, List, [], ◌∷◌, ◌++◌, map, ◌⊎◌, ◌≡◌, ℕ, ◌+◌, ◌-◌, ◌<◌, ◌≤◌, min}
+use Rattle.std.specs.Prelude.{eqb, leb, length, take}
 use Rattle.basis.specs.Choice.{pick}
 use Rattle.plain.specs.Coding.{Coding}
 use Rattle.plain.specs.Requests.{detours, Best, none_found, found, Detour, detoured, lent}

@@ -1,6 +1,7 @@
 -- The rule of detours: one answer for each goal, no diverter twice, least total, within a budget of choices tried.
 -- Refusals 14 and 22, in this order; then the search. The plain table and the calls on cells both follow it.
-use Rattle.std.specs.Prelude.{Bool, true, false, ◌&&◌, ◌||◌, List, [], ◌∷◌, ◌++◌, map, ℕ, zero, suc, ◌+◌, ◌-◌, eqb, leb, ltb, length, get_or}
+use Rattle.std.specs.Prelude.{Bool, true, false, ◌&&◌, ◌||◌, List, [], ◌∷◌, ◌++◌, map, ℕ, zero, suc, ◌+◌, ◌-◌, eqb, leb}
+use Rattle.std.specs.Prelude.{ltb, length, get_or}
 use Rattle.basis.specs.Choice.{pick}
 use Rattle.forms.specs.Cells.{payload, atomic, integral}
 use Rattle.plain.specs.Words.{Word}

@@ -58,9 +58,9 @@ Instances =
 
 pub instances : Instances
 unfolding replaced term_cells instantiated trace step counted settled called answered fits appended starting onward
-    writes nodes answer_nodes answers_to number subgoal_of answer_of after following subgoal_at answer_at no_subgoal no_answer
-    distinct prefixes union add has all_inits inits judged naming handed_on reading callable predicate taken stored_of
-    substituted compact_form are_terms pair_form form_terms front symbolic token_of items entered filled last_of tail_of into
-    inside collected whole reads begun applied paired shape_of arity_of every compact elements pairs numbered renamed met
-    seen rank same
+    writes nodes answer_nodes answers_to number subgoal_of answer_of after following subgoal_at answer_at no_subgoal
+    no_answer distinct prefixes union add has all_inits inits judged naming handed_on reading callable predicate taken
+    stored_of substituted compact_form are_terms pair_form form_terms front symbolic token_of items entered filled
+    last_of tail_of into inside collected whole reads begun applied paired shape_of arity_of every compact elements
+    pairs numbered renamed met seen rank same
 instances = (refl, refl, refl, refl, refl)

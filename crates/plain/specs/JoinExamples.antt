@@ -138,9 +138,9 @@ Long =
 pub join-examples : Joined × Refused × Long
 unfolding settled trace step counted called answered fits appended writes side_of joining table.given table.entered
     table.starting table.onward table.after table.following nodes answer_nodes answers_to number subgoal_of answer_of
-    subgoal_at answer_at no_subgoal no_answer distinct prefixes union add has all_inits inits pairs_named copies_named named
-    matching copied along combined before all_read ground join_of judged naming handed_on reading callable predicate taken
-    stored_of compact_form are_terms pair_form form_terms front symbolic token_of items entered filled last_of tail_of into
-    inside collected whole reads begun applied paired shape_of arity_of every compact elements pairs numbered renamed met
-    seen rank same
+    subgoal_at answer_at no_subgoal no_answer distinct prefixes union add has all_inits inits pairs_named copies_named
+    named matching copied along combined before all_read ground join_of judged naming handed_on reading callable
+    predicate taken stored_of compact_form are_terms pair_form form_terms front symbolic token_of items entered filled
+    last_of tail_of into inside collected whole reads begun applied paired shape_of arity_of every compact elements
+    pairs numbered renamed met seen rank same
 join-examples = ((refl, refl, refl, refl, refl), (refl, refl, refl, refl, refl, refl), refl)

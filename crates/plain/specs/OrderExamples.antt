@@ -6,7 +6,8 @@ use Rattle.basis.specs.Choice.{pick}
 use Rattle.forms.specs.Cells.{arity_of, callable, shape_of, symbolic, token_of}
 use Rattle.forms.specs.Terms.{pairs, every, applied, paired, begun, reads, are_terms}
 use Rattle.forms.specs.Numbering.{rank, seen, met, renamed, numbered}
-use Rattle.forms.specs.Compact.{compact, elements, compact_form, filled, last_of, tail_of, inside, into, collected, whole}
+use Rattle.forms.specs.Compact.{compact, elements, compact_form, filled, last_of, tail_of, inside, into, collected}
+use Rattle.forms.specs.Compact.{whole}
 use Rattle.forms.specs.Compact.{entered, items, front, form_terms, pair_form, same}
 use Rattle.forms.specs.Converting.{reading}
 use Rattle.forms.specs.Stored.{stored_of}
@@ -84,18 +85,21 @@ heard_by_second =
 abbrev pub Arrivals : Type 0
 Arrivals =
     (replies_to (arrivals_with to_first to_second) ≡ replies_before ++ (new 2 ∷ new 3 ∷ old_answer 3 ∷ replies_behind))
-    × (replies_to (arrivals_with to_second to_first) ≡ replies_before ++ (new 2 ∷ new 3 ∷ old_answer 2 ∷ replies_behind))
+    × (replies_to (arrivals_with to_second to_first)
+    ≡ replies_before ++ (new 2 ∷ new 3 ∷ old_answer 2 ∷ replies_behind))
     × (second_hears (arrivals_with to_first to_second) ≡ heard_by_second)
     × (second_hears (arrivals_with to_second to_first) ≡ heard_by_second)
-    × Exchanged (step (coding_of 1)) (fresh 15 3 5) (arrivals_with to_first to_second) (arrivals_with to_second to_first)
+    × Exchanged (step (coding_of 1)) (fresh 15 3 5) (arrivals_with to_first to_second)
+    (arrivals_with to_second to_first)
 
 pub arrivals : Arrivals
 unfolding heard concerns compared unnumbered trace step counted settled called answered fits appended answer_at nodes
     answer_nodes answers_to number subgoal_of answer_of subgoal_at no_subgoal no_answer distinct prefixes union add has
     all_inits inits judged naming handed_on reading callable predicate taken stored_of compact_form are_terms pair_form
-    form_terms front symbolic token_of items entered filled last_of tail_of into inside collected whole reads begun applied
-    paired shape_of arity_of every compact elements pairs numbered renamed met seen rank same side_of joining join_of
-    table.given table.entered pairs_named copies_named named matching copied along combined before all_read ground
+    form_terms front symbolic token_of items entered filled last_of tail_of into inside collected whole reads begun
+    applied paired shape_of arity_of every compact elements pairs numbered renamed met seen rank same side_of joining
+    join_of table.given table.entered pairs_named copies_named named matching copied along combined before all_read
+    ground
 arrivals = (
   refl,
   refl,

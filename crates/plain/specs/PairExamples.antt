@@ -52,9 +52,10 @@ EditionsBeside =
     × ((coding_of 3).legal 1 (PAIR ∷ var 0 ∷ var 1 ∷ []) ≡ false)
 
 pub editions-beside : EditionsBeside
-unfolding trace step counted settled called answered fits appended writes nodes answer_nodes answers_to number subgoal_of
-    answer_of subgoal_at answer_at no_subgoal no_answer distinct prefixes union add has all_inits inits judged naming handed_on
-    reading callable predicate taken stored_of legal_pairs legal_form are_forms substituted compact_form are_terms pair_form
-    form_terms front symbolic token_of items entered filled last_of tail_of into inside collected whole reads begun
-    applied paired shape_of arity_of every compact elements pairs numbered renamed met seen rank same
+unfolding trace step counted settled called answered fits appended writes nodes answer_nodes answers_to number
+    subgoal_of answer_of subgoal_at answer_at no_subgoal no_answer distinct prefixes union add has all_inits inits
+    judged naming handed_on reading callable predicate taken stored_of legal_pairs legal_form are_forms substituted
+    compact_form are_terms pair_form form_terms front symbolic token_of items entered filled last_of tail_of into inside
+    collected whole reads begun applied paired shape_of arity_of every compact elements pairs numbered renamed met seen
+    rank same
 editions-beside = (refl, refl, refl, refl, refl, refl, refl)

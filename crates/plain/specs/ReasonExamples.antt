@@ -61,9 +61,9 @@ Reasons =
     ≡ new 1 ∷ new 2 ∷ because (new_past 4 2) ∷ [])
 
 pub reasons : Reasons
-unfolding trace step counted called fits appended sharing newness reasoned nodes answer_nodes answers_to number subgoal_of
-    subgoal_at no_subgoal distinct prefixes union add has all_inits inits common most judged naming handed_on reading
-    callable predicate taken stored_of compact_form are_terms pair_form form_terms front symbolic token_of items entered
-    filled last_of tail_of into inside collected whole reads begun applied paired shape_of arity_of every compact elements
-    pairs numbered renamed met seen rank same
+unfolding trace step counted called fits appended sharing newness reasoned nodes answer_nodes answers_to number
+    subgoal_of subgoal_at no_subgoal distinct prefixes union add has all_inits inits common most judged naming handed_on
+    reading callable predicate taken stored_of compact_form are_terms pair_form form_terms front symbolic token_of items
+    entered filled last_of tail_of into inside collected whole reads begun applied paired shape_of arity_of every
+    compact elements pairs numbered renamed met seen rank same
 reasons = (refl, refl)

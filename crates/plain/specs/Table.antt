@@ -1,5 +1,6 @@
 -- The plain table: subgoals and answers as lists of forms, and what each call answers and changes.
-use Rattle.std.specs.Prelude.{Bool, true, false, List, [], ◌∷◌, ◌++◌, map, ℕ, zero, suc, ◌+◌, ◌-◌, pred, eqb, leb, ltb, length, get_or, drop, set}
+use Rattle.std.specs.Prelude.{Bool, true, false, List, [], ◌∷◌, ◌++◌, map, ℕ, zero, suc, ◌+◌, ◌-◌, pred, eqb, leb, ltb}
+use Rattle.std.specs.Prelude.{length, get_or, drop, set}
 use Rattle.basis.specs.Choice.{pick}
 use Rattle.forms.specs.Numbering.{met}
 use Rattle.forms.specs.Compact.{same}
@@ -128,7 +129,8 @@ with_finished t s = record {
   N = t.N;
   F = t.F;
   A = t.A;
-  subgoals = set t.subgoals (pred s) (record { form = (subgoal_at t s).form; m = (subgoal_at t s).m; state = Finished });
+  subgoals = set t.subgoals (pred s)
+      (record { form = (subgoal_at t s).form; m = (subgoal_at t s).m; state = Finished });
   answers = t.answers;
 }
 

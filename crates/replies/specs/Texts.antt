@@ -54,7 +54,8 @@ state_text Open = text_open
 state_text Finished = text_finished
 
 abbrev pub counts_text : ℕ → ℕ → ℕ → List ℕ
-counts_text nodes subgoals answers = word_and_number (word_and_number (word_and_number text_counts nodes) subgoals) answers
+counts_text nodes subgoals answers =
+    word_and_number (word_and_number (word_and_number text_counts nodes) subgoals) answers
 
 -- old, the number and the variables as cells; or new and the two numbers
 unfoldable pub reason_text : Reason → List ℕ

@@ -3,7 +3,8 @@
 
 ghost use Rattle.std.specs.Prelude.{◌≡◌, ◌∷◌, ℕ, ◌+◌, ◌≤◌, ◌<◌, length};
 ghost use Rattle.plain.specs.Requests.{cells, lacks_next};
-ghost use Rattle.store.specs.Replies.{said_state, said_call, said_answer, said_finish, said_next, said_cells, said_counts};
+ghost use Rattle.store.specs.Replies.{said_state, said_call, said_answer, said_finish, said_next, said_cells};
+ghost use Rattle.store.specs.Replies.{said_counts};
 ghost use Rattle.store.specs.Replies.{said_why, NamesHeld};
 ghost use Rattle.text.specs.Fields.{space};
 ghost use Rattle.text.specs.Digits.{word_and_number, Puts};

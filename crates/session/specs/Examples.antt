@@ -114,13 +114,13 @@ session_text =
 pub worked :
     cell_session (lines_of session_input) (fresh_space_in session_edition 11 1 2 (replicate 75 9)) (replicate 7 0)
     ≡ session_text
-unfolding lines_from session said_of means word_means fields value_from numeral hex_cells reply_text digits_before cell_texts
-    lent in_range capacity counted known_edition header_of space_header subgoal_width answer_width fresh_cells fresh_fits
-    fresh_space fresh_space_in follows node_sound both_or_neither subgoal_sound answer_sound search_siblings search_children
-    walk_from_by walk_by gather lead_cell append_node append_path called_old called_new called_at called_by answered_new
-    answered_old answered_at answered_by starting handed onward on_path loaded instanced decide_by subgoal_entered
-    answer_entered change_by reply out_after under_by under_any_by space_step_by are_forms legal_form judged naming handed_on
-    reading callable predicate taken stored_of substituted compact_form are_terms pair_form form_terms front symbolic token_of
-    items entered filled last_of tail_of into inside collected reads begun applied paired shape_of arity_of every compact
-    elements pairs numbered renamed met seen rank same whole
+unfolding lines_from session said_of means word_means fields value_from numeral hex_cells reply_text digits_before
+    cell_texts lent in_range capacity counted known_edition header_of space_header subgoal_width answer_width
+    fresh_cells fresh_fits fresh_space fresh_space_in follows node_sound both_or_neither subgoal_sound answer_sound
+    search_siblings search_children walk_from_by walk_by gather lead_cell append_node append_path called_old called_new
+    called_at called_by answered_new answered_old answered_at answered_by starting handed onward on_path loaded
+    instanced decide_by subgoal_entered answer_entered change_by reply out_after under_by under_any_by space_step_by
+    are_forms legal_form judged naming handed_on reading callable predicate taken stored_of substituted compact_form
+    are_terms pair_form form_terms front symbolic token_of items entered filled last_of tail_of into inside collected
+    reads begun applied paired shape_of arity_of every compact elements pairs numbered renamed met seen rank same whole
 worked = refl

@@ -6,7 +6,8 @@ use Rattle.store.specs.Calls.{space_step}
 use Rattle.text.specs.Digits.{Puts}
 use Rattle.text.specs.Fields.{fields}
 use Rattle.asking.specs.Lines.{word_means, means}
-use Rattle.asking.specs.Lines.{word_call, word_answer, word_finish, word_next, word_load, word_instance, word_counts, word_why}
+use Rattle.asking.specs.Lines.{word_call, word_answer, word_finish, word_next, word_load, word_instance, word_counts}
+use Rattle.asking.specs.Lines.{word_why}
 use Rattle.asking.specs.Saying.{Said, said_of}
 use Rattle.session.specs.declared.Keyword.{Keyword}
 use Rattle.session.specs.declared.Keyword.TheVariants as keyword

@@ -17,7 +17,8 @@ use Rattle.space.specs.Judging.{follows, node_sound, both_or_neither, subgoal_so
 use Rattle.trie.specs.Siblings.{search_siblings, search_children}
 use Rattle.trie.specs.Walks.{walk_from_by, walk_by}
 use Rattle.trie.specs.Append.{lead_cell, append_node, append_path}
-use Rattle.store.specs.Decisions.{called_old, called_new, called_at, called_by, firsts_from, named_by, new_at, reasoned_at}
+use Rattle.store.specs.Decisions.{called_old, called_new, called_at, called_by, firsts_from, named_by, new_at}
+use Rattle.store.specs.Decisions.{reasoned_at}
 use Rattle.store.specs.Decisions.{reasoned_by, decide_by}
 use Rattle.store.specs.Changes.{subgoal_entered, change_by}
 use Rattle.store.specs.Calls.{reply, out_after, under_by, under_any_by, space_step_by}
@@ -53,12 +54,13 @@ why_text =
     ++ letters "bad\n"
 
 pub asked-why : cell_session (lines_of why_input) (fresh_space_in session_edition 5 1 0 (replicate 39 9)) [] ≡ why_text
-unfolding lines_from session said_of means word_means fields value_from numeral hex_cells reply_text reason_text digits_before
-    cell_texts lent in_range capacity counted known_edition header_of space_header subgoal_width answer_width fresh_cells
-    fresh_fits fresh_space fresh_space_in follows node_sound both_or_neither subgoal_sound search_siblings search_children
-    walk_from_by walk_by lead_cell append_node append_path called_old called_new called_at called_by firsts_from named_by new_at
-    reasoned_at reasoned_by decide_by subgoal_entered change_by reply out_after under_by under_any_by space_step_by judged naming
-    handed_on reading callable predicate taken stored_of compact_form are_terms pair_form form_terms front symbolic token_of
-    items entered filled last_of tail_of into inside collected reads begun applied paired shape_of arity_of every compact
-    elements pairs numbered renamed met seen rank same whole
+unfolding lines_from session said_of means word_means fields value_from numeral hex_cells reply_text reason_text
+    digits_before cell_texts lent in_range capacity counted known_edition header_of space_header subgoal_width
+    answer_width fresh_cells fresh_fits fresh_space fresh_space_in follows node_sound both_or_neither subgoal_sound
+    search_siblings search_children walk_from_by walk_by lead_cell append_node append_path called_old called_new
+    called_at called_by firsts_from named_by new_at reasoned_at reasoned_by decide_by subgoal_entered change_by reply
+    out_after under_by under_any_by space_step_by judged naming handed_on reading callable predicate taken stored_of
+    compact_form are_terms pair_form form_terms front symbolic token_of items entered filled last_of tail_of into inside
+    collected reads begun applied paired shape_of arity_of every compact elements pairs numbered renamed met seen rank
+    same whole
 asked-why = refl

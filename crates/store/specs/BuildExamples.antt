@@ -52,7 +52,7 @@ Refusals =
     × Refuses (set space 66 9) two 9 × Refuses (set space 55 11) two 9 × Refuses space two 17
 
 pub build-examples : Builds × Refusals
-unfolding build_index build_under build_on nodes_fit node_fit root_above node_sound follows roomy entering enters members
-    power_below built_index insert_all insert_from empty_index slot_after slot_of space_header header_of known_edition capacity
-    whole counted in_range subgoal_width answer_width
+unfolding build_index build_under build_on nodes_fit node_fit root_above node_sound follows roomy entering enters
+    members power_below built_index insert_all insert_from empty_index slot_after slot_of space_header header_of
+    known_edition capacity whole counted in_range subgoal_width answer_width
 build-examples = ((refl, refl, refl, refl), (refl, refl, refl, refl, refl, refl))

@@ -4,7 +4,8 @@ use Rattle.std.specs.Prelude.{ℕ, ◌+◌, ◌-◌, List, [], ◌∷◌, ◌++�
 use Rattle.basis.specs.Choice.{pick}
 use Rattle.basis.specs.Writes.{Write, put, writes}
 use Rattle.plain.specs.Words.{Word}
-use Rattle.space.specs.Layout.{Sizes, nodes_cell, subgoals_cell, answers_cell, node_at, link_cell, subgoal_at, answer_at}
+use Rattle.space.specs.Layout.{Sizes, nodes_cell, subgoals_cell, answers_cell, node_at, link_cell, subgoal_at}
+use Rattle.space.specs.Layout.{answer_at}
 use Rattle.space.specs.Layout.{state_cell, first_cell, last_cell, next_cell, node_to, subgoal_to, answer_to, subgoal_in}
 use Rattle.space.specs.Heading.{header_of}
 use Rattle.space.specs.declared.Head.{Head}

@@ -1,13 +1,15 @@
 -- What a call comes to, before anything is written: refusals 3 to 11, 14 to 16 and 22 in their order, each record
 -- judged where it is read. Call, answer, join and why search a trie: what they come to is defined once, with the way of
 -- finding a child as a parameter.
-use Rattle.std.specs.Prelude.{ℕ, zero, suc, ◌+◌, ◌-◌, min, Bool, true, false, ◌&&◌, List, [], ◌∷◌, eqb, leb, ltb, length}
+use Rattle.std.specs.Prelude.{ℕ, zero, suc, ◌+◌, ◌-◌, min, Bool, true, false, ◌&&◌, List, [], ◌∷◌, eqb, leb, ltb}
+use Rattle.std.specs.Prelude.{length}
 use Rattle.basis.specs.Choice.{pick}
 use Rattle.forms.specs.Numbering.{met}
 use Rattle.plain.specs.Words.{Word, has, most}
 use Rattle.plain.specs.Coding.{Coding, Reading, refused, accepted, naming}
 use Rattle.plain.specs.Requests.{State, Open, Finished, Request, call_least, answer, finish, next, load, instance}
-use Rattle.plain.specs.Requests.{counts, Reply, old_subgoal, old_answer, at, used, refused, lacks_next, join, why, detours}
+use Rattle.plain.specs.Requests.{counts, Reply, old_subgoal, old_answer, at, used, refused, lacks_next, join, why}
+use Rattle.plain.specs.Requests.{detours}
 use Rattle.plain.specs.Requests.{old_as, new_past, because}
 use Rattle.plain.specs.Joins.{Forms, declined, formed, Side, join_of}
 use Rattle.plain.specs.Detours.{Live, Goal, detours_of, all_within}

@@ -52,11 +52,12 @@ DetouredCells =
 
 pub detour-examples : DetouredCells
 unfolding trace left lent in_range capacity counted header_of subgoal_width answer_width fresh_cells follows node_sound
-    both_or_neither subgoal_sound answer_sound search_siblings search_children walk_from_by walk_by gather lead_cell append_node
-    append_path called_old called_new called_at called_by answered_new answered_old answered_at answered_by lives_behind lives_from
-    goal_before goals_in detours_in decide_by subgoal_entered answer_entered change_by reply out_after under_by cell_step diverts
-    total_of better trying tries search detour one_cell offers all_offer goals_fit any_open few_goals detours_of all_within
-    are_forms legal_form judged naming handed_on reading callable predicate taken stored_of compact_form are_terms pair_form
-    form_terms front symbolic token_of items entered filled last_of tail_of into inside collected reads begun applied paired
-    shape_of arity_of every compact elements pairs numbered renamed met seen rank same whole
+    both_or_neither subgoal_sound answer_sound search_siblings search_children walk_from_by walk_by gather lead_cell
+    append_node append_path called_old called_new called_at called_by answered_new answered_old answered_at answered_by
+    lives_behind lives_from goal_before goals_in detours_in decide_by subgoal_entered answer_entered change_by reply
+    out_after under_by cell_step diverts total_of better trying tries search detour one_cell offers all_offer goals_fit
+    any_open few_goals detours_of all_within are_forms legal_form judged naming handed_on reading callable predicate
+    taken stored_of compact_form are_terms pair_form form_terms front symbolic token_of items entered filled last_of
+    tail_of into inside collected reads begun applied paired shape_of arity_of every compact elements pairs numbered
+    renamed met seen rank same whole
 detour-examples = (refl, refl, refl, refl)

@@ -72,12 +72,12 @@ Editions =
     × (replies_in 256 (applying 18 2 ∷ counts ∷ []) ≡ refused 1 ∷ refused 1 ∷ [])
 
 pub examples : Tables × Damage × Editions
-unfolding trace lent in_range capacity counted known_edition header_of space_header subgoal_width answer_width fresh_cells
-    follows node_sound both_or_neither subgoal_sound answer_sound search_siblings search_children walk_from_by walk_by gather
-    lead_cell append_node append_path called_old called_new called_at called_by answered_new answered_old answered_at answered_by
-    starting handed onward on_path loaded instanced decide_by subgoal_entered answer_entered change_by reply out_after under_by
-    under_any_by space_step_by cell_step are_forms legal_form judged naming handed_on reading callable predicate taken stored_of
-    substituted compact_form are_terms pair_form form_terms front symbolic token_of items entered filled last_of tail_of into
-    inside collected reads begun applied paired shape_of arity_of every compact elements pairs numbered renamed met seen
-    rank same whole
+unfolding trace lent in_range capacity counted known_edition header_of space_header subgoal_width answer_width
+    fresh_cells follows node_sound both_or_neither subgoal_sound answer_sound search_siblings search_children
+    walk_from_by walk_by gather lead_cell append_node append_path called_old called_new called_at called_by answered_new
+    answered_old answered_at answered_by starting handed onward on_path loaded instanced decide_by subgoal_entered
+    answer_entered change_by reply out_after under_by under_any_by space_step_by cell_step are_forms legal_form judged
+    naming handed_on reading callable predicate taken stored_of substituted compact_form are_terms pair_form form_terms
+    front symbolic token_of items entered filled last_of tail_of into inside collected reads begun applied paired
+    shape_of arity_of every compact elements pairs numbered renamed met seen rank same whole
 examples = ((refl, refl, refl, refl, refl), (refl, refl), (refl, refl, refl, refl))

@@ -62,19 +62,21 @@ answer_cell a k = 128 + 18 + 3 * a - 3 + k
 -- subgoal; a source's last answer is not read
 abbrev pub Damage : Type 0
 Damage =
-    (replies (set (filled_cells 24 3 7) (answer_cell 3 1) 2) (chain ∷ counts ∷ []) ≡ refused 9 ∷ used (count 21 3 5) ∷ [])
+    (replies (set (filled_cells 24 3 7) (answer_cell 3 1) 2) (chain ∷ counts ∷ [])
+    ≡ refused 9 ∷ used (count 21 3 5) ∷ [])
     × (replies (set (filled_cells 24 3 7) (answer_cell 3 0) 21) (chain ∷ []) ≡ refused 9 ∷ [])
     × (replies (set (filled_cells 24 3 7) (answer_cell 1 2) 2) (chain ∷ []) ≡ refused 9 ∷ [])
     × (replies (set (filled_cells 24 3 7) (answer_cell 3 2) 5) (chain ∷ []) ≡ refused 9 ∷ [])
 
 pub join-examples : Joined × Damage
 unfolding trace left lent in_range capacity counted header_of subgoal_width answer_width fresh_cells follows node_sound
-    both_or_neither subgoal_sound answer_sound search_siblings search_children walk_from_by walk_by gather lead_cell append_node
-    append_path called_old called_new called_at called_by answered_new answered_old answered_at answered_by starting handed
-    onward on_path loaded instanced headed chain_from on_chains side_in met_sound all_sound_by lacking missing nodes_needed_by
-    answers_needed_by joining_by decide_by subgoal_entered answer_entered answer_given form_given_by forms_given_by change_by reply
-    out_after under_by cell_step pairs_named copies_named named matching copied along combined before all_read ground join_of
-    has common most are_forms legal_form judged naming handed_on reading callable predicate taken stored_of compact_form
-    are_terms pair_form form_terms front symbolic token_of items entered filled last_of tail_of into inside collected reads
-    begun applied paired shape_of arity_of every compact elements pairs numbered renamed met seen rank same whole
+    both_or_neither subgoal_sound answer_sound search_siblings search_children walk_from_by walk_by gather lead_cell
+    append_node append_path called_old called_new called_at called_by answered_new answered_old answered_at answered_by
+    starting handed onward on_path loaded instanced headed chain_from on_chains side_in met_sound all_sound_by lacking
+    missing nodes_needed_by answers_needed_by joining_by decide_by subgoal_entered answer_entered answer_given
+    form_given_by forms_given_by change_by reply out_after under_by cell_step pairs_named copies_named named matching
+    copied along combined before all_read ground join_of has common most are_forms legal_form judged naming handed_on
+    reading callable predicate taken stored_of compact_form are_terms pair_form form_terms front symbolic token_of items
+    entered filled last_of tail_of into inside collected reads begun applied paired shape_of arity_of every compact
+    elements pairs numbered renamed met seen rank same whole
 join-examples = ((refl, refl, refl, refl, refl), (refl, refl, refl, refl))

@@ -59,9 +59,10 @@ Asked =
 
 pub why-examples : Asked
 unfolding trace left lent in_range capacity counted header_of subgoal_width answer_width fresh_cells follows node_sound
-    both_or_neither subgoal_sound search_siblings search_children walk_from_by walk_by lead_cell append_node append_path called_old
-    called_new called_at called_by firsts_from named_by new_at reasoned_at reasoned_by decide_by subgoal_entered change_by reply
-    out_after under_by cell_step judged naming handed_on reading callable predicate taken stored_of compact_form are_terms
-    pair_form form_terms front symbolic token_of items entered filled last_of tail_of into inside collected reads begun
-    applied paired shape_of arity_of every compact elements pairs numbered renamed met seen rank same whole
+    both_or_neither subgoal_sound search_siblings search_children walk_from_by walk_by lead_cell append_node append_path
+    called_old called_new called_at called_by firsts_from named_by new_at reasoned_at reasoned_by decide_by
+    subgoal_entered change_by reply out_after under_by cell_step judged naming handed_on reading callable predicate
+    taken stored_of compact_form are_terms pair_form form_terms front symbolic token_of items entered filled last_of
+    tail_of into inside collected reads begun applied paired shape_of arity_of every compact elements pairs numbered
+    renamed met seen rank same whole
 why-examples = (refl, refl, refl, refl, refl, refl, refl, refl)

@@ -80,8 +80,8 @@ fn take_chunk(
 ) -> Progress
     requires { kept ≤ length line.old }
     ensures within { Within result (length line.old) }
-    ensures takes_chunk { TakesChunk chunk.now (program_holds line.old kept text.old space.old out.old) result line.new text.new
-        space.new out.new }
+    ensures takes_chunk { TakesChunk chunk.now (program_holds line.old kept text.old space.old out.old) result line.new
+        text.new space.new out.new }
 {
     let mut at = 0;
     let mut n = kept;
@@ -113,8 +113,8 @@ fn read_some(
 ) -> Progress
     requires { kept ≤ length line.old }
     ensures within { Within result (length line.old) }
-    ensures reads_some { ReadsSome read.new (program_holds line.old kept text.old space.old out.old) result line.new text.new
-        space.new out.new }
+    ensures reads_some { ReadsSome read.new (program_holds line.old kept text.old space.old out.old) result line.new
+        text.new space.new out.new }
 {
     let n = match rt.stdin().read(read) {
         Ok(n) => n,

@@ -3,7 +3,8 @@
 -- child. Nothing is known of the cells, so an entry counts only if its node confirms it, and only the sibling chain
 -- says that there is no such child: whatever an index holds, it cannot change what is found in a space that calls made.
 -- Only a build writes an index. It enters the children of nodes that have more than 8.
-use Rattle.std.specs.Prelude.{◌≡◌, ℕ, zero, suc, ◌+◌, ◌*◌, ◌%◌, ◌^◌, Bool, true, false, not, ◌&&◌, ◌||◌, List, [], ◌∷◌, ◌++◌, length, ◌==◌, ◌≢◌, nat_le, nat_lt, slice_index, slice_index_or, slice_set}
+use Rattle.std.specs.Prelude.{◌≡◌, ℕ, zero, suc, ◌+◌, ◌*◌, ◌%◌, ◌^◌, Bool, true, false, not, ◌&&◌, ◌||◌, List, [], ◌∷◌}
+use Rattle.std.specs.Prelude.{◌++◌, length, ◌==◌, ◌≢◌, nat_le, nat_lt, slice_index, slice_index_or, slice_set}
 use Rattle.basis.specs.Choice.{pick}
 use Rattle.space.specs.Layout.{sizes}
 use Rattle.trie.specs.Siblings.{Trie, trie_in, sound, at_sibling, search_siblings, search_children}
@@ -54,7 +55,8 @@ probe (suc steps) t index parent token slot =
 -- what the index alone gives: the child, or 0 for a miss; always a miss where the number of slots is no power of two
 unfoldable pub lookup : Trie → List ℕ → ℕ → ℕ → ℕ
 lookup t index parent token =
-    pick (power_of_two (length index)) (probe (length index) t index parent token (slot_of (length index) parent token)) 0
+    pick (power_of_two (length index))
+    (probe (length index) t index parent token (slot_of (length index) parent token)) 0
 
 -- ---- search
 

@@ -28,16 +28,16 @@ looked-up = (refl, refl, refl, refl, refl, refl, refl)
 -- whatever the cells, the search ends as by the chain
 searched : (search_indexed (77 ∷ 4 ∷ []) 5 small 1 72 ≡ Found 4) × (search_indexed (4 ∷ 0 ∷ []) 5 small 1 72 ≡ Found 4)
     × (search_indexed [] 5 small 1 72 ≡ Found 4) × (search_indexed (9 ∷ 3 ∷ []) 5 small 1 73 ≡ Last 4)
-unfolding search_indexed search_in_turn entry_beside confirmed slot_after slot_of power_below search_children search_siblings
-    node_sound follows
+unfolding search_indexed search_in_turn entry_beside confirmed slot_after slot_of power_below search_children
+    search_siblings node_sound follows
 searched = (refl, refl, refl, refl)
 
 -- in damaged spaces it need not: node 4 is damaged, and judged once it is confirmed; node 2 is damaged, and passed by
 searched-damaged : (search_indexed (77 ∷ 4 ∷ []) 5 (trie_in sizes cells 5 1) 1 72 ≡ Damaged)
     × (search_indexed (77 ∷ 4 ∷ []) 5 (trie_in sizes (slice_set cells 22 3) 5 2) 1 72 ≡ Found 4)
     × (search_children (trie_in sizes (slice_set cells 22 3) 5 2) 1 72 ≡ Damaged)
-unfolding search_indexed search_in_turn entry_beside confirmed slot_after slot_of power_below search_children search_siblings
-    node_sound follows
+unfolding search_indexed search_in_turn entry_beside confirmed slot_after slot_of power_below search_children
+    search_siblings node_sound follows
 searched-damaged = (refl, refl, refl)
 
 -- children 1 to 9 of the root, if the eighth is followed by 9

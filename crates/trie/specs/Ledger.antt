@@ -9,7 +9,8 @@
 --
 -- Nodes are never removed, and a node's parent and token never change. So what was entered of a space stays true of it
 -- whatever calls are made in between, and a call goes on where cell 0 says: it first enters the nodes that came since.
-use Rattle.std.specs.Prelude.{◌≡◌, ℕ, zero, suc, ◌+◌, ◌-◌, ◌*◌, ◌/◌, ◌%◌, ◌^◌, ◌<◌, ◌≤◌, min, Bool, ◌&&◌, List, [], ◌∷◌, length, ◌==◌, ◌≢◌, nat_le, nat_lt, slice_index, slice_set}
+use Rattle.std.specs.Prelude.{◌≡◌, ℕ, zero, suc, ◌+◌, ◌-◌, ◌*◌, ◌/◌, ◌%◌, ◌^◌, ◌<◌, ◌≤◌, min, Bool, ◌&&◌, List, [], ◌∷◌}
+use Rattle.std.specs.Prelude.{length, ◌==◌, ◌≢◌, nat_le, nat_lt, slice_index, slice_set}
 use Rattle.basis.specs.Choice.{pick}
 use Rattle.space.specs.declared.Node.{Node}
 use Rattle.trie.specs.Siblings.{Trie, sound, at_sibling, search_children}

@@ -41,24 +41,24 @@ seven = trie_in sizes (append_path sizes cells 5 1 4 (73 ∷ 74 ∷ [])) 7 2
 -- it goes on where the stamp says, and comes to what entering them all at once comes to
 went_on : (caught_up seven.at 7 five ≡ caught_up seven.at 7 (blank_ledger 8 14))
     × ((caught_up seven.at 7 five).lasts ≡ 7 ∷ 1 ∷ 5 ∷ 0 ∷ 0 ∷ 0 ∷ 6 ∷ 0 ∷ [])
-unfolding caught_up enter_nodes enter_node ledger_capacity insert_from slot_after mixed_slot empty_index append_path append_node
-    lead_cell
+unfolding caught_up enter_nodes enter_node ledger_capacity insert_from slot_after mixed_slot empty_index append_path
+    append_node lead_cell
 went_on = (refl, refl)
 
 -- a child that there is, first or not; a new one goes after node 4; node 3 has none
 searched : (search_kept five small 1 71 ≡ Found 2) × (search_kept five small 1 72 ≡ Found 4)
     × (search_kept five small 1 73 ≡ Last 4) × (search_kept (blank_ledger 8 14) small 1 73 ≡ Last 4)
     × (search_kept five small 3 40 ≡ Last 0)
-unfolding caught_up enter_nodes enter_node ledger_capacity insert_from slot_after mixed_slot empty_index usable search_in found_in
-    absent is_last probe confirmed node_sound follows
+unfolding caught_up enter_nodes enter_node ledger_capacity insert_from slot_after mixed_slot empty_index usable
+    search_in found_in absent is_last probe confirmed node_sound follows
 searched = (refl, refl, refl, refl, refl)
 
 -- with cells for three nodes it takes three, and is not used
 too_short : ((caught_up small.at 5 (blank_ledger 4 14)).lasts ≡ 3 ∷ 1 ∷ 2 ∷ 0 ∷ [])
     × (usable 5 (caught_up small.at 5 (blank_ledger 4 14)) ≡ false)
     × (search_kept (blank_ledger 4 14) small 1 72 ≡ Found 4)
-unfolding caught_up enter_nodes enter_node ledger_capacity insert_from slot_after mixed_slot empty_index usable search_in
-    search_children search_siblings node_sound follows
+unfolding caught_up enter_nodes enter_node ledger_capacity insert_from slot_after mixed_slot empty_index usable
+    search_in search_children search_siblings node_sound follows
 too_short = (refl, refl, refl)
 
 -- one that others wrote: free slots say that nothing is there, but a new child still goes after the last one, whether
@@ -72,8 +72,8 @@ forged nodes last = record {
 foreign : (search_kept (forged 5 4) small 1 72 ≡ Last 4) × (search_kept (forged 5 2) small 1 73 ≡ Last 4)
     × (search_kept (forged 5 9) small 1 72 ≡ Found 4) × (search_kept (forged 6 4) small 1 72 ≡ Found 4)
     × (caught_up small.at 5 (forged 6 4) ≡ forged 6 4)
-unfolding caught_up enter_nodes enter_node ledger_capacity usable search_in found_in absent is_last slot_after mixed_slot probe
-    confirmed search_children search_siblings node_sound follows
+unfolding caught_up enter_nodes enter_node ledger_capacity usable search_in found_in absent is_last slot_after
+    mixed_slot probe confirmed search_children search_siblings node_sound follows
 foreign = (refl, refl, refl, refl, refl)
 
 -- in damaged spaces it need not end as the chain: node 4 is damaged and is met; node 2 is damaged and is judged as the
@@ -82,6 +82,6 @@ searched-damaged : (search_kept five (trie_in sizes cells 5 1) 1 72 ≡ Damaged)
     × (search_kept five (trie_in sizes (slice_set cells 22 3) 5 2) 1 72 ≡ Damaged)
     × ((caught_up (trie_in sizes (slice_set cells 31 7) 5 2).at 5 (blank_ledger 8 14)).lasts
     ≡ 5 ∷ 1 ∷ 2 ∷ 0 ∷ 0 ∷ 0 ∷ 0 ∷ 0 ∷ [])
-unfolding caught_up enter_nodes enter_node ledger_capacity insert_from slot_after mixed_slot empty_index usable search_in found_in
-    absent is_last probe confirmed search_children search_siblings node_sound follows
+unfolding caught_up enter_nodes enter_node ledger_capacity insert_from slot_after mixed_slot empty_index usable
+    search_in found_in absent is_last probe confirmed search_children search_siblings node_sound follows
 searched-damaged = (refl, refl, refl)

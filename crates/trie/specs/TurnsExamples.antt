@@ -51,6 +51,6 @@ ended-first = (refl, refl, refl)
 
 -- a slot leads past the damaged node 2 only where node 2 stood when the call began
 stood-or-not : (search_indexed (0 ∷ 4 ∷ []) 5 hurt 1 72 ≡ Found 4) × (search_indexed (0 ∷ 4 ∷ []) 2 hurt 1 72 ≡ Damaged)
-unfolding search_indexed search_in_turn entry_beside confirmed slot_after slot_of power_below search_children search_siblings
-    node_sound follows
+unfolding search_indexed search_in_turn entry_beside confirmed slot_after slot_of power_below search_children
+    search_siblings node_sound follows
 stood-or-not = (refl, refl)

@@ -1,6 +1,7 @@
 -- Examples of the result words, of `tables_counts` and of `tables_why`, computed.
 use Rattle.std.specs.Prelude.{ℕ, ◌+◌, ◌*◌, ◌^◌, List, [], ◌∷◌, ◌≡◌, refl, replicate}
-use Rattle.plain.specs.Requests.{Open, Finished, finish, next, new, old_subgoal, old_answer, done, at, none_yet, no_more}
+use Rattle.plain.specs.Requests.{Open, Finished, finish, next, new, old_subgoal, old_answer, done, at, none_yet}
+use Rattle.plain.specs.Requests.{no_more}
 use Rattle.plain.specs.Requests.{cells, joined, old_as, new_past, because, refused, short}
 use Rattle.basis.specs.Editions.{known_edition}
 use Rattle.space.specs.Layout.{sizes, subgoal_width, answer_width}
@@ -66,8 +67,8 @@ pub calls :
     -- no subgoal has number 1 yet; no space has no cells
     × (word (space_step space (finish 1)).reply ≡ 263 * 2 ^ 32)
     × (word (space_step [] (next 1 0)).reply ≡ 257 * 2 ^ 32)
-unfolding word fresh_answer_in fresh_answer fresh_fits fresh_cells in_range capacity whole counted known_edition header_of
-    space_header subgoal_width answer_width decide_by reply under_by under_any_by space_step_by
+unfolding word fresh_answer_in fresh_answer fresh_fits fresh_cells in_range capacity whole counted known_edition
+    header_of space_header subgoal_width answer_width decide_by reply under_by under_any_by space_step_by
 calls = (refl, refl, refl, refl, refl)
 
 pub counts :

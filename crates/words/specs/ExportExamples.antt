@@ -11,7 +11,8 @@ use Rattle.forms.specs.Stored.{stored_of}
 use Rattle.plain.specs.Words.{has, add, union, inits, all_inits, prefixes, distinct}
 use Rattle.plain.specs.Coding.{judged, naming, handed_on, predicate, taken}
 use Rattle.plain.specs.Requests.{call, finish, trace}
-use Rattle.plain.specs.Table.{step, counted, called, fits, appended, nodes, answer_nodes, answers_to, number, subgoal_of}
+use Rattle.plain.specs.Table.{step, counted, called, fits, appended, nodes, answer_nodes, answers_to, number}
+use Rattle.plain.specs.Table.{subgoal_of}
 use Rattle.plain.specs.Table.{settled, edition_trace}
 use Rattle.plain.specs.Examples.{atom, fun}
 use Rattle.agreement.specs.History.{alone, index}
@@ -38,6 +39,6 @@ pub exports-shown :
 unfolding zip_with word counting counts_reply counts_out trace step counted called fits appended nodes answer_nodes
     answers_to number subgoal_of settled distinct prefixes union add has all_inits inits judged naming handed_on reading
     callable predicate taken stored_of compact_form are_terms pair_form form_terms front symbolic token_of items entered
-    filled last_of tail_of into inside collected whole reads begun applied paired shape_of arity_of every compact elements
-    pairs numbered renamed met seen rank same
+    filled last_of tail_of into inside collected whole reads begun applied paired shape_of arity_of every compact
+    elements pairs numbered renamed met seen rank same
 exports-shown = refl

@@ -39,9 +39,9 @@ pub first-terms :
     × ReturnsFirstTerm symbols 3 [] 3 (279 * 2 ^ 32) []
     × ReturnsFirstTerm (a ∷ a ∷ []) 1 (9 ∷ []) 1 (279 * 2 ^ 32) (9 ∷ [])
 unfolding word_listing listing alphabet variable_cells strings cells_before filtered call_term begins callable first_in
-    next_in holds first_term term_after legal_shape is_symbol contains are_symbols listable offered first_answer after_answer
-    listed_cells listing_out converter_edition are_terms reads begun applied paired every pairs shape_of arity_of numbered
-    renamed met seen rank same
+    next_in holds first_term term_after legal_shape is_symbol contains are_symbols listable offered first_answer
+    after_answer listed_cells listing_out converter_edition are_terms reads begun applied paired every pairs shape_of
+    arity_of numbered renamed met seen rank same
 first-terms =
     ((refl, refl), (refl, refl), (refl, refl), (refl, refl), (refl, refl), (refl, refl), (refl, refl))
 
@@ -55,7 +55,7 @@ pub terms-after :
     × ReturnsTermAfter symbols 3 (a ∷ []) [] 1 (280 * 2 ^ 32) []
     × ReturnsTermAfter (X ∷ []) 3 (a ∷ []) [] 1 (279 * 2 ^ 32) []
 unfolding word_listing listing alphabet variable_cells strings cells_before filtered call_term begins callable first_in
-    next_in holds first_term term_after legal_shape is_symbol contains are_symbols listable offered first_answer after_answer
-    listed_cells listing_out converter_edition are_terms reads begun applied paired every pairs shape_of arity_of numbered
-    renamed met seen rank same
+    next_in holds first_term term_after legal_shape is_symbol contains are_symbols listable offered first_answer
+    after_answer listed_cells listing_out converter_edition are_terms reads begun applied paired every pairs shape_of
+    arity_of numbered renamed met seen rank same
 terms-after = ((refl, refl), (refl, refl), (refl, refl), (refl, refl), (refl, refl), (refl, refl))
