@@ -44,10 +44,7 @@ pub fn last_sound(space: &[u32], h: Head, s: usize, last: usize) -> bool
     let AnswerRead::Sound(y) = read_answer(space, h, last) else {
         return false;
     };
-    if y.subgoal == s {
-        return y.next == 0;
-    }
-    false
+    y.subgoal == s && y.next == 0
 }
 
 // The refusal of a new answer that takes so many nodes more; 0 for none. A finished subgoal takes none.
@@ -55,20 +52,20 @@ fn refusal(space: &[u32], h: Head, s: usize, g: Subgoal, more: usize) -> u32
     requires { Held space.now h s g }
     ensures { RefusesNew space.now h s more result }
 {
-    if last_sound(space, h, s, g.last) {
-        if g.state != 0 {
-            return STATE;
-        }
-        let free = h.node_capacity - h.nodes;
-        if free < more {
-            return NODES;
-        }
-        if h.answer_capacity <= h.answers {
-            return RECORDS_LEFT;
-        }
-        return 0;
+    if !last_sound(space, h, s, g.last) {
+        return RECORDS;
     }
-    RECORDS
+    if g.state != 0 {
+        return STATE;
+    }
+    let free = h.node_capacity - h.nodes;
+    if free < more {
+        return NODES;
+    }
+    if h.answer_capacity <= h.answers {
+        return RECORDS_LEFT;
+    }
+    0
 }
 
 // The new answer a becomes the first of subgoal s, or the next of its last.
@@ -110,7 +107,7 @@ fn enter_answer(space: &mut [u32], h: Head, s: usize, g: Subgoal, leaf: usize, n
         h.edition,
     );
     let record = Answer {
-        leaf: leaf,
+        leaf,
         subgoal: s,
         next: 0,
     };
@@ -203,17 +200,16 @@ pub fn answer_at(
     ensures { Does space.old h (answered_from (search_indexed index.now stood) s g.root tokens.now) (said_answer result)
         space.new }
 {
-    let walked = walk_tokens(space, h.nodes, h.answers, g.root, tokens, index, stood);
-    match walked {
+    match walk_tokens(space, h.nodes, h.answers, g.root, tokens, index, stood) {
         Walked::Whole(leaf) => {
             let y = node_in(space, h.nodes, leaf);
-            return answer_old(space, h, s, g, tokens, leaf, y.link);
+            answer_old(space, h, s, g, tokens, leaf, y.link)
         }
         Walked::Stopped(parent, last, left) => {
             let from = tokens.len() - left;
-            return answer_new(space, h, s, g, parent, last, &tokens[from..]);
+            answer_new(space, h, s, g, parent, last, &tokens[from..])
         }
-        Walked::Damaged => return AnswerAnswer::Refused(RECORDS),
+        Walked::Damaged => AnswerAnswer::Refused(RECORDS),
     }
 }
 
@@ -268,10 +264,7 @@ fn answer_in(space: &mut [u32], h: Head, s: usize, terms: &[u32], index: &[u32])
     ensures { AnswersUnder (search_indexed index.now h.nodes) space.old h (request.answer s terms.now)
         (said_answer result) space.new }
 {
-    if s == 0 {
-        return AnswerAnswer::Refused(NUMBER);
-    }
-    if h.subgoals < s {
+    if s == 0 || h.subgoals < s {
         return AnswerAnswer::Refused(NUMBER);
     }
     let SubgoalRead::Sound(g) = read_subgoal(space, h, s) else {
@@ -290,10 +283,9 @@ fn answer_in(space: &mut [u32], h: Head, s: usize, terms: &[u32], index: &[u32])
 pub fn answer_indexed(space: &mut [u32], subgoal: u32, terms: &[u32], index: &[u32]) -> AnswerAnswer
     ensures { AnswersIndexed index.now space.old (request.answer subgoal terms.now) (said_answer result) [] space.new }
 {
-    let read = read_header(space);
-    match read {
-        Header::Refused(r) => return AnswerAnswer::Refused(r),
-        Header::Sound(h) => return answer_in(space, h, wide(subgoal), terms, index),
+    match read_header(space) {
+        Header::Refused(r) => AnswerAnswer::Refused(r),
+        Header::Sound(h) => answer_in(space, h, wide(subgoal), terms, index),
     }
 }
 

@@ -1,3 +1,4 @@
+pub mod Both
 pub mod Cases
 pub mod Tests
 pub mod WritesLaws

@@ -4,16 +4,7 @@
 ghost use Rattle.std.specs.Prelude.{◌+◌, ◌*◌, ◌≤◌, length};
 
 use std::io;
-use trials::{both, count_compact, count_expand, print_answer, text};
-
-// Puts x into the cells from `from` up to `end`.
-fn fill(cells: &mut [u32], from: usize, end: usize, x: u32)
-    requires { end ≤ length cells.old }
-{
-    for i in from..end {
-        cells[i] = x;
-    }
-}
+use trials::{both, count_compact, count_expand, print_answer};
 
 // A list of n distinct variables, in 2 n + 1 cells.
 fn variable_list(cells: &mut [u32], n: usize)
@@ -37,75 +28,70 @@ fn numbered(form: &mut [u32])
 
 // Functors of one argument, one in another, around an integer: 256 cells and 257.
 fn cells_256(rt: &impl Print) -> io::Result<()> {
-    let mut cells = [0u32; 257];
-    fill(&mut cells, 0, 255, 0x40000011);
-    fill(&mut cells, 255, 256, 0x30000001);
-    count_compact(rt, b"256 cells", &cells[..256], 1)?;
-    fill(&mut cells, 255, 256, 0x40000011);
-    fill(&mut cells, 256, 257, 0x30000001);
-    count_compact(rt, b"257 cells", &cells, 1)?;
-    fill(&mut cells, 0, 1, 0);
-    count_compact(rt, b"257 cells, the first illegal", &cells, 1)
+    let mut cells = [0x40000011u32; 257];
+    cells[255] = 0x30000001;
+    count_compact(rt, "256 cells", &cells[..256], 1)?;
+    cells[255] = 0x40000011;
+    cells[256] = 0x30000001;
+    count_compact(rt, "257 cells", &cells, 1)?;
+    cells[0] = 0;
+    count_compact(rt, "257 cells, the first illegal", &cells, 1)
 }
 
 // The longest form: a functor of one argument before 127 pairs, one in the head of another.
 fn tokens_383(rt: &impl Print) -> io::Result<()> {
-    let mut cells = [0u32; 256];
-    fill(&mut cells, 0, 1, 0x40000011);
-    fill(&mut cells, 1, 128, forms::PAIR);
-    fill(&mut cells, 128, 256, 0x30000001);
-    count_compact(rt, b"127 pairs below a functor", &cells, 1)?;
+    let mut cells = [0x30000001u32; 256];
+    cells[0] = 0x40000011;
+    cells[1..128].fill(forms::PAIR);
+    count_compact(rt, "127 pairs below a functor", &cells, 1)?;
     let mut form = [0u32; 383];
     convert::compact(&cells, 1, &mut form, 1);
-    count_expand(rt, b"their form", &form, 1, 1)?;
-    let mut long = [0u32; 384];
-    fill(&mut long, 0, 383, 0x40000011);
-    fill(&mut long, 383, 384, 0x30000001);
-    count_expand(rt, b"384 tokens", &long, 1, 1)
+    count_expand(rt, "their form", &form, 1, 1)?;
+    let mut long = [0x40000011u32; 384];
+    long[383] = 0x30000001;
+    count_expand(rt, "384 tokens", &long, 1, 1)
 }
 
 // 32 variables and 33.
 fn variables_32(rt: &impl Print) -> io::Result<()> {
     let mut cells = [0u32; 67];
     variable_list(&mut cells, 32);
-    count_compact(rt, b"a list of 32 variables", &cells[..65], 1)?;
+    count_compact(rt, "a list of 32 variables", &cells[..65], 1)?;
     variable_list(&mut cells, 33);
-    count_compact(rt, b"a list of 33 variables", &cells, 1)?;
+    count_compact(rt, "a list of 33 variables", &cells, 1)?;
     count_compact(
         rt,
-        b"a list of 33 variables without its end",
+        "a list of 33 variables without its end",
         &cells[..66],
         1,
     )?;
     let mut form = [0u32; 33];
     numbered(&mut form);
-    count_expand(rt, b"32 variables", &form[..32], 32, 1)?;
-    count_expand(rt, b"33 variables", &form, 33, 1)
+    count_expand(rt, "32 variables", &form[..32], 32, 1)?;
+    count_expand(rt, "33 variables", &form, 33, 1)
 }
 
 // Forms whose pair form has 255 cells and 257.
 fn expanded_256(rt: &impl Print) -> io::Result<()> {
-    let mut form = [0u32; 130];
-    fill(&mut form, 0, 130, 0x30000001);
-    fill(&mut form, 0, 1, forms::BLIST);
-    fill(&mut form, 127, 128, forms::ELIST);
-    count_expand(rt, b"a list of 127 integers", &form[..129], 1, 1)?;
-    fill(&mut form, 127, 128, 0x30000001);
-    fill(&mut form, 128, 129, forms::ELIST);
-    count_expand(rt, b"a list of 128 integers", &form, 1, 1)
+    let mut form = [0x30000001u32; 130];
+    form[0] = forms::BLIST;
+    form[127] = forms::ELIST;
+    count_expand(rt, "a list of 127 integers", &form[..129], 1, 1)?;
+    form[127] = 0x30000001;
+    form[128] = forms::ELIST;
+    count_expand(rt, "a list of 128 integers", &form, 1, 1)
 }
 
 // Edition 2: a functor of 255 arguments, and one of the largest name; edition 1 reads 15 arguments.
 fn edition_2(rt: &impl Print) -> io::Result<()> {
-    let mut cells = [0u32; 256];
-    fill(&mut cells, 0, 1, 0x400001ff);
-    fill(&mut cells, 1, 256, 0x30000001);
-    count_compact(rt, b"f/255, edition 2", &cells, 2)?;
-    count_expand(rt, b"f/255, edition 2", &cells, 1, 2)?;
-    count_compact(rt, b"f/255, edition 1", &cells, 1)?;
+    let mut cells = [0x30000001u32; 256];
+    cells[0] = 0x400001ff;
+    count_compact(rt, "f/255, edition 2", &cells, 2)?;
+    count_expand(rt, "f/255, edition 2", &cells, 1, 2)?;
+    count_compact(rt, "f/255, edition 1", &cells, 1)?;
     both(
         rt,
-        b"functor 1,048,575 with two arguments, edition 2",
+        "functor 1,048,575 with two arguments, edition 2",
         &[0x4fffff02, 0x10000007, 0x10000009],
         1,
         2,
@@ -114,28 +100,25 @@ fn edition_2(rt: &impl Print) -> io::Result<()> {
 
 // The same functor with an argument less, with one more, and with as many as edition 1 reads.
 fn edition_2_cut(rt: &impl Print) -> io::Result<()> {
-    let mut less = [0u32; 255];
-    fill(&mut less, 0, 1, 0x400001ff);
-    fill(&mut less, 1, 255, 0x30000001);
-    count_compact(rt, b"f/255 without its last argument", &less, 2)?;
-    let mut more = [0u32; 257];
-    fill(&mut more, 0, 1, 0x400001ff);
-    fill(&mut more, 1, 257, 0x30000001);
-    count_compact(rt, b"f/255 with an argument more", &more, 2)?;
-    let mut first = [0u32; 16];
-    fill(&mut first, 0, 1, 0x400001ff);
-    fill(&mut first, 1, 16, 0x30000001);
-    count_compact(rt, b"its first 16 cells, edition 1", &first, 1)
+    let mut less = [0x30000001u32; 255];
+    less[0] = 0x400001ff;
+    count_compact(rt, "f/255 without its last argument", &less, 2)?;
+    let mut more = [0x30000001u32; 257];
+    more[0] = 0x400001ff;
+    count_compact(rt, "f/255 with an argument more", &more, 2)?;
+    let mut first = [0x30000001u32; 16];
+    first[0] = 0x400001ff;
+    count_compact(rt, "its first 16 cells, edition 1", &first, 1)
 }
 
 // The converters take editions 1 and 2 alone, whatever the cells are.
 fn other_editions(rt: &impl Print) -> io::Result<()> {
-    count_compact(rt, b"no cells, edition 0", &[], 0)?;
-    count_compact(rt, b"an integer, edition 3", &[0x30000001], 3)?;
-    count_expand(rt, b"an integer, edition 3", &[0x30000001], 1, 3)?;
+    count_compact(rt, "no cells, edition 0", &[], 0)?;
+    count_compact(rt, "an integer, edition 3", &[0x30000001], 3)?;
+    count_expand(rt, "an integer, edition 3", &[0x30000001], 1, 3)?;
     count_expand(
         rt,
-        b"an integer, edition 4294967295",
+        "an integer, edition 4294967295",
         &[0x30000001],
         1,
         4294967295,
@@ -144,12 +127,12 @@ fn other_editions(rt: &impl Print) -> io::Result<()> {
 
 // An out that is one cell too short.
 fn short_out(rt: &impl Print) -> io::Result<()> {
-    text(rt, b"[1|2] into three cells")?;
+    print!(rt; "[1|2] into three cells")?;
     let mut form = [0u32; 3];
     let compacted = convert::compact(&[0x50000000, 0x30000001, 0x30000002], 1, &mut form, 1);
-    text(rt, b"\n  compact ")?;
+    print!(rt; "\n  compact ")?;
     print_answer(rt, compacted, &form)?;
-    text(rt, b"its form into two cells")?;
+    print!(rt; "its form into two cells")?;
     let mut cells = [0u32; 2];
     let expanded = convert::expand(
         &[0x60000000, 0x30000001, 0x80000000, 0x30000002],
@@ -157,7 +140,7 @@ fn short_out(rt: &impl Print) -> io::Result<()> {
         &mut cells,
         1,
     );
-    text(rt, b"\n  expand  ")?;
+    print!(rt; "\n  expand  ")?;
     print_answer(rt, expanded, &cells)
 }
 

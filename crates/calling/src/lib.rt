@@ -77,8 +77,8 @@ fn enter_subgoal(space: &mut [u32], h: Head, parent: usize, last: usize, tokens:
     };
     write_node(space, h.node_capacity, root, node);
     let record = Subgoal {
-        leaf: leaf,
-        root: root,
+        leaf,
+        root,
         variables: m,
         state: 0,
         first: 0,
@@ -118,17 +118,16 @@ pub fn call_at(space: &mut [u32], h: Head, tokens: &[u32], m: usize, index: &[u3
     ensures { Does space.old h (called_from (search_indexed index.now h.nodes) tokens.now m) (said_call result)
         space.new }
 {
-    let walked = walk_tokens(space, h.nodes, h.subgoals, 0, tokens, index, h.nodes);
-    match walked {
+    match walk_tokens(space, h.nodes, h.subgoals, 0, tokens, index, h.nodes) {
         Walked::Whole(leaf) => {
             let y = node_in(space, h.nodes, leaf);
-            return call_old(space, h, leaf, y.link);
+            call_old(space, h, leaf, y.link)
         }
         Walked::Stopped(parent, last, left) => {
             let from = tokens.len() - left;
-            return call_new(space, h, parent, last, &tokens[from..], m);
+            call_new(space, h, parent, last, &tokens[from..], m)
         }
-        Walked::Damaged => return CallAnswer::Refused(RECORDS),
+        Walked::Damaged => CallAnswer::Refused(RECORDS),
     }
 }
 
@@ -160,9 +159,8 @@ fn call_with(
 pub fn call_indexed(space: &mut [u32], term: &[u32], index: &[u32]) -> CallAnswer
     ensures { AnswersIndexed index.now space.old (request.call term.now) (said_call result) [] space.new }
 {
-    let read = read_header(space);
-    match read {
-        Header::Refused(r) => return CallAnswer::Refused(r),
+    match read_header(space) {
+        Header::Refused(r) => CallAnswer::Refused(r),
         Header::Sound(h) => {
             if cells_rung(term.len()) <= FEW_CELLS {
                 let mut vars = [0u32; FEW_CELLS];
@@ -171,7 +169,7 @@ pub fn call_indexed(space: &mut [u32], term: &[u32], index: &[u32]) -> CallAnswe
             }
             let mut vars = [0u32; MOST_CELLS];
             let mut form = [0u32; FORM_OF_MOST];
-            return call_with(space, h, term, &mut vars, &mut form, index);
+            call_with(space, h, term, &mut vars, &mut form, index)
         }
     }
 }
@@ -188,10 +186,7 @@ fn finish_in(space: &mut [u32], h: Head, s: usize) -> FinishAnswer
     requires { Bounds space.old h }
     ensures { AnswersUnder search_children space.old h (request.finish s) (said_finish result) space.new }
 {
-    if s == 0 {
-        return FinishAnswer::Refused(NUMBER);
-    }
-    if h.subgoals < s {
+    if s == 0 || h.subgoals < s {
         return FinishAnswer::Refused(NUMBER);
     }
     let SubgoalRead::Sound(_) = read_subgoal(space, h, s) else {
@@ -205,9 +200,8 @@ fn finish_in(space: &mut [u32], h: Head, s: usize) -> FinishAnswer
 pub fn finish(space: &mut [u32], subgoal: u32) -> FinishAnswer
     ensures { Answers space.old (request.finish subgoal) (said_finish result) [] space.new }
 {
-    let read = read_header(space);
-    match read {
-        Header::Refused(r) => return FinishAnswer::Refused(r),
-        Header::Sound(h) => return finish_in(space, h, wide(subgoal)),
+    match read_header(space) {
+        Header::Refused(r) => FinishAnswer::Refused(r),
+        Header::Sound(h) => finish_in(space, h, wide(subgoal)),
     }
 }

@@ -16,9 +16,9 @@ fn due_past(due: usize, c: u32, edition: u32) -> usize
     ensures { (result ≡ due_past due (shape_of (arity_of edition) c)) × (result ≤ due + 255) }
 {
     match forms::shape_of(c, edition) {
-        Shape::Symbol(k) => return due_after(due, k) + 1,
-        Shape::Pair => return due_after(due, 2) + 1,
-        Shape::Illegal => return 0,
+        Shape::Symbol(k) => due_after(due, k) + 1,
+        Shape::Pair => due_after(due, 2) + 1,
+        Shape::Illegal => 0,
     }
 }
 
@@ -26,10 +26,7 @@ fn due_past(due: usize, c: u32, edition: u32) -> usize
 fn in_order(c: u32, count: usize) -> bool
     ensures { result ≡ in_order count c }
 {
-    if forms::is_variable(c) {
-        return forms::payload_of(c) <= count;
-    }
-    true
+    !forms::is_variable(c) || forms::payload_of(c) <= count
 }
 
 // Reads the m terms in s, and leaves them numbered at the start of form.
@@ -44,21 +41,18 @@ pub fn read_cells(s: &[u32], m: usize, vars: &mut [u32], form: &mut [u32], editi
     if n < m {
         return Reading::Refusal(TERM);
     }
-    let mut at = 0;
     let mut due = m;
     let mut count = 0;
-    while at < n {
+    for (at, &c) in s.iter().enumerate() {
         if due == 0 {
             return Reading::Refusal(TERM);
         }
-        let c = s[at];
         let more = due_past(due, c, edition);
         if more == 0 {
             return Reading::Refusal(TERM);
         }
         count = pair_reader::store(c, vars, count, form, at);
         due = more - 1;
-        at += 1;
     }
     if 0 < due {
         return Reading::Refusal(TERM);
@@ -75,37 +69,24 @@ pub fn load_cells(s: &[u32], m: usize, cells: &mut [u32], edition: u32) -> Loade
     ensures { CountsPairs edition m s.now cells.new result }
 {
     let n = s.len();
-    if MOST_CELLS < n {
+    if MOST_CELLS < n || n < m {
         return Loaded::Nothing;
     }
-    if n < m {
-        return Loaded::Nothing;
-    }
-    let mut at = 0;
     let mut due = m;
     let mut count = 0;
-    while at < n {
+    for (at, &c) in s.iter().enumerate() {
         if due == 0 {
             return Loaded::Nothing;
         }
-        let c = s[at];
         let more = due_past(due, c, edition);
-        if more == 0 {
+        if more == 0 || !in_order(c, count) {
             return Loaded::Nothing;
         }
-        if in_order(c, count) {
-            cells[at] = c;
-            count = form_reader::met_after(c, count);
-            due = more - 1;
-            at += 1;
-            continue;
-        }
-        return Loaded::Nothing;
+        cells[at] = c;
+        count = form_reader::met_after(c, count);
+        due = more - 1;
     }
-    if 0 < due {
-        return Loaded::Nothing;
-    }
-    if MOST_VARIABLES < count {
+    if 0 < due || MOST_VARIABLES < count {
         return Loaded::Nothing;
     }
     Loaded::Counted(n, count)

@@ -64,10 +64,7 @@ fn read_compact(s: &[u32], m: usize, vars: &mut [u32], form: &mut [u32], edition
 fn limit_of(room: usize) -> usize
     ensures { (result ≤ room) × (result ≤ 256) × (result < 256 → result ≡ room) }
 {
-    if room < MOST_CELLS {
-        return room;
-    }
-    MOST_CELLS
+    room.min(MOST_CELLS)
 }
 
 // Loads the m terms whose form in the edition is s, and leaves their pair form at the start of cells.
@@ -98,10 +95,7 @@ fn load_compact(s: &[u32], m: usize, cells: &mut [u32], edition: u32) -> Loaded
     let Step::Done(next, end, met) = form_reader::terms(s, start, m, cells, edition, limit) else {
         return Loaded::Nothing;
     };
-    if next < s.len() {
-        return Loaded::Nothing;
-    }
-    if MOST_VARIABLES < met {
+    if next < s.len() || MOST_VARIABLES < met {
         return Loaded::Nothing;
     }
     Loaded::Counted(end, met)
@@ -123,11 +117,7 @@ pub fn copy(from: &[u32], n: usize, out: &mut [u32])
     requires { (n ≤ length from.now) × (n ≤ length out.old) }
     ensures { out.new ≡ take n from.now ++ drop n out.old }
 {
-    let mut i = 0;
-    while i < n {
-        out[i] = from[i];
-        i += 1;
-    }
+    out[..n].copy_from_slice(&from[..n]);
 }
 
 // Compacts with buffers that are long enough for s.

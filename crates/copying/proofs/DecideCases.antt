@@ -1,10 +1,10 @@
 -- A law for each case of what a copy answers, and that both ways of telling it come to the same.
-use Prim.Native.Nat.{ℕ, ◌≤◌, ◌<◌}
-use mathlib.Core.Path.{◌≡◌, refl, sym, ap, ◌∙◌, subst}
-use mathlib.Core.Bool.{Bool, true, false, ◌&&◌}
+use Prim.Native.Nat.{ℕ}
+use mathlib.Core.Path.{◌≡◌, refl, sym, ap, ◌∙◌}
+use mathlib.Core.Bool.{true, false, ◌&&◌}
 use mathlib.Core.List.{List}
 use lib.Dec.{leb}
-use borrow.Author.Tests.{le-leb, lt-leb, ne_eqb, eq-eqb}
+use borrow.Author.Tests.{ne_eqb, eq-eqb}
 use Rattle.basis.specs.Editions.{known_edition}
 use Rattle.plain.specs.Coding.{coding_of}
 use Rattle.space.specs.Layout.{sizes_of}
@@ -27,19 +27,6 @@ use Rattle.carrying.proofs.CopyCases.{copy-headless, copy-other, copy-unfresh, s
 use Rattle.carrying.proofs.Quick.{copy-quick}
 use Rattle.carrying.proofs.Theorems.{carry-recodes}
 use Rattle.copying.specs.Clauses.{loaded_reply}
-
--- ---- the counts
-
-module _ (p q r n f a x y z : ℕ) (ex : x ≡ n) (ey : y ≡ f) (ez : z ≡ a) where
-  pub counts-nodes : x < p → false ≡ (leb p n && leb q f && leb r a)
-  counts-nodes h = simp (lt-leb p n (subst (λ (k : ℕ). k < p) ex h))
-
-  pub counts-subgoals : p ≤ x → y < q → false ≡ (leb p n && leb q f && leb r a)
-  counts-subgoals h i = simp (le-leb p n (subst (λ (k : ℕ). p ≤ k) ex h), lt-leb q f (subst (λ (k : ℕ). k < q) ey i))
-
-  pub counts-answers : (b : Bool) → p ≤ x → q ≤ y → b ≡ leb r z → b ≡ (leb p n && leb q f && leb r a)
-  counts-answers b h i e =
-      e ∙ ap (leb r) ez ∙ simp (le-leb p n (subst (λ (k : ℕ). p ≤ k) ex h), le-leb q f (subst (λ (k : ℕ). q ≤ k) ey i))
 
 -- ---- a source that passes the check
 

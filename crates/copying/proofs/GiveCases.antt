@@ -1,13 +1,10 @@
 -- Laws of entering a subgoal by its form, and of the path that it is gathered from.
 use Prim.Native.Nat.{ℕ, zero, suc, ◌+◌, ◌-◌, ◌≤◌, ◌<◌}
-use mathlib.Core.Bool.{true}
 use mathlib.Core.Path.{◌≡◌, refl, sym, ap, ◌∙◌, subst}
-use mathlib.Core.List.{List, [], ◌∷◌, ◌++◌, append-nil}
+use mathlib.Core.List.{List, [], ◌∷◌}
 use native.Mathlib.Omega.{arith}
 use native.Mathlib.Nat.{le_of_suc-le-suc}
-use lib.ListN.{length, take, drop, length-drop, length-map}
-use lib.Seq.{length-take-le}
-use borrow.Rule.Slice.PartMut.{put_mid, same_len_mid}
+use lib.ListN.{length, take, drop, length-drop}
 use Rattle.plain.specs.Requests.{Reply}
 use Rattle.space.specs.Layout.{sizes_of}
 use Rattle.space.specs.Heading.{header_of, space_header}
@@ -18,8 +15,9 @@ use Rattle.space.specs.declared.Subgoal.{Subgoal}
 use Rattle.space.specs.declared.Answer.{Answer}
 use Rattle.space.specs.declared.Header.TheVariants as header
 use Rattle.trie.specs.Walks.{Walk}
-use Rattle.trie.specs.Paths.{Path, tokens, gather, longest}
-use Rattle.trie.specs.Runs.{Found}
+use Rattle.trie.specs.Paths.{Path, gather, longest}
+use Rattle.trie.specs.Runs.{path_to}
+use Rattle.trie.specs.declared.End.{End}
 use Rattle.trie.specs.Index.{search_indexed}
 use Rattle.trie.proofs.IndexLaws.{walk_none}
 use Rattle.trie.specs.Siblings.{search_children}
@@ -30,12 +28,12 @@ use Rattle.store.proofs.JoinCases.{given-written}
 use Rattle.store.specs.Clauses.{view_in, Does, Held, called_from, answered_from}
 use Rattle.agreement.proofs.HeaderTests.{header_read}
 use Rattle.agreement.specs.Whole.{up_to, word_of, answer_path, subgoal_read, answer_read}
-use Rattle.carrying.specs.Recoding.{wider, widening, recoded, takes_word}
+use Rattle.carrying.specs.Recoding.{widening, recoded}
 use Rattle.carrying.specs.Carrying.{carried_subgoal, carried_answer}
 use Rattle.carrying.specs.Copying.{subgoal_given, subgoals_given, answers_given}
 use Rattle.carrying.specs.Clauses.{first_subgoals, first_answers}
 use Rattle.carrying.proofs.CopySteps.{up_to-suc, subgoals-snoc, answers-snoc}
-use Rattle.copying.specs.Clauses.{PathCarried, with_first, SubgoalReady, TakesAnswer, with_answers, AnswerReady}
+use Rattle.copying.specs.Clauses.{PathCarried, RecodedAt, with_first, SubgoalReady, TakesAnswer, with_answers, AnswerReady}
 
 module _ (cs w : List ℕ) (m : ℕ) (two : space_header cs ≡ header_of (sizes_of 2) cs) where
   pub given-refused : (r : ℕ) → header.Refused r ≡ space_header cs → cs ≡ subgoal_given (sizes_of 2) cs w m (header_of (sizes_of 2) cs)
@@ -60,52 +58,10 @@ take_whole [] (suc n) h = refl
 take_whole (x ∷ l) zero h = absurd (omega arith)
 take_whole (x ∷ l) (suc n) h = ap {B = List ℕ} (λ (k : List ℕ). x ∷ k) (take_whole l n (le_of_suc-le-suc h))
 
--- where a path that can be carried stands in the cells
-pub record Gathered (p : Path) (r : ℕ) (cells : List ℕ) : Type 0 where
-  pub some : 1 ≤ r
-  pub within : r ≤ 384
-  pub long : length cells ≡ 384
-  pub is : take (384 - r) (drop r cells) ≡ word_of p
-  pub taken : takes_word widening (take (384 - r) (drop r cells)) ≡ true
-
-gathered-path : (p : Path) → (w : List ℕ) → p ≡ tokens w → takes_word widening w ≡ true → (r : ℕ) (cells : List ℕ) → Found p r cells → length cells ≡ 384 → Gathered p r cells
-gathered-path p w e t r cells f n =
-    let g : (1 ≤ r) × (r ≤ length cells) × (drop r cells ≡ w) = subst (λ (x : Path). Found x r cells) e f in
-    let all : take (384 - r) (drop r cells) ≡ w = take_whole (drop r cells) (384 - r) (omega (arith, length-drop r cells)) ∙ g.2 in
-    record { some = g.0; within = omega arith; long = n; is = all ∙ ap word_of (sym e); taken = rw all t }
-
-pub gathered : (p : Path) → PathCarried p → (r : ℕ) (cells : List ℕ) → Found p r cells × (length cells ≡ 384) → Gathered p r cells
-gathered p t r cells k = gathered-path p t.0 t.1 t.2 r cells k.0 k.1
-
--- and what is written over it is what stands there
-pub put_back : (r : ℕ) (cells q : List ℕ) → r ≤ 384 → length cells ≡ 384 → length q ≡ 384 - r → take (384 - r) (drop r (put_mid r (384 - r) cells q)) ≡ q
-put_back r cells q h n m =
-    let front : length (take r cells) ≡ r = length-take-le r cells (omega arith) in
-    let rest : drop (384 - r) (drop r cells) ≡ [] = drop_all (drop r cells) (384 - r) (omega (arith, length-drop r cells)) in
-    ap (λ (l : List ℕ). take (384 - r) (drop r (take r cells ++ (q ++ l)))) rest
-    ∙ ap (take (384 - r)) (drop-front (take r cells) (q ++ []) r front) ∙ ap (take (384 - r)) (append-nil q) ∙ take_whole q (384 - r) (omega arith)
-  where
-    drop_all : (l : List ℕ) (n : ℕ) → length l ≤ n → drop n l ≡ []
-    drop_all [] zero h = refl
-    drop_all [] (suc n) h = refl
-    drop_all (x ∷ l) zero h = absurd (omega arith)
-    drop_all (x ∷ l) (suc n) h = drop_all l n (le_of_suc-le-suc h)
-
-    drop-front : (a b : List ℕ) (n : ℕ) → length a ≡ n → drop n (a ++ b) ≡ b
-    drop-front [] b zero e = refl
-    drop-front [] b (suc n) e = absurd (omega arith)
-    drop-front (x ∷ a) b zero e = absurd (omega arith)
-    drop-front (x ∷ a) b (suc n) e = drop-front a b n (omega arith)
-
--- a path recoded where it stands
-pub recoded-back : (p : Path) (r : ℕ) (cells q : List ℕ) → Gathered p r cells → q ≡ recoded widening (take (384 - r) (drop r cells))
-    → (take (384 - r) (drop r (put_mid r (384 - r) cells q)) ≡ recoded widening (word_of p)) × (length (put_mid r (384 - r) cells q) ≡ 384)
-recoded-back p r cells q g e =
-    let part : length (take (384 - r) (drop r cells)) ≡ 384 - r = length-take-le (384 - r) (drop r cells) (omega (arith, length-drop r cells, g.long)) in
-    let m : length q ≡ length (take (384 - r) (drop r cells)) = ap length e ∙ length-map (take (384 - r) (drop r cells)) wider in (
-      put_back r cells q g.within g.long (m ∙ part) ∙ e ∙ ap (recoded widening) g.is,
-      same_len_mid r (384 - r) cells q m ∙ g.long,
-    )
+-- from where a path stands on, the cells are the whole of it
+pub recoded_whole : (cs : List ℕ) (e : End) (r : ℕ) (path : List ℕ) → RecodedAt cs e r path
+    → take (384 - r) (drop r path) ≡ recoded widening (word_of (path_to cs e))
+recoded_whole cs e r path h = take_whole (drop r path) (384 - r) (omega (arith, length-drop r path, h.1)) ∙ h.2
 
 -- ---- subgoals one after another
 

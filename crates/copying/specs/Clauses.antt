@@ -1,6 +1,6 @@
 -- What the functions of a copy ask for: paths whose tokens can all be stored in edition 2, and the records of a source
 -- as they enter a target. And what is told of a source that need not pass the check.
-use Rattle.std.specs.Prelude.{ℕ, suc, ◌≤◌, ◌<◌, ◌≡◌, true, List}
+use Rattle.std.specs.Prelude.{ℕ, suc, ◌≤◌, ◌<◌, ◌≡◌, true, List, length, drop}
 use Rattle.basis.specs.Choice.{pick}
 use Rattle.plain.specs.Coding.{coding_of}
 use Rattle.space.specs.Layout.{sizes_of}
@@ -11,11 +11,13 @@ use Rattle.space.specs.declared.FreshAnswer.TheVariants.{Refused}
 use Rattle.space.specs.declared.Head.{Head}
 use Rattle.space.specs.declared.Header.TheVariants as header
 use Rattle.trie.specs.Paths.{Path, tokens}
+use Rattle.trie.specs.Runs.{path_cells, path_to}
+use Rattle.trie.specs.declared.End.{End}
 use Rattle.store.specs.Clauses.{view_in}
 use Rattle.store.specs.Views.{View}
 use Rattle.store.specs.Decisions.{sound_subgoal}
-use Rattle.agreement.specs.Whole.{subgoal_path, answer_path, table_read}
-use Rattle.carrying.specs.Recoding.{widening, takes_word}
+use Rattle.agreement.specs.Whole.{word_of, subgoal_path, answer_path, table_read}
+use Rattle.carrying.specs.Recoding.{widening, recoded, takes_word}
 use Rattle.carrying.specs.Carrying.{carrying}
 use Rattle.carrying.specs.Copying.{source_loads, subgoals_given, answers_given, states_given}
 use Rattle.carrying.specs.Clauses.{first_subgoals, first_answers}
@@ -23,6 +25,11 @@ use Rattle.carrying.specs.Clauses.{first_subgoals, first_answers}
 -- the path is there, and edition 2 has room for its names
 abbrev pub PathCarried : Path → Type 0
 PathCarried p = (w : List ℕ) × (p ≡ tokens w) × (takes_word widening w ≡ true)
+
+-- the path to an end, recoded, stands in the cells of a whole one from r on
+abbrev pub RecodedAt : List ℕ → End → ℕ → List ℕ → Type 0
+RecodedAt cs e r path =
+    (r ≤ path_cells) × (length path ≡ path_cells) × (drop r path ≡ recoded widening (word_of (path_to cs e)))
 
 -- the target with the first i subgoals of the source
 abbrev pub with_first : List ℕ → Head → List ℕ → ℕ → List ℕ

@@ -25,13 +25,7 @@ use space::{FreshAnswer, Head, Header};
 fn counts_fit(h: Head, nodes: u32, subgoals: u32, answers: u32) -> bool
     ensures { result ≡ (leb h.nodes nodes && leb h.subgoals subgoals && leb h.answers answers) }
 {
-    if wide(nodes) < h.nodes {
-        return false;
-    }
-    if wide(subgoals) < h.subgoals {
-        return false;
-    }
-    h.answers <= wide(answers)
+    h.nodes <= wide(nodes) && h.subgoals <= wide(subgoals) && h.answers <= wide(answers)
 }
 
 // Of a source that passes the check.
@@ -85,8 +79,7 @@ fn decide_in(
     if !fits(wide(nodes), wide(subgoals), wide(answers), target, EDITION) {
         return FreshAnswer::Refused(FRESH);
     }
-    let checked = check(source);
-    if let CheckAnswer::Whole = checked {
+    if let CheckAnswer::Whole = check(source) {
         return whole_answer(source, h, nodes, subgoals, answers);
     }
     loaded_answer(source, h, nodes, subgoals, answers)
@@ -102,8 +95,7 @@ pub fn decide(
 ) -> FreshAnswer
     ensures { result ≡ carry_reply nodes subgoals answers source.now target.now }
 {
-    let header = read_header(source);
-    match header {
+    match read_header(source) {
         Header::Sound(h) => decide_in(source, h, target, nodes, subgoals, answers),
         Header::Refused(k) => FreshAnswer::Refused(k),
     }

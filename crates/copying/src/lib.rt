@@ -28,12 +28,11 @@ pub fn carry(
 ) -> FreshAnswer
     ensures { CopiesInto 1 2 widening nodes subgoals answers source.now target.old result target.new }
 {
-    let decided = decide(source, target, nodes, subgoals, answers);
-    match decided {
+    match decide(source, target, nodes, subgoals, answers) {
         FreshAnswer::Done => {
             write(source, target, nodes, subgoals, answers);
-            return FreshAnswer::Done;
+            FreshAnswer::Done
         }
-        FreshAnswer::Refused(k) => return FreshAnswer::Refused(k),
+        FreshAnswer::Refused(k) => FreshAnswer::Refused(k),
     }
 }

@@ -28,11 +28,8 @@ pub fn recode(form: &mut [u32])
     requires { takes_word widening form.old ≡ true }
     ensures { form.new ≡ recoded widening form.old }
 {
-    let n = form.len();
-    let mut i = 0;
-    while i < n {
-        form[i] = widened(form[i]);
-        i += 1;
+    for x in form.iter_mut() {
+        *x = widened(*x);
     }
 }
 
@@ -41,13 +38,10 @@ pub fn are_named(space: &[u32], h: Head) -> bool
     requires { Bounds space.now h }
     ensures { result ≡ takes_nodes widening (view_in space.now h) }
 {
-    let mut i = 0;
-    while i < h.nodes {
-        let y = node_in(space, h.nodes, i);
-        if !is_named(y.token) {
+    for i in 0..h.nodes {
+        if !is_named(node_in(space, h.nodes, i).token) {
             return false;
         }
-        i += 1;
     }
     true
 }

@@ -5,32 +5,43 @@ ghost use Rattle.space.specs.Layout.{sizes_of};
 ghost use Rattle.space.specs.Heading.{header_of, space_header};
 ghost use Rattle.space.specs.Sound.{Bounds};
 ghost use Rattle.space.specs.declared.FreshAnswer.TheVariants.{Done};
-ghost use Rattle.trie.specs.Runs.{Ends, path_to};
+ghost use Rattle.trie.specs.Runs.{Ends, path_cells, path_to};
 ghost use Rattle.store.specs.Changes.{form_given};
 ghost use Rattle.agreement.specs.Whole.{word_of};
 ghost use Rattle.carrying.specs.Recoding.{widening, recoded};
 ghost use Rattle.carrying.specs.Copying.{subgoal_given, carry_reply, carry_space};
-ghost use Rattle.copying.specs.Clauses.{PathCarried, with_first, SubgoalsReady, TakesAnswer};
+ghost use Rattle.copying.specs.Clauses.{PathCarried, RecodedAt, with_first, SubgoalsReady, TakesAnswer};
 ghost use Rattle.copying.specs.Clauses.{with_answers, AnswersReady, with_states, StatesReady};
 
 use super::EDITION;
 use super::tokens::recode;
 use answering::answer_at;
 use calling::call_at;
+use sources::loading::gather;
 use space::fresh::fresh;
 use space::heading::read_header;
 use space::records::{answer_in, subgoal_in, write_state};
 use space::{Head, Header};
 use trie::End;
-use trie::paths::{CELLS, LEVELS, few_path, whole_path};
+use trie::paths::CELLS;
+
+// The path that ends here, recoded, in the cells of a whole one: where it starts.
+fn recoded_path(source: &[u32], end: End, path: &mut [u32; CELLS]) -> usize
+    requires ends { Ends source.now end × PathCarried (path_to source.now end) }
+    requires room { length path.old ≡ path_cells }
+    ensures { RecodedAt source.now end result path.new }
+{
+    let k = gather(source, end, path);
+    recode(&mut path[k..]);
+    k
+}
 
 // A subgoal of this form and m variables enters a space of edition 2.
 pub fn give_subgoal(target: &mut [u32], form: &[u32], m: usize)
     requires { (space_header target.old ≡ header_of (sizes_of 2) target.old) × (m ≤ 32) }
     ensures { target.new ≡ subgoal_given (sizes_of 2) target.old form.now m (header_of (sizes_of 2) target.old) }
 {
-    let header = read_header(target);
-    let Header::Sound(h) = header else {
+    let Header::Sound(h) = read_header(target) else {
         return;
     };
     call_at(target, h, form, m, &[]);
@@ -43,11 +54,8 @@ pub fn carry_subgoal(source: &[u32], end: End, target: &mut [u32], m: usize)
     ensures { target.new ≡ subgoal_given (sizes_of 2) target.old (recoded widening (word_of (path_to source.now end))) m
         (header_of (sizes_of 2) target.old) }
 {
-    let mut few = [0u32; LEVELS];
-    let begun = few_path(source, end, &mut few);
     let mut path = [0u32; CELLS];
-    let k = whole_path(source, end, begun, &few, &mut path);
-    recode(&mut path[k..]);
+    let k = recoded_path(source, end, &mut path);
     give_subgoal(target, &path[k..], m);
 }
 
@@ -56,8 +64,7 @@ pub fn carry_subgoals(source: &[u32], h: Head, target: &mut [u32])
     requires { Bounds source.now h × SubgoalsReady source.now h target.old }
     ensures { target.new ≡ with_first source.now h target.old h.subgoals }
 {
-    let mut i = 0;
-    while i < h.subgoals {
+    for i in 0..h.subgoals {
         let g = subgoal_in(source, h, i + 1);
         let end = End {
             nodes: h.nodes,
@@ -66,7 +73,6 @@ pub fn carry_subgoals(source: &[u32], h: Head, target: &mut [u32])
             leaf: g.leaf,
         };
         carry_subgoal(source, end, target, g.variables);
-        i += 1;
     }
 }
 
@@ -75,8 +81,7 @@ pub fn give_answer(target: &mut [u32], s: usize, form: &[u32])
     requires { (space_header target.old ≡ header_of (sizes_of 2) target.old) × TakesAnswer target.old s }
     ensures { target.new ≡ form_given (sizes_of 2) target.old s form.now (header_of (sizes_of 2) target.old) }
 {
-    let header = read_header(target);
-    let Header::Sound(h) = header else {
+    let Header::Sound(h) = read_header(target) else {
         return;
     };
     let g = subgoal_in(target, h, s);
@@ -90,11 +95,8 @@ pub fn carry_answer(source: &[u32], end: End, target: &mut [u32], s: usize)
     ensures { target.new ≡ form_given (sizes_of 2) target.old s (recoded widening (word_of (path_to source.now end)))
         (header_of (sizes_of 2) target.old) }
 {
-    let mut few = [0u32; LEVELS];
-    let begun = few_path(source, end, &mut few);
     let mut path = [0u32; CELLS];
-    let k = whole_path(source, end, begun, &few, &mut path);
-    recode(&mut path[k..]);
+    let k = recoded_path(source, end, &mut path);
     give_answer(target, s, &path[k..]);
 }
 
@@ -103,8 +105,7 @@ pub fn carry_answers(source: &[u32], h: Head, target: &mut [u32])
     requires { Bounds source.now h × AnswersReady source.now h target.old }
     ensures { target.new ≡ with_answers source.now h target.old h.answers }
 {
-    let mut i = 0;
-    while i < h.answers {
+    for i in 0..h.answers {
         let y = answer_in(source, h, i + 1);
         let g = subgoal_in(source, h, y.subgoal);
         let end = End {
@@ -114,7 +115,6 @@ pub fn carry_answers(source: &[u32], h: Head, target: &mut [u32])
             leaf: y.leaf,
         };
         carry_answer(source, end, target, y.subgoal);
-        i += 1;
     }
 }
 
@@ -123,11 +123,9 @@ pub fn carry_states(source: &[u32], h: Head, target: &mut [u32], offset: usize)
     requires { Bounds source.now h × StatesReady source.now h offset (length target.old) }
     ensures { target.new ≡ with_states source.now h offset target.old h.subgoals }
 {
-    let mut i = 0;
-    while i < h.subgoals {
+    for i in 0..h.subgoals {
         let g = subgoal_in(source, h, i + 1);
         write_state(target, offset, i + 1, g.state as u32, EDITION);
-        i += 1;
     }
 }
 
@@ -136,15 +134,13 @@ pub fn write(source: &[u32], target: &mut [u32], nodes: u32, subgoals: u32, answ
     requires { carry_reply nodes subgoals answers source.now target.old ≡ Done }
     ensures { target.new ≡ carry_space nodes subgoals answers source.now target.old }
 {
-    let header = read_header(source);
-    let Header::Sound(h) = header else {
+    let Header::Sound(h) = read_header(source) else {
         return;
     };
     fresh(target, nodes, subgoals, answers, EDITION);
     carry_subgoals(source, h, target);
     carry_answers(source, h, target);
-    let held = read_header(target);
-    let Header::Sound(to) = held else {
+    let Header::Sound(to) = read_header(target) else {
         return;
     };
     carry_states(source, h, target, to.subgoal_offset);

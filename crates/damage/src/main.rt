@@ -27,11 +27,7 @@ const CELLS_IN_ALL: usize = 116;
 fn put(space: &mut [u32; CELLS_IN_ALL], from: usize, cells: &[u32])
     requires { from + length cells.now ≤ 116 }
 {
-    let mut i = 0;
-    while i < cells.len() {
-        space[from + i] = cells[i];
-        i += 1;
-    }
+    space[from..from + cells.len()].copy_from_slice(cells);
 }
 
 // The nodes, two to a line: of f(X, a), f(X, b) and g(X), which were called, of the roots of their answers, and of
@@ -66,7 +62,7 @@ fn small() -> [u32; CELLS_IN_ALL] {
 }
 
 fn more(count: u64) -> u64 {
-    std::num::wrapping_add_u64(count, 1)
+    count.wrapping_add(1)
 }
 
 // The sum with one number more.
@@ -94,17 +90,7 @@ fn with_damage(t: Tally) -> Tally {
 }
 
 fn with_sum(t: Tally, sum: u64) -> Tally {
-    Tally {
-        damaged: t.damaged,
-        sum: sum,
-    }
-}
-
-fn with_index(t: Tally, number: usize) -> Tally {
-    Tally {
-        damaged: t.damaged,
-        sum: mixed_index(t.sum, number),
-    }
+    Tally { sum, ..t }
 }
 
 fn with_node(t: Tally, y: Node) -> Tally {
@@ -159,13 +145,11 @@ fn with_walk(t: Tally, w: Walked) -> Tally {
 
 // A path's tokens, their number first.
 fn with_tokens(t: Tally, tokens: &[u32]) -> Tally {
-    let mut s = mixed_index(mixed(t.sum, 1), tokens.len());
-    let mut i = 0;
-    while i < tokens.len() {
-        s = mixed_cell(s, tokens[i]);
-        i += 1;
-    }
-    with_sum(t, s)
+    let start = mixed_index(mixed(t.sum, 1), tokens.len());
+    with_sum(
+        t,
+        tokens.iter().fold(start, |s, &token| mixed_cell(s, token)),
+    )
 }
 
 fn one_node(t: Tally, r: NodeRead) -> Tally {
@@ -179,10 +163,8 @@ fn nodes_of(space: &[u32], nodes: usize, links: usize, start: Tally) -> Tally
     requires { NodesIn space.now nodes }
 {
     let mut t = start;
-    let mut n = 0;
-    while n < nodes {
+    for n in 0..nodes {
         t = one_node(t, read_node(space, nodes, links, n));
-        n += 1;
     }
     t
 }
@@ -198,10 +180,8 @@ fn subgoals_of(space: &[u32], h: Head) -> Tally
     requires { Bounds space.now h }
 {
     let mut t = started();
-    let mut s = 1;
-    while s <= h.subgoals {
+    for s in 1..=h.subgoals {
         t = one_subgoal(t, read_subgoal(space, h, s));
-        s += 1;
     }
     t
 }
@@ -217,10 +197,8 @@ fn answers_of(space: &[u32], h: Head) -> Tally
     requires { Bounds space.now h }
 {
     let mut t = started();
-    let mut a = 1;
-    while a <= h.answers {
+    for a in 1..=h.answers {
         t = one_answer(t, read_answer(space, h, a));
-        a += 1;
     }
     t
 }
@@ -229,13 +207,11 @@ fn walks_of(space: &[u32], nodes: usize, links: usize, tokens: &[u32], start: Ta
     requires { NodesIn space.now nodes }
 {
     let mut t = start;
-    let mut root = 0;
-    while root < nodes {
+    for root in 0..nodes {
         t = with_walk(
             t,
-            walk_tokens(space, nodes, links, root, tokens, &tokens[..0], nodes),
+            walk_tokens(space, nodes, links, root, tokens, &[], nodes),
         );
-        root += 1;
     }
     t
 }
@@ -283,16 +259,14 @@ fn paths_to(space: &[u32], nodes: usize, links: usize, root: usize, start: Tally
     requires { NodesIn space.now nodes }
 {
     let mut t = start;
-    let mut n = 0;
-    while n < nodes {
+    for leaf in 0..nodes {
         let end = End {
-            nodes: nodes,
-            links: links,
-            root: root,
-            leaf: n,
+            nodes,
+            links,
+            root,
+            leaf,
         };
         t = one_path(space, end, t);
-        n += 1;
     }
     t
 }
@@ -301,10 +275,8 @@ fn paths_of(space: &[u32], nodes: usize, links: usize, start: Tally) -> Tally
     requires { NodesIn space.now nodes }
 {
     let mut t = start;
-    let mut root = 0;
-    while root < nodes {
+    for root in 0..nodes {
         t = paths_to(space, nodes, links, root, t);
-        root += 1;
     }
     t
 }
@@ -360,8 +332,8 @@ fn trials(rt: &impl Print, space: &mut [u32; CELLS_IN_ALL], i: usize) -> io::Res
     let old = space[i];
     trial(rt, space, i, 0)?;
     trial(rt, space, i, 1)?;
-    trial(rt, space, i, std::num::wrapping_sub_u32(old, 1))?;
-    trial(rt, space, i, std::num::wrapping_add_u32(old, 1))?;
+    trial(rt, space, i, old.wrapping_sub(1))?;
+    trial(rt, space, i, old.wrapping_add(1))?;
     trial(rt, space, i, 4294967295)
 }
 

@@ -27,6 +27,7 @@ use Rattle.space.specs.declared.AnswerRead.TheVariants as answer
 use Rattle.space.proofs.JudgingLaws.{node-bounds, read-node-sound, read-node-damaged, answer-bounds, read-answer-sound, follows-rises, follows-within}
 use Rattle.trie.specs.Siblings.{Trie, sound}
 use Rattle.trie.specs.Paths.{Path, none, tokens, below, gather}
+use Rattle.trie.specs.Ends.{answer_end}
 use Rattle.trie.specs.Runs.{trie_of, path_to}
 use Rattle.trie.specs.declared.End.{End}
 use Rattle.trie.proofs.PathLaws.{gather-unsound, gather-root, gather-other, gather-up}
@@ -263,9 +264,6 @@ unfolding lives_behind prepended
 behind-legal test a w t severed = refl
 behind-legal test a w t (lives ls) = rw t refl
 
-abbrev pub end_of : Head → Subgoal → Answer → End
-end_of h g y = record { nodes = h.nodes; links = h.answers; root = g.root; leaf = y.leaf }
-
 module _ (cs : List ℕ) (h : Head) (s a : ℕ) (z : a ≡ 0 → ⊥) where
   pub answer-damaged : answer.Damaged ≡ reads-answer (view_in cs h) a → AnswerJudged cs h s a member.Damaged
   unfolding lives_from
@@ -288,16 +286,16 @@ module _ (cs : List ℕ) (h : Head) (s a : ℕ) (z : a ≡ 0 → ⊥) where
     module _ (o : y.subgoal ≡ s) (g : Subgoal) (f : g ≡ subgoal_under cs h s) where
       -- the answers from a on: its path before what follows
       from-here : (steps : ℕ) → lives_at cs h s (suc steps) a
-          ≡ lives_behind ((stored_of h.edition).legal g.variables) a (path_to cs (end_of h g y)) (lives_at cs h s steps y.next)
+          ≡ lives_behind ((stored_of h.edition).legal g.variables) a (path_to cs (answer_end h g y)) (lives_at cs h s steps y.next)
       unfolding lives_from
       from-here steps =
           rw (f, read.0)
           (simp (ne_eqb _ _ z, read.1, eq-eqb _ _ (ap (λ (w : Answer). w.subgoal) (sym read.0) ∙ o)))
 
-      pub answer-severed : PathSevered h.edition (path_to cs (end_of h g y)) g.variables → AnswerJudged cs h s a member.Damaged
+      pub answer-severed : PathSevered h.edition (path_to cs (answer_end h g y)) g.variables → AnswerJudged cs h s a member.Damaged
       answer-severed p steps = from-here steps ∙ p a (lives_at cs h s steps y.next)
 
-      pub answer-held : (b : Bool) → PathHeld h.edition (path_to cs (end_of h g y)) g.variables b → AnswerJudged cs h s a (member.Sound y.next b)
+      pub answer-held : (b : Bool) → PathHeld h.edition (path_to cs (answer_end h g y)) g.variables b → AnswerJudged cs h s a (member.Sound y.next b)
       answer-held b p = (
         onward,
         (

@@ -1,17 +1,19 @@
 -- The cells that a search works in: what is chosen, and what stands for the least total.
-use Prim.Native.Nat.{ℕ, zero, suc, ◌+◌, ◌-◌, ◌≤◌, ◌<◌}
-use mathlib.Core.Path.{◌≡◌, refl, sym, ap, ◌∙◌}
-use mathlib.Core.Bool.{Bool, true, false, ◌||◌}
+use Prim.Native.Nat.{ℕ, zero, suc, ◌+◌, ◌≤◌, ◌<◌}
+use mathlib.Core.Path.{◌≡◌, refl, sym, ap, ◌∙◌, subst}
+use mathlib.Core.Bool.{Bool, ◌||◌}
 use mathlib.Core.List.{List, [], ◌∷◌, ◌++◌, map}
 use native.Mathlib.Omega.{arith}
 use lib.Dec.{eqb}
-use lib.ListN.{length, get_or, set, length-set}
-use lib.Seq.{get_or-set_same, get_or-set_other}
+use lib.ListN.{length, get_or, set, length-set, take, drop}
+use lib.Seq.{get_or-set_same, get_or-set_other, take-suc, paste, paste-zero, paste-suc}
+use Rattle.std.specs.List.{list_any}
+use Rattle.std.proofs.lemmas.List.{get_or-drop, length-drop}
 use borrow.Author.Tests.{eq-eqb, ne_eqb, eqb-true, eqb-false, lt-ltb, le-ltb}
 use Rattle.basis.proofs.Cases.{by_cases}
 use Rattle.plain.specs.Requests.{none_found, found}
 use Rattle.plain.specs.Detours.{Option, diverts, total_of, numbers_in, better}
-use Rattle.detours.specs.Searching.{work_cells, best_from, numbers_from, diverters_from, no_total, cells_at, numbers_chosen, diverters_in, best_in, Chosen, Stays, among, Copied, Keeps}
+use Rattle.detours.specs.Searching.{work_cells, best_from, numbers_from, diverters_from, no_total, cells_at, numbers_chosen, best_in, Chosen, Stays, among, Copied, Keeps}
 
 -- ---- cells in a row
 
@@ -28,47 +30,22 @@ cells-more work from n = refl
 
 -- ---- among
 
-pub among-more : (d : ℕ) (xs : List ℕ) (x : ℕ) → among d (xs ++ (x ∷ [])) ≡ (among d xs || eqb x d)
+-- the first n cells from a place on, as a part
+cells-part : (work : List ℕ) (from n : ℕ) → from + n ≤ length work → cells_at work from n ≡ take n (drop from work)
+unfolding cells_at
+cells-part work from zero l = refl
+cells-part work from (suc n) l =
+    let e : n < length (drop from work) = simp length-drop (omega arith) in
+    rw (cells-part work from n (omega arith), ← get_or-drop from work n 0) (sym (take-suc (drop from work) n 0 e))
+
+any-among : (d : ℕ) (xs : List ℕ) → list_any (λ y. eqb y d) xs ≡ among d xs
 unfolding among
-among-more d [] x = by_cases (eqb x d) (λ e. rw e refl) (λ e. rw e refl)
-among-more d (y ∷ ys) x = by_cases (eqb y d) (λ e. rw e refl) (λ e. rw e (among-more d ys x))
+any-among d [] = refl
+any-among d (x ∷ xs) = ap (λ (b : Bool). eqb x d || b) (any-among d xs)
 
-pub among_none : (d : ℕ) (work : List ℕ) (from : ℕ) → among d (cells_at work from 0) ≡ false
-unfolding among cells_at
-among_none d work from = refl
-
-or-true : (a : Bool) → (a || true) ≡ true
-or-true true = refl
-or-true false = refl
-
-or-false : (a : Bool) → (a || false) ≡ a
-or-false true = refl
-or-false false = refl
-
--- the last cell is the one looked for, or is not
-pub among-here : (d : ℕ) (work : List ℕ) (from n : ℕ) → get_or work (from + n) 0 ≡ d → among d (cells_at work from (suc n)) ≡ true
-among-here d work from n e =
-    ap (among d) (cells-more work from n) ∙ among-more d (cells_at work from n) (get_or work (from + n) 0)
-    ∙ ap (λ (b : Bool). among d (cells_at work from n) || b) (eq-eqb (get_or work (from + n) 0) d e) ∙ or-true (among d (cells_at work from n))
-
-pub among-before : (d : ℕ) (work : List ℕ) (from n : ℕ) → (get_or work (from + n) 0 ≡ d → ⊥) → among d (cells_at work from (suc n)) ≡ among d (cells_at work from n)
-among-before d work from n e =
-    ap (among d) (cells-more work from n) ∙ among-more d (cells_at work from n) (get_or work (from + n) 0)
-    ∙ ap (λ (b : Bool). among d (cells_at work from n) || b) (ne_eqb (get_or work (from + n) 0) d e) ∙ or-false (among d (cells_at work from n))
-
--- looked for from the last cell down
-module _ (d : ℕ) (work : List ℕ) (n i : ℕ) (some : 0 < i) (e : among d (diverters_in work n) ≡ among d (diverters_in work i)) where
-  lower : suc (i - 1) ≡ i
-  lower = omega arith
-
-  pub among-found : get_or work (diverters_from + (i - 1)) 0 ≡ d → true ≡ among d (diverters_in work n)
-  among-found f = sym (e ∙ ap (λ (k : ℕ). among d (diverters_in work k)) (sym lower) ∙ among-here d work diverters_from (i - 1) f)
-
-  pub among-lower : (get_or work (diverters_from + (i - 1)) 0 ≡ d → ⊥) → among d (diverters_in work n) ≡ among d (diverters_in work (i - 1))
-  among-lower f = e ∙ ap (λ (k : ℕ). among d (diverters_in work k)) (sym lower) ∙ among-before d work diverters_from (i - 1) f
-
-pub among-ended : (d : ℕ) (work : List ℕ) (n i : ℕ) → i ≡ 0 → among d (diverters_in work n) ≡ among d (diverters_in work i) → false ≡ among d (diverters_in work n)
-among-ended d work n i z e = sym (e ∙ ap (λ (k : ℕ). among d (diverters_in work k)) z ∙ among_none d work diverters_from)
+pub among-part : (d : ℕ) (work : List ℕ) (from n : ℕ) → from + n ≤ length work
+    → list_any (λ y. eqb y d) (take n (drop from work)) ≡ among d (cells_at work from n)
+among-part d work from n l = any-among d (take n (drop from work)) ∙ ap (among d) (sym (cells-part work from n l))
 
 pub diverts-among : (d : ℕ) (os : List Option) → diverts d os ≡ among d (map (λ o. o.diverter) os)
 unfolding diverts among
@@ -212,3 +189,15 @@ module _ (work work' : List ℕ) (i : ℕ) (l : i < 6) (size : length work ≡ w
     low = λ j k. get_or-set_other work' (best_from + i) j (get_or work' (numbers_from + i) 0) 0 (λ z. omega arith) ∙ c.low j k;
     high = λ j. get_or-set_other work' (best_from + i) (numbers_from + j) (get_or work' (numbers_from + i) 0) 0 (λ z. omega arith) ∙ c.high j;
   }
+
+pub copied_all : (work : List ℕ) (n : ℕ) → n ≤ 6 → length work ≡ work_cells
+    → Copied work n (paste work best_from (drop numbers_from work) n)
+copied_all work zero l size = subst (Copied work 0) (paste-zero work best_from (drop numbers_from work)) (copied_none work)
+copied_all work (suc n) l size =
+    let c = copied_all work n (omega arith) size in
+    let e : get_or (paste work best_from (drop numbers_from work) n) (numbers_from + n) 0 ≡ get_or (drop numbers_from work) n 0 =
+    c.high n ∙ sym (get_or-drop numbers_from work n 0) in
+    let k : n < length (drop numbers_from work) = simp length-drop (omega arith) in
+    subst (Copied work (suc n))
+    (ap (set (paste work best_from (drop numbers_from work) n) (best_from + n)) e ∙ paste-suc work best_from (drop numbers_from work) n 0 (omega arith) k)
+    (copied_more work (paste work best_from (drop numbers_from work) n) n (omega arith) size c)

@@ -16,24 +16,7 @@ use path_terms::path_worth;
 use space::records::{read_answer, read_rising_node, read_subgoal};
 use space::{AnswerRead, Head, NodeRead, Subgoal, SubgoalRead};
 use trie::End;
-
-fn both(a: bool, b: bool) -> bool
-    ensures { result ≡ (a && b) }
-{
-    if a {
-        return b;
-    }
-    false
-}
-
-fn either(a: bool, b: bool) -> bool
-    ensures { result ≡ (a || b) }
-{
-    if a {
-        return true;
-    }
-    b
-}
+use trie::ends::answer_end;
 
 // Is the path an atom and an integer? Three nodes tell.
 fn is_offer(space: &[u32], end: End) -> bool
@@ -55,12 +38,10 @@ fn is_offer(space: &[u32], end: End) -> bool
     let NodeRead::Sound(root) = read_rising_node(space, end.nodes, end.links, first.parent) else {
         return false;
     };
-    if root.parent == first.parent {
-        if first.parent == end.root {
-            return both(is_atom(first.token), is_integer(last.token));
-        }
+    if root.parent != first.parent || first.parent != end.root {
+        return false;
     }
-    false
+    is_atom(first.token) && is_integer(last.token)
 }
 
 // The same for an answer to a subgoal of m variables, which must be two.
@@ -68,10 +49,7 @@ fn is_fit(space: &[u32], end: End, m: usize) -> bool
     requires { Ends space.now end }
     ensures { result ≡ fit_path m (path_to space.now end) }
 {
-    if m == 2 {
-        return is_offer(space, end);
-    }
-    false
+    m == 2 && is_offer(space, end)
 }
 
 // The path of an answer to a subgoal of m variables. One that fits is legal, and nothing else is to be read of it.
@@ -99,17 +77,11 @@ fn judge_answer(space: &[u32], h: Head, s: usize, g: Subgoal, a: usize) -> Membe
     if y.subgoal != s {
         return Member::Damaged;
     }
-    let end = End {
-        nodes: h.nodes,
-        links: h.answers,
-        root: g.root,
-        leaf: y.leaf,
-    };
-    let judged = judge_path(space, end, g.variables, h.edition);
-    match judged {
-        Judged::Damaged => return Member::Damaged,
-        Judged::Fit => return Member::Sound(y.next, true),
-        Judged::Unfit => return Member::Sound(y.next, false),
+    let end = answer_end(h, g, y);
+    match judge_path(space, end, g.variables, h.edition) {
+        Judged::Damaged => Member::Damaged,
+        Judged::Fit => Member::Sound(y.next, true),
+        Judged::Unfit => Member::Sound(y.next, false),
     }
 }
 
@@ -122,14 +94,11 @@ fn judge_answers(space: &[u32], h: Head, s: usize, g: Subgoal) -> Judged
     let mut a = g.first;
     let mut fit = g.variables == 2;
     while a != 0 {
-        let member = judge_answer(space, h, s, g, a);
-        match member {
-            Member::Sound(next, fits) => {
-                fit = both(fit, fits);
-                a = next;
-            }
-            Member::Damaged => return Judged::Damaged,
-        }
+        let Member::Sound(next, fits) = judge_answer(space, h, s, g, a) else {
+            return Judged::Damaged;
+        };
+        fit &= fits;
+        a = next;
     }
     if fit {
         return Judged::Fit;
@@ -145,11 +114,10 @@ fn judge_goal(space: &[u32], h: Head, s: usize) -> GoalJudged
     let SubgoalRead::Sound(g) = read_subgoal(space, h, s) else {
         return GoalJudged::Damaged;
     };
-    let judged = judge_answers(space, h, s, g);
-    match judged {
-        Judged::Damaged => return GoalJudged::Damaged,
-        Judged::Fit => return GoalJudged::Sound(g.state == 0, true),
-        Judged::Unfit => return GoalJudged::Sound(g.state == 0, false),
+    match judge_answers(space, h, s, g) {
+        Judged::Damaged => GoalJudged::Damaged,
+        Judged::Fit => GoalJudged::Sound(g.state == 0, true),
+        Judged::Unfit => GoalJudged::Sound(g.state == 0, false),
     }
 }
 
@@ -160,32 +128,21 @@ fn ruling(opened: bool, fit: bool, n: usize) -> u32
     if opened {
         return SOURCE_OPEN;
     }
-    if n == 0 {
+    if n == 0 || MOST_GOALS < n || !fit {
         return GOALS;
     }
-    if MOST_GOALS < n {
-        return GOALS;
-    }
-    if fit {
-        return 0;
-    }
-    GOALS
+    0
 }
 
 // Are all goals numbers of subgoals?
 pub fn are_numbers(subgoals: usize, goals: &[u32]) -> bool
     ensures { result ≡ all_within subgoals goals.now }
 {
-    let mut i = 0;
-    while i < goals.len() {
-        let s = wide(goals[i]);
-        if s == 0 {
+    for goal in goals {
+        let s = wide(*goal);
+        if s == 0 || subgoals < s {
             return false;
         }
-        if subgoals < s {
-            return false;
-        }
-        i += 1;
     }
     true
 }
@@ -198,17 +155,12 @@ pub fn judge_goals(space: &[u32], h: Head, goals: &[u32]) -> u32
 {
     let mut opened = false;
     let mut fit = true;
-    let mut i = 0;
-    while i < goals.len() {
-        let goal = judge_goal(space, h, wide(goals[i]));
-        match goal {
-            GoalJudged::Sound(is_open, fits) => {
-                opened = either(opened, is_open);
-                fit = both(fit, fits);
-                i += 1;
-            }
-            GoalJudged::Damaged => return RECORDS,
-        }
+    for goal in goals {
+        let GoalJudged::Sound(is_open, fits) = judge_goal(space, h, wide(*goal)) else {
+            return RECORDS;
+        };
+        opened |= is_open;
+        fit &= fits;
     }
     ruling(opened, fit, goals.len())
 }

@@ -61,7 +61,7 @@ fn without_numbers(outcome: DetourOutcome) -> DetourAnswer
     ensures { said_detours result ≡ said_outcome outcome [] }
 {
     DetourAnswer {
-        outcome: outcome,
+        outcome,
         count: 0,
         numbers: [0; MOST_GOALS],
     }
@@ -100,23 +100,21 @@ fn detours_in(space: &[u32], h: Head, goals: &[u32], budget: u32) -> DetourAnswe
     requires { Bounds space.now h }
     ensures { Decides space.now h goals.now budget result }
 {
-    if are_numbers(h.subgoals, goals) {
-        let r = judge_goals(space, h, goals);
-        if r == 0 {
-            return search_goals(space, h, goals, budget);
-        }
-        return without_numbers(DetourOutcome::Refused(r));
+    if !are_numbers(h.subgoals, goals) {
+        return without_numbers(DetourOutcome::Refused(NUMBER));
     }
-    without_numbers(DetourOutcome::Refused(NUMBER))
+    match judge_goals(space, h, goals) {
+        0 => search_goals(space, h, goals, budget),
+        r => without_numbers(DetourOutcome::Refused(r)),
+    }
 }
 
 // One answer for each goal, no diverter twice, least total, within a budget of choices tried.
 pub fn detours(space: &[u32], goals: &[u32], budget: u32) -> DetourAnswer
     ensures { Answers space.now (detours goals.now budget) (said_detours result) [] space.now }
 {
-    let header = read_header(space);
-    match header {
-        Header::Sound(h) => return detours_in(space, h, goals, budget),
-        Header::Refused(r) => return without_numbers(DetourOutcome::Refused(r)),
+    match read_header(space) {
+        Header::Sound(h) => detours_in(space, h, goals, budget),
+        Header::Refused(r) => without_numbers(DetourOutcome::Refused(r)),
     }
 }

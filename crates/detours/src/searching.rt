@@ -37,14 +37,7 @@ fn is_taken(work: &[u32; WORK_CELLS], goals: usize, diverter: u32) -> bool
     requires { (goals ≤ 6) × (length work.now ≡ work_cells) }
     ensures { result ≡ among diverter (diverters_in work.now goals) }
 {
-    let mut i = goals;
-    while 0 < i {
-        i -= 1;
-        if work[DIVERTERS + i] == diverter {
-            return true;
-        }
-    }
-    false
+    work[DIVERTERS..DIVERTERS + goals].contains(&diverter)
 }
 
 // The answers chosen for n goals become those of the least total.
@@ -52,11 +45,7 @@ fn copy_numbers(work: &mut [u32; WORK_CELLS], n: usize)
     requires { Copyable work.old n }
     ensures { Copied work.old n work.new }
 {
-    let mut i = 0;
-    while i < n {
-        work[BEST + i] = work[NUMBERS + i];
-        i += 1;
-    }
+    work.copy_within(NUMBERS..NUMBERS + n, BEST);
 }
 
 // Answers were chosen for all n goals: they are kept if their total is below the least so far.

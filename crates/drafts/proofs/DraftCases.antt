@@ -1,14 +1,12 @@
 -- A word drafted token by token.
 use Prim.Native.Nat.{ℕ, suc, ◌+◌, ◌<◌, ◌≤◌}
 use mathlib.Core.Path.{◌≡◌, refl, sym, ap, ◌∙◌, subst}
-use mathlib.Core.Bool.{Bool, true, false, not}
+use mathlib.Core.Bool.{Bool, true, false}
 use mathlib.Core.List.{List, [], ◌∷◌, ◌++◌}
 use mathlib.Core.Logic.{inl, inr}
 use native.Mathlib.Omega.{arith}
-use lib.Dec.{eqb}
 use lib.ListN.{length, get_or, take, drop, length-set, length-append}
 use lib.Seq.{get_or-set_same, get_or-set_other, drop-cons, drop-length, take-suc, take-length}
-use borrow.Author.Tests.{eq-eqb, ne_eqb}
 use Rattle.basis.proofs.Cases.{by_cases}
 use Rattle.plain.specs.Words.{Word, has, add, union}
 use Rattle.plain.proofs.WordLaws.{add-old, add-new, union-nil, union-old, union-new}
@@ -228,9 +226,3 @@ module _ (cs0 : List ℕ) (x : Room) (used0 stop : ℕ) (tokens : List ℕ) (D :
                     was-marked (node_in sizes cs) x used G.buckets L ends r.1 r.2 n low h (node_in sizes ds) te pe ln le held m.1 ∙ ap (has ends) w,
                   ),
             )
-
-pub mark-none : (cs : List ℕ) (n : ℕ) (y : Node) → y ≡ node_in sizes cs n → y.link ≡ 0 → false ≡ not (eqb (node_in sizes cs n).link 0)
-mark-none cs n y e z = rw (eq-eqb (node_in sizes cs n).link 0 (sym (ap (λ (w : Node). w.link) e) ∙ z))
-
-pub mark-some : (cs : List ℕ) (n : ℕ) (y : Node) → y ≡ node_in sizes cs n → (y.link ≡ 0 → ⊥) → true ≡ not (eqb (node_in sizes cs n).link 0)
-mark-some cs n y e z = rw (ne_eqb (node_in sizes cs n).link 0 (λ q. z (ap (λ (w : Node). w.link) e ∙ q)))

@@ -1,14 +1,11 @@
 -- The functions behind one entry of a draft, case by case.
-use Prim.Native.Nat.{ℕ, ◌+◌, ◌*◌, ◌%◌, ◌<◌, ◌≤◌}
+use Prim.Native.Nat.{ℕ, ◌+◌, ◌<◌, ◌≤◌}
 use mathlib.Core.Path.{◌≡◌, refl, sym, ap, ◌∙◌, subst}
 use mathlib.Core.Bool.{true, false}
 use mathlib.Core.List.{List}
 use mathlib.Core.Logic.{inl, inr}
 use native.Mathlib.Omega.{arith}
-use native.Mathlib.Nat.{mod-lt}
-use lib.Dec.{eqb}
 use lib.ListN.{length, set}
-use borrow.Author.Tests.{eq-eqb, ne_eqb}
 use Rattle.basis.specs.Writes.{writes}
 use Rattle.space.specs.Layout.{sizes, node_at, node_in, node_to, child_cell}
 use Rattle.space.specs.Sound.{NodeRoomFor}
@@ -18,22 +15,6 @@ use Rattle.drafts.specs.declared.Room.{Room}
 use Rattle.drafts.specs.declared.Reached.TheVariants as reached
 use Rattle.drafts.specs.Entries.{slot_in, is_entry, Bucketed, lowest, highest, Reachable, Seekable, Placeable, EntryFound, Placed, EntryPlaced, EntryReached}
 use Rattle.drafts.proofs.EntryLaws.{Seeking, seeking-begun, seeking-found, seeking-on, seeking-less, seeking-none, roomless, bucketed-more, cells-placed, cells-kept}
-
-pub rem_is : (a b : ℕ) → 1 ≤ b → (a % b ≡ a % b) × (a % b < b)
-rem_is a b h = (refl, mod-lt a h)
-
-pub slot_is : (x : Room) (parent token r : ℕ) → r ≡ (parent * 40503 + token) % x.most → r < x.most
-    → (x.base + r ≡ slot_in x parent token) × (x.base ≤ x.base + r) × (x.base + r < x.base + x.most)
-unfolding slot_in
-slot_is x parent token r e h = (ap (λ (i : ℕ). x.base + i) e, omega arith, omega arith)
-
-pub entry-same : (y : Node) (parent token : ℕ) → y.parent ≡ parent → eqb y.token token ≡ is_entry y parent token
-unfolding is_entry
-entry-same y parent token e = rw (eq-eqb y.parent parent e)
-
-pub entry_other : (y : Node) (parent token : ℕ) → (y.parent ≡ parent → ⊥) → false ≡ is_entry y parent token
-unfolding is_entry
-entry_other y parent token e = rw (ne_eqb y.parent parent e)
 
 -- ---- an entry is made
 

@@ -90,12 +90,6 @@ module _ (at at' : ℕ → Node) (x : Room) (used parent token : ℕ) (B : Bucke
   slot-new : entry_slot x (at' used) ≡ b
   slot-new = slot_of x (at' used) parent token P.parent-new P.token-new ∙ sym is
 
-  -- of an entry, new or old
-  slot-any : (m k : ℕ) → m < used + 1 → (m ≡ used → b ≡ k) → ((m ≡ used → ⊥) → entry_slot x (at m) ≡ k) → entry_slot x (at' m) ≡ k
-  slot-any m k h f g = by_cases (eqb m used)
-      (λ e. let i : m ≡ used = eqb-true _ _ e in ap (λ (y : ℕ). entry_slot x (at' y)) i ∙ slot-new ∙ f i)
-      (λ e. let o : m ≡ used → ⊥ = eqb-false _ _ e in slot-old m o ∙ g o)
-
   pub bucketed-more : Bucketed at' x (used + 1)
   bucketed-more = record {
     some = B.some;

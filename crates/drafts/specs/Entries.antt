@@ -1,8 +1,7 @@
 -- The entries of a draft in free nodes: where they stand, how one is found, and what one more leaves. An entry has the
 -- token and the parent of the node that it stands for. Its sibling is the entry before it in the same slot. The child
 -- of free node b is the latest entry of slot b, whether or not b is an entry itself.
-use Rattle.std.specs.Prelude.{ℕ, ◌+◌, ◌*◌, ◌%◌, ◌<◌, ◌≤◌, Bool, false, List, ◌⊎◌, ◌≡◌, eqb}
-use Rattle.basis.specs.Choice.{pick}
+use Rattle.std.specs.Prelude.{ℕ, ◌+◌, ◌*◌, ◌%◌, ◌<◌, ◌≤◌, Bool, ◌&&◌, List, ◌⊎◌, ◌≡◌, eqb}
 use Rattle.space.specs.Layout.{sizes, node_at, node_in}
 use Rattle.space.specs.Sound.{NodesIn}
 use Rattle.space.specs.declared.Node.{Node}
@@ -19,7 +18,7 @@ abbrev pub entry_slot : Room → Node → ℕ
 entry_slot x y = slot_in x y.parent y.token
 
 unfoldable pub is_entry : Node → ℕ → ℕ → Bool
-is_entry y parent token = pick (eqb y.parent parent) (eqb y.token token) false
+is_entry y parent token = eqb y.parent parent && eqb y.token token
 
 -- the nodes from base on, below `used`, are entries, and every slot leads to all of its own
 pub record Bucketed (at : ℕ → Node) (x : Room) (used : ℕ) : Type 0 where

@@ -15,10 +15,7 @@ fn mark(space: &mut [u32], x: Room, n: usize) -> bool
     let all = x.base + x.most;
     let y = node_in(space, all, n);
     write_link(space, all, n, 1);
-    if y.link == 0 {
-        return false;
-    }
-    true
+    y.link != 0
 }
 
 // The tokens below node `stop`, of which there is one at least.
@@ -28,17 +25,12 @@ pub fn draft(space: &mut [u32], x: Room, used: usize, stop: usize, tokens: &[u32
 {
     let mut n = stop;
     let mut k = used;
-    let mut i = 0;
-    while i < tokens.len() {
-        let reached = reach(space, x, k, n, tokens[i]);
-        match reached {
-            Reached::At(m, more) => {
-                n = m;
-                k = more;
-                i += 1;
-            }
-            Reached::Full => return Drafted::Full,
-        }
+    for &token in tokens {
+        let Reached::At(m, more) = reach(space, x, k, n, token) else {
+            return Drafted::Full;
+        };
+        n = m;
+        k = more;
     }
     let held = mark(space, x, n);
     Drafted::Word(k, held)

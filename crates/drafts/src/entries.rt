@@ -7,29 +7,21 @@ use super::{Reached, Room};
 use space::Node;
 use space::records::{node_in, write_child, write_node};
 
-fn remainder(a: usize, b: usize) -> usize
-    requires { 1 ≤ b }
-    ensures { (result ≡ a % b) × (result < b) }
-{
-    a % b
-}
-
 // The node whose child field is the slot of a parent and a token. The factor spreads the children of near parents.
+#[tactic(auto, unfolding(crate::specs::Entries::slot_in))]
 fn slot_in(x: Room, parent: usize, token: u32) -> usize
     requires { (1 ≤ x.most) × (x.base + x.most < 2 ^ 32) × (parent < 2 ^ 32) }
     ensures { (result ≡ slot_in x parent token) × (x.base ≤ result) × (result < x.base + x.most) }
 {
-    x.base + remainder(parent * 40503 + token as usize, x.most)
+    x.base + (parent * 40503 + token as usize) % x.most
 }
 
 // Is this entry the one with this parent and this token?
+#[tactic(auto, unfolding(crate::specs::Entries::is_entry))]
 fn is_entry(y: Node, parent: usize, token: u32) -> bool
     ensures { result ≡ is_entry y parent token }
 {
-    if y.parent == parent {
-        return y.token == token;
-    }
-    false
+    y.parent == parent && y.token == token
 }
 
 // The entry with this parent and this token; 0 for none.
@@ -60,10 +52,10 @@ fn place(space: &mut [u32], x: Room, used: usize, parent: usize, token: u32)
     let head = node_in(space, all, slot);
     let own = node_in(space, all, used);
     let y = Node {
-        token: token,
+        token,
         child: own.child,
         sibling: head.child,
-        parent: parent,
+        parent,
         link: 0,
     };
     write_node(space, all, used, y);

@@ -5,29 +5,16 @@ ghost use Rattle.drafts.specs.Wiping.{Blanked, Wiped};
 ghost use Rattle.space.specs.Layout.{sizes, most, node_at};
 
 use super::Room;
-
-// The first cell of node n.
-fn cell_of(n: usize) -> usize
-    requires { n ≤ most }
-    ensures { result ≡ node_at sizes n }
-{
-    8 + 5 * n
-}
+use space::blocks::nodes_end;
 
 // Are all of them zeros?
 pub fn is_blank(space: &[u32], x: Room) -> bool
     requires { NodesIn space.now (x.base + x.most) }
     ensures { Blanked space.now x result }
 {
-    let end = cell_of(x.base + x.most);
-    let mut i = cell_of(x.base);
-    while i < end {
-        if space[i] != 0 {
-            return false;
-        }
-        i += 1;
-    }
-    true
+    space[nodes_end(x.base)..nodes_end(x.base + x.most)]
+        .iter()
+        .all(|&c| c == 0)
 }
 
 // Zeros in all of them.
@@ -35,10 +22,5 @@ pub fn wipe(space: &mut [u32], x: Room)
     requires { NodesIn space.old (x.base + x.most) }
     ensures { Wiped space.old x space.new }
 {
-    let end = cell_of(x.base + x.most);
-    let mut i = cell_of(x.base);
-    while i < end {
-        space[i] = 0;
-        i += 1;
-    }
+    space[nodes_end(x.base)..nodes_end(x.base + x.most)].fill(0);
 }

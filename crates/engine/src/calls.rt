@@ -164,18 +164,13 @@ pub extern "C" fn tables_instance(space: &[u32], answer: u32, out: &mut [u32]) -
 pub extern "C" fn tables_counts(space: &[u32], out: &mut [u32]) -> u64
     ensures { ReturnsCounts space.now result out.old out.new }
 {
-    let answer = reads::counts(space);
-    match answer {
-        CountsAnswer::Used(c) => {
-            if out.len() < 3 {
-                return result_word(REFUSED + OUT, 3);
-            }
-            out[0] = c.nodes;
-            out[1] = c.subgoals;
-            out[2] = c.answers;
-            return result_word(COUNTS, 3);
+    match reads::counts(space) {
+        CountsAnswer::Used(c) if 3 <= out.len() => {
+            out[..3].copy_from_slice(&[c.nodes, c.subgoals, c.answers]);
+            result_word(COUNTS, 3)
         }
-        CountsAnswer::Refused(r) => return refusal_word(r),
+        CountsAnswer::Used(_) => result_word(REFUSED + OUT, 3),
+        CountsAnswer::Refused(r) => refusal_word(r),
     }
 }
 

@@ -13,10 +13,8 @@ pub fn met_after(c: u32, count: usize) -> usize
     requires { count + 1 < 2 ^ 64 }
     ensures { result ≡ met_after count c }
 {
-    if forms::is_variable(c) {
-        if forms::payload_of(c) == count {
-            return count + 1;
-        }
+    if forms::is_variable(c) && forms::payload_of(c) == count {
+        return count + 1;
     }
     count
 }
@@ -40,8 +38,8 @@ pub fn terms(s: &[u32], from: Place, n: usize, out: &mut [u32], edition: u32, li
             let behind = forms::due_after(due, 0);
             let elements = Place {
                 at: at + 1,
-                to: to,
-                count: count,
+                to,
+                count,
             };
             let Step::Done(next, end, met) = list(s, elements, out, edition, limit - behind) else {
                 return Step::Malformed;
@@ -105,11 +103,11 @@ fn list(s: &[u32], from: Place, out: &mut [u32], edition: u32, limit: usize) -> 
             continue;
         }
         if c == forms::EPAIR {
-            if some {
-                let tail = Place { at, to, count };
-                return ending(s, tail, out, edition, limit);
+            if !some {
+                return Step::Malformed;
             }
-            return Step::Malformed;
+            let tail = Place { at, to, count };
+            return ending(s, tail, out, edition, limit);
         }
         if limit < to + 3 {
             return Step::Malformed;
@@ -119,7 +117,7 @@ fn list(s: &[u32], from: Place, out: &mut [u32], edition: u32, limit: usize) -> 
             let last = Place {
                 at: at + 1,
                 to: to + 1,
-                count: count,
+                count,
             };
             let Step::Done(next, end, met) = terms(s, last, 1, out, edition, limit - 1) else {
                 return Step::Malformed;
@@ -128,9 +126,9 @@ fn list(s: &[u32], from: Place, out: &mut [u32], edition: u32, limit: usize) -> 
             return Step::Done(next, end + 1, met);
         }
         let element = Place {
-            at: at,
+            at,
             to: to + 1,
-            count: count,
+            count,
         };
         let Step::Done(next, end, met) = terms(s, element, 1, out, edition, limit - 1) else {
             return Step::Malformed;
@@ -153,16 +151,9 @@ fn ending(s: &[u32], from: Place, out: &mut [u32], edition: u32, limit: usize) -
         return Step::Malformed;
     }
     let c = s[at + 1];
-    if c == forms::NIL {
+    if c == forms::NIL || c == forms::BLIST {
         return Step::Malformed;
     }
-    if c == forms::BLIST {
-        return Step::Malformed;
-    }
-    let behind = Place {
-        at: at + 1,
-        to: from.to,
-        count: from.count,
-    };
+    let behind = Place { at: at + 1, ..from };
     terms(s, behind, 1, out, edition, limit)
 }

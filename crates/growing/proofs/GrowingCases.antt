@@ -1,10 +1,8 @@
 -- A law for each case of growing.
-use Prim.Native.Nat.{ℕ, ◌≤◌, ◌<◌}
+use Prim.Native.Nat.{ℕ}
 use mathlib.Core.Path.{◌≡◌}
 use mathlib.Core.Bool.{true, false}
 use mathlib.Core.List.{List}
-use lib.Dec.{leb}
-use borrow.Author.Tests.{le-leb, lt-leb}
 use Rattle.space.specs.Layout.{sizes_of}
 use Rattle.space.specs.Heading.{space_header}
 use Rattle.space.specs.Fresh.{fresh_fits}
@@ -13,19 +11,6 @@ use Rattle.space.specs.declared.Head.{Head}
 use Rattle.space.specs.declared.Header.TheVariants as header
 use Rattle.growing.specs.Growing.{enough, grown_cells, grow_under, grow_reply, grow_space}
 use Rattle.growing.specs.Clauses.{GrowsInto, Grows}
-
-module _ (n f a : ℕ) (h : Head) where
-  pub enough-answers : h.nodes ≤ n → h.subgoals ≤ f → leb h.answers a ≡ enough n f a h
-  unfolding enough
-  enough-answers l m = simp (le-leb _ _ l, le-leb _ _ m)
-
-  pub few-subgoals : h.nodes ≤ n → f < h.subgoals → false ≡ enough n f a h
-  unfolding enough
-  few-subgoals l m = simp (le-leb _ _ l, lt-leb _ _ m)
-
-  pub few-nodes : n < h.nodes → false ≡ enough n f a h
-  unfolding enough
-  few-nodes l = simp (lt-leb _ _ l)
 
 module _ (n f a : ℕ) (cs : List ℕ) where
   pub grow-header : (k : ℕ) → header.Refused k ≡ space_header cs → GrowsInto n f a cs (Refused k) cs

@@ -3,10 +3,6 @@ use Rattle.std.specs.Prelude.{ℕ, ◌+◌, ◌≤◌, List, ◌++◌, ltb, leng
 use Rattle.basis.specs.Choice.{pick}
 use Rattle.growing.specs.declared.Block.{Block}
 
--- the cells of a run
-abbrev pub run_cells : ℕ
-run_cells = 256
-
 -- the cells from `from` on, so many, stand from `to` on; all others stay
 unfoldable pub moved : (from to count : ℕ) → List ℕ → List ℕ
 moved from to count s = take to s ++ take count (drop from s) ++ drop (to + count) s

@@ -25,15 +25,11 @@ pub struct Block {
 }
 
 // Is no capacity below what is used?
+#[tactic(auto, unfolding(crate::specs::Growing::enough))]
 fn is_enough(h: Head, n: usize, f: usize, a: usize) -> bool
     ensures { result ≡ enough n f a h }
 {
-    if h.nodes <= n {
-        if h.subgoals <= f {
-            return h.answers <= a;
-        }
-    }
-    false
+    h.nodes <= n && h.subgoals <= f && h.answers <= a
 }
 
 // Moves the blocks, clears the free records and writes the new offsets.
@@ -79,18 +75,17 @@ pub fn grow(space: &mut [u32], nodes: u32, subgoals: u32, answers: u32) -> Fresh
     let n = wide(nodes);
     let f = wide(subgoals);
     let a = wide(answers);
-    let t = read_header(space);
-    match t {
-        Header::Refused(r) => return FreshAnswer::Refused(r),
+    match read_header(space) {
+        Header::Refused(r) => FreshAnswer::Refused(r),
         Header::Sound(h) => {
-            if fits(n, f, a, space, h.edition) {
-                if is_enough(h, n, f, a) {
-                    rearrange(space, h, n, f, a);
-                    return FreshAnswer::Done;
-                }
+            if !fits(n, f, a, space, h.edition) {
+                return FreshAnswer::Refused(FRESH);
+            }
+            if !is_enough(h, n, f, a) {
                 return FreshAnswer::Refused(CAPACITY);
             }
-            return FreshAnswer::Refused(FRESH);
+            rearrange(space, h, n, f, a);
+            FreshAnswer::Done
         }
     }
 }

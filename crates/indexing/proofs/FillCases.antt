@@ -1,14 +1,13 @@
 -- A law for each case of freeing slots and of entering nodes.
-use Prim.Native.Nat.{ℕ, zero, suc, ◌+◌, ◌-◌, ◌*◌, ◌/◌, ◌<◌, ◌≤◌}
+use Prim.Native.Nat.{ℕ, zero, suc, ◌+◌, ◌*◌, ◌/◌, ◌<◌, ◌≤◌}
 use mathlib.Core.Path.{◌≡◌, refl, sym, ap, ◌∙◌}
 use mathlib.Core.Bool.{true, false}
-use mathlib.Core.List.{List, [], ◌∷◌, ◌++◌, append-nil}
+use mathlib.Core.List.{List, [], ◌∷◌, ◌++◌}
 use native.Mathlib.Omega.{arith}
 use native.Mathlib.Numerals.{add-one}
 use lib.Dec.{eqb, leb}
-use lib.ListN.{length, get_or, set, drop, length-set}
-use lib.Seq.{drop-cons, drop-length, set_at}
-use borrow.Author.Tests.{eq-eqb, ne_eqb, le-leb, lt-leb, leb-true, leb-false}
+use lib.ListN.{length, get_or, set, replicate, length-set}
+use borrow.Author.Tests.{le-leb, lt-leb, leb-true, leb-false}
 use Rattle.trie.proofs.BuildLaws.{length-free}
 use Rattle.basis.specs.Choice.{pick}
 use Rattle.basis.proofs.Cases.{by_cases}
@@ -20,36 +19,12 @@ use Rattle.indexing.proofs.EnterCases.{entering-step}
 
 -- ---- free slots
 
-empty-more : (n : ℕ) (xs : List ℕ) → empty_index n ++ (0 ∷ xs) ≡ empty_index (suc n) ++ xs
+pub freed_is : (n : ℕ) → replicate n 0 ≡ empty_index n
 unfolding empty_index
-empty-more zero xs = refl
-empty-more (suc n) xs = ap (λ (l : List ℕ). 0 ∷ l) (empty-more n xs)
-
--- the first i slots are free
-abbrev pub Freed : List ℕ → ℕ → List ℕ → Type 0
-Freed before i index = index ≡ empty_index i ++ drop i before
-
-pub freed-begin : (before : List ℕ) → Freed before 0 before
-unfolding empty_index
-freed-begin before = refl
-
-pub freed-on : (before index : List ℕ) (i : ℕ) → i < length before → Freed before i index → Freed before (i + 1) (set index i 0)
-freed-on before index i l e =
-    rw (e, add-one, drop-cons before i 0 l)
-    (set_at (empty_index i) (get_or before i 0) (drop (suc i) before) 0 i (length-free i) ∙ empty-more i (drop (suc i) before))
-
-pub freed-ended : (before index : List ℕ) (i : ℕ) → i ≡ length before → Freed before i index → index ≡ empty_index (length before)
-freed-ended before index i z e =
-    e ∙ rw z (ap (λ (l : List ℕ). empty_index (length before) ++ l) (drop-length before) ∙ append-nil (empty_index (length before)))
+freed_is zero = refl
+freed_is (suc n) = ap (λ (l : List ℕ). 0 ∷ l) (freed_is n)
 
 -- ---- one entry
-
--- nothing is written yet; so many slots are left to look at, and the next is `slot`
-pub record Probing (before : List ℕ) (first x : ℕ) (index : List ℕ) (slot left : ℕ) : Type 0 where
-  pub same : index ≡ before
-  pub long : length index ≡ length before
-  pub inside : slot < length before
-  pub rest : insert_from (length before) before first x ≡ insert_from left before slot x
 
 module _ (before : List ℕ) (first x : ℕ) where
   step_is : (k slot : ℕ) → insert_from (suc k) before slot x ≡ pick (eqb (get_or before slot 0) 0) (set before slot x) (insert_from k before (slot_after (length before) slot) x)
@@ -59,34 +34,6 @@ module _ (before : List ℕ) (first x : ℕ) where
   end_is : (slot : ℕ) → insert_from 0 before slot x ≡ before
   unfolding insert_from
   end_is slot = refl
-
-  pub probing-begin : first < length before → Probing before first x before first (length before)
-  probing-begin l = record { same = refl; long = refl; inside = l; rest = refl }
-
-  module _ {index : List ℕ} {slot left : ℕ} (p : Probing before first x index slot left) where
-    pub probing-ended : left ≤ 0 → index ≡ insert_from (length before) before first x
-    probing-ended l =
-        let z : left ≡ 0 = omega arith in
-        p.same ∙ sym (p.rest ∙ ap (λ (k : ℕ). insert_from k before slot x) z ∙ end_is slot)
-
-    module _ (l : 0 < left) where
-      one-step : left ≡ suc (left - 1)
-      one-step = omega arith
-
-      here : insert_from (length before) before first x ≡ pick (eqb (get_or index slot 0) 0) (set index slot x) (insert_from (left - 1) before (slot_after (length before) slot) x)
-      here = p.rest ∙ ap (λ (k : ℕ). insert_from k before slot x) one-step ∙ step_is (left - 1) slot ∙ rw p.same
-
-      pub probing-free : get_or index slot 0 ≡ 0 → set index slot x ≡ insert_from (length before) before first x
-      probing-free z = sym (here ∙ rw (eq-eqb (get_or index slot 0) 0 z))
-
-      pub probing-on : (get_or index slot 0 ≡ 0 → ⊥) → (size next : ℕ) → size ≡ length before → (next ≡ slot_after size slot) × (next < size)
-          → Probing before first x index next (left - 1)
-      probing-on z size next s e = record {
-        same = p.same;
-        long = p.long;
-        inside = omega (arith, e.1);
-        rest = here ∙ rw (ne_eqb (get_or index slot 0) 0 z, ← s, ← e.0);
-      }
 
   insert-length : (k slot : ℕ) → length (insert_from k before slot x) ≡ length before
   insert-length zero slot = ap length (end_is slot)

@@ -16,16 +16,14 @@ fn is_crowded(space: &[u32], h: Head, n: usize) -> bool
     requires { AmongFit space.now h n }
     ensures { result ≡ crowded (tries_in space.now h) n }
 {
-    let y = node_in(space, h.nodes, n);
-    let mut child = y.child;
+    let mut child = node_in(space, h.nodes, n).child;
     let mut count = 0;
     while child != 0 {
         count += 1;
         if FEW_CHILDREN < count {
             return true;
         }
-        let z = node_in(space, h.nodes, child);
-        child = z.sibling;
+        child = node_in(space, h.nodes, child).sibling;
     }
     false
 }
@@ -36,10 +34,7 @@ pub fn enters(space: &[u32], h: Head, n: usize) -> bool
     ensures { result ≡ index.enters (tries_in space.now h) n }
 {
     let y = node_in(space, h.nodes, n);
-    if y.parent == n {
-        return false;
-    }
-    is_crowded(space, h, y.parent)
+    y.parent != n && is_crowded(space, h, y.parent)
 }
 
 // How many nodes enter.
@@ -48,12 +43,10 @@ pub fn count_entering(space: &[u32], h: Head) -> usize
     ensures { EnteringCounted space.now h result }
 {
     let mut count = 0;
-    let mut n = 0;
-    while n < h.nodes {
+    for n in 0..h.nodes {
         if enters(space, h, n) {
             count += 1;
         }
-        n += 1;
     }
     count
 }

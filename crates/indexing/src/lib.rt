@@ -56,8 +56,7 @@ fn build_in(space: &[u32], h: Head, index: &mut [u32]) -> BuildAnswer
 pub fn build(space: &[u32], index: &mut [u32]) -> BuildAnswer
     ensures { Builds space.now index.old result index.new }
 {
-    let header = read_header(space);
-    match header {
+    match read_header(space) {
         space::Header::Sound(h) => build_in(space, h, index),
         space::Header::Refused(r) => BuildAnswer::Refused(r),
     }

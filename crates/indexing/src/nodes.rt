@@ -33,17 +33,9 @@ fn link_fits(space: &[u32], h: Head, n: usize, link: usize) -> bool
     ensures { result ≡ link_fits (view_in space.now h) n link }
 {
     if link <= h.subgoals {
-        if link <= h.answers {
-            return true;
-        }
-        let root = root_above(space, h.nodes, n);
-        return root == 0;
+        return link <= h.answers || root_above(space, h.nodes, n) == 0;
     }
-    if h.answers < link {
-        return false;
-    }
-    let root = root_above(space, h.nodes, n);
-    root != 0
+    link <= h.answers && root_above(space, h.nodes, n) != 0
 }
 
 // Node n; those before it fit.
@@ -51,15 +43,14 @@ fn node_fits(space: &[u32], h: Head, n: usize) -> bool
     requires { FitBefore space.now h n }
     ensures { result ≡ node_fit (view_in space.now h) n }
 {
-    let NodeRead::Sound(y) = read_node(space, h.nodes, h.subgoals + h.answers, n) else {
-        return false;
-    };
-    if link_fits(space, h, n, y.link) {
-        if parent_is(space, h.nodes, y.child, n) {
-            return parent_is(space, h.nodes, y.sibling, y.parent);
+    match read_node(space, h.nodes, h.subgoals + h.answers, n) {
+        NodeRead::Sound(y) => {
+            link_fits(space, h, n, y.link)
+                && parent_is(space, h.nodes, y.child, n)
+                && parent_is(space, h.nodes, y.sibling, y.parent)
         }
+        NodeRead::Damaged => false,
     }
-    false
 }
 
 // All nodes used.
@@ -67,13 +58,10 @@ pub fn nodes_fit(space: &[u32], h: Head) -> bool
     requires { Bounds space.now h }
     ensures { result ≡ nodes_fit (view_in space.now h) h.nodes }
 {
-    let mut n = 0;
-    while n < h.nodes {
-        let fits = node_fits(space, h, n);
-        if !fits {
+    for n in 0..h.nodes {
+        if !node_fits(space, h, n) {
             return false;
         }
-        n += 1;
     }
     true
 }

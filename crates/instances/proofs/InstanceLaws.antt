@@ -1,14 +1,16 @@
 -- Laws of the instance on cells: the starts of terms and the scan that finds them, the cells of a term, and the instance as terms have it.
-use Prim.Native.Nat.{ℕ, zero, suc, ◌+◌, ◌-◌, ◌*◌, ◌≤◌, ◌<◌}
+use Prim.Native.Nat.{ℕ, suc, ◌+◌, ◌-◌, ◌*◌, ◌≤◌, ◌<◌}
 use mathlib.Core.Bool.{true, false}
-use mathlib.Core.List.{List, [], ◌∷◌, ◌++◌}
+use mathlib.Core.List.{List, [], ◌∷◌, ◌++◌, append_assoc}
 use mathlib.Core.Path.{◌≡◌, refl, sym, ap, ◌∙◌}
 use native.Mathlib.Omega.{arith}
 use native.Mathlib.Nat.{suc-mul}
 use native.Mathlib.Numerals.{add-one}
-use lib.ListN.{length, take, get_or, set, length-append}
-use lib.Seq.{sets, slice, slice-cons, slice_empty, length-slice, length-sets, length-take-le, get_or-set_same, get_or-set_other}
+use lib.ListN.{length, take, drop, get_or, set, length-append, drop_of_length-le}
+use lib.Seq.{sets, sets-eq, slice, drop-cons, length-slice, length-sets, length-take-le, get_or-set_same, get_or-set_other}
 use lib.Dec.{eqb, ltb}
+use borrow.Rule.Slice.PartMut.{put_mid}
+use Rattle.std.proofs.lemmas.List.{drop-take, drop-drop}
 use borrow.Author.Tests.{eqb-true, eqb-false, ltb-true, ltb-false}
 use Rattle.basis.proofs.Tests.{strictly}
 use Rattle.basis.proofs.Cases.{by_cases}
@@ -130,31 +132,32 @@ module _ (starts : List ℕ) (c : ℕ) where
   unfolding width
   width-most limit p = by_cases (variable c) (λ e. let w = p e in rw e (omega arith)) (λ e. rw e (omega arith))
 
-pub needed-most : (limit : ℕ) (starts cells : List ℕ) (n : ℕ) → AllPlaced limit starts n cells → needed starts (take n cells) ≤ n * (limit + 1)
+pub needed-most : (limit : ℕ) (starts cells : List ℕ) → AllPlaced limit starts (length cells) cells → needed starts cells ≤ length cells * (limit + 1)
 unfolding needed
-needed-most limit starts cells zero p = omega arith
-needed-most limit starts [] (suc n) p = omega arith
-needed-most limit starts (c ∷ cs) (suc n) p =
+needed-most limit starts [] p = omega arith
+needed-most limit starts (c ∷ cs) p =
     let w : width starts c ≤ limit + 1 = width-most starts c limit (p 0 (omega arith)) in
-    omega (arith, suc-mul n (limit + 1), needed-most limit starts cs n (λ k h. p (suc k) (omega arith)))
+    omega (arith, suc-mul (length cs) (limit + 1), needed-most limit starts cs (λ k h. p (suc k) (omega arith)))
 
-module _ (starts cells : List ℕ) (n i : ℕ) (fits : n ≤ length cells) where
-  pub need-step : i < n → needed starts (slice i n cells) ≡ width starts (get_or cells i 0) + needed starts (slice (i + 1) n cells)
+module _ (starts cells : List ℕ) (i : ℕ) where
+  pub need-step : i < length cells → needed starts (drop i cells) ≡ width starts (get_or cells i 0) + needed starts (drop (i + 1) cells)
   unfolding needed
-  need-step h = rw (slice-cons i n cells 0 h fits, add-one)
+  need-step h = rw (drop-cons cells i 0 h, add-one)
 
-  pub need-end : i ≡ n → needed starts (slice i n cells) ≡ 0
+  pub need-end : length cells ≤ i → needed starts (drop i cells) ≡ 0
   unfolding needed
-  need-end e = rw (e, slice_empty n cells)
+  need-end l = rw (drop_of_length-le cells {i = i} l)
 
 -- ---- a part that is copied
 
-module _ (s out : List ℕ) (at i end : ℕ) where
-  pub part_step : i < end → end ≤ length s → sets (set out at (get_or s i 0)) (at + 1) (slice (i + 1) end s) ≡ sets out at (slice i end s)
-  part_step h l = rw (slice-cons i end s 0 h l, add-one at, add-one i)
-
-  pub part_end : i ≡ end → sets out at (slice i end s) ≡ out
-  part_end e = rw (e, slice_empty end s)
+pub part-copied : (s out q : List ℕ) (to start end k : ℕ) → k ≡ end - start → start ≤ end → end ≤ length s → to + (end - start) ≤ length out
+    → q ≡ take (end - start) (drop start s) → put_mid to k out q ≡ sets out to (slice start end s)
+part-copied s out q to start end k n l h r e =
+    let z : start + (end - start) ≡ end = omega arith in
+    let is : slice start end s ≡ q = rw z at (drop-take start (end - start) s) ∙ sym e in
+    let m : length q ≡ k = ap length (sym is) ∙ length-slice start end s h ∙ sym n in
+    let rest : drop k (drop to out) ≡ drop (to + length q) out = rw m (drop-drop k to out) in
+    rw is (ap (λ (x : List ℕ). take to out ++ (q ++ x)) rest ∙ sym (append_assoc (take to out) q (drop (to + length q) out)) ∙ sym (sets-eq q out to (omega arith)))
 
 -- ---- what stands for a cell
 
@@ -182,32 +185,32 @@ module _ (terms starts : List ℕ) (c : ℕ) where
       (λ e. rw e (length-slice (get_or starts (payload c) 0) (get_or starts (payload c + 1) 0) terms (p e).2))
       (λ e. rw e)
 
-module _ (terms starts cells out : List ℕ) (n i to : ℕ) (fits : n ≤ length cells) where
+module _ (terms starts cells out : List ℕ) (i to : ℕ) where
   abbrev here : List ℕ
   here = stands_for terms starts (get_or cells i 0)
 
   abbrev left : List ℕ
-  left = instance_cells terms starts (slice (i + 1) n cells)
+  left = instance_cells terms starts (drop (i + 1) cells)
 
-  pub write-next : i < n → instance_cells terms starts (slice i n cells) ≡ here ++ left
+  pub write-next : i < length cells → instance_cells terms starts (drop i cells) ≡ here ++ left
   unfolding instance_cells
-  write-next h = rw (slice-cons i n cells 0 h fits, add-one)
+  write-next h = rw (drop-cons cells i 0 h, add-one)
 
-  pub write-room : i < n → length (instance_cells terms starts (slice i n cells)) ≡ length here + length left
+  pub write-room : i < length cells → length (instance_cells terms starts (drop i cells)) ≡ length here + length left
   write-room h = ap length (write-next h) ∙ length-append here left
 
   -- what stands for a cell is written
-  pub write_step : (target out₀ out' : List ℕ) (to' : ℕ) → i < n → to + length (instance_cells terms starts (slice i n cells)) ≤ length out
-      → sets out to (instance_cells terms starts (slice i n cells)) ≡ target → length out ≡ length out₀ → to' ≡ to + length here → out' ≡ sets out to here
+  pub write_step : (target out₀ out' : List ℕ) (to' : ℕ) → i < length cells → to + length (instance_cells terms starts (drop i cells)) ≤ length out
+      → sets out to (instance_cells terms starts (drop i cells)) ≡ target → length out ≡ length out₀ → to' ≡ to + length here → out' ≡ sets out to here
       → (to' + length left ≤ length out') × (sets out' to' left ≡ target) × (length out' ≡ length out₀)
   write_step target out₀ out' to' h room e l p q =
       let k : length out' ≡ length out = ap length q ∙ length-sets out to here in
       (omega (arith, write-room h), rw (p, q) (sym (sets-append here left out to) ∙ ap (sets out to) (sym (write-next h)) ∙ e), k ∙ l)
 
-  pub write-none : i ≡ n → length (instance_cells terms starts (slice i n cells)) ≡ 0
+  pub write-none : length cells ≤ i → length (instance_cells terms starts (drop i cells)) ≡ 0
   unfolding instance_cells
-  write-none e = rw (e, slice_empty n cells)
+  write-none e = rw (drop_of_length-le cells {i = i} e)
 
-  pub write-end : i ≡ n → sets out to (instance_cells terms starts (slice i n cells)) ≡ out
+  pub write-end : length cells ≤ i → sets out to (instance_cells terms starts (drop i cells)) ≡ out
   unfolding instance_cells
-  write-end e = rw (e, slice_empty n cells)
+  write-end e = rw (drop_of_length-le cells {i = i} e)

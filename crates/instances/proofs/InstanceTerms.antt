@@ -7,7 +7,7 @@ use native.Mathlib.Omega.{arith}
 use native.Mathlib.Nat.{not-suc-le-zero, mul-le-mul}
 use native.Mathlib.Numerals.{add-one}
 use lib.ListN.{length, take, drop, get_or, length-append, length-take, take-append-drop, get_or-append}
-use lib.Seq.{sets, sets-eq, slice, take_at, take-append_seam, drop-append_seam, get_or-take}
+use lib.Seq.{sets, sets-eq, slice, take_at, take-append_seam, drop-append_seam}
 use lib.Dec.{leb}
 use borrow.Author.Tests.{le-leb, leb-true, leb-false}
 use Rattle.basis.specs.Choice.{pick}
@@ -139,9 +139,9 @@ module _ (arity : ℕ → ℕ) (terms starts : List ℕ) (m : ℕ) (us more : Li
 pub record Ready (arity : ℕ → ℕ) (form : StoredForm) (w v cells terms starts : List ℕ) (n k : ℕ) : Type 0 where
   pub small : n ≤ 256
   pub fits : n ≤ length cells
-  pub placed : AllPlaced 256 starts n cells
-  pub placed-within : AllPlaced (length terms) starts n cells
-  pub placed-before : AllPlaced k starts n cells
+  pub placed : AllPlaced 256 starts (length (take n cells)) (take n cells)
+  pub placed-within : AllPlaced (length terms) starts (length (take n cells)) (take n cells)
+  pub placed-before : AllPlaced k starts (length (take n cells)) (take n cells)
   pub instance-cells : instance_cells terms starts (take n cells) ≡ (coded_as arity form).instance_of w v
   pub need : needed starts (take n cells) ≡ length ((coded_as arity form).instance_of w v)
 
@@ -191,11 +191,6 @@ module _ (arity : ℕ → ℕ) (form : StoredForm) (laws : StoredLaws arity form
       below : Below m (take n cells)
       below = rw (held-cells, ← variables) (legal-below arity form laws w legal-w)
 
-      cell_below : (i : ℕ) → i < n → variable (get_or cells i 0) ≡ true → payload (get_or cells i 0) < m
-      cell_below i h q =
-          let e : get_or (take n cells) i 0 ≡ get_or cells i 0 = get_or-take n cells i 0 h in
-          rw (← e) (below_at m (take n cells) below i (omega (arith, many, ap length held-cells)) (rw e q))
-
       the-instance : instance_cells terms starts (take n cells) ≡ (coded_as arity form).instance_of w v
       the-instance =
           spread-cells arity terms starts m us (reads (shape_of arity) (drop k terms)) first-terms as_many noted room (take n cells) below
@@ -205,9 +200,9 @@ module _ (arity : ℕ → ℕ) (form : StoredForm) (laws : StoredLaws arity form
       ready = record {
         small = omega (arith, many, (laws.demand.loaded 1 w legal-w).0.cells);
         fits = taken-room n cells (form.cells w) held-cells many;
-        placed = λ i h. placed-cell arity terms starts m us (reads (shape_of arity) (drop k terms)) first-terms as_many noted room 256 last_end (get_or cells i 0) (cell_below i h);
-        placed-within = λ i h. placed-cell arity terms starts m us (reads (shape_of arity) (drop k terms)) first-terms as_many noted room (length terms) (terms-within arity terms starts m us (reads (shape_of arity) (drop k terms)) first-terms as_many noted room) (get_or cells i 0) (cell_below i h);
-        placed-before = λ i h. placed-cell arity terms starts m us (reads (shape_of arity) (drop k terms)) first-terms as_many noted room k last-before (get_or cells i 0) (cell_below i h);
+        placed = λ i h. placed-cell arity terms starts m us (reads (shape_of arity) (drop k terms)) first-terms as_many noted room 256 last_end (get_or (take n cells) i 0) (below_at m (take n cells) below i h);
+        placed-within = λ i h. placed-cell arity terms starts m us (reads (shape_of arity) (drop k terms)) first-terms as_many noted room (length terms) (terms-within arity terms starts m us (reads (shape_of arity) (drop k terms)) first-terms as_many noted room) (get_or (take n cells) i 0) (below_at m (take n cells) below i h);
+        placed-before = λ i h. placed-cell arity terms starts m us (reads (shape_of arity) (drop k terms)) first-terms as_many noted room k last-before (get_or (take n cells) i 0) (below_at m (take n cells) below i h);
         instance-cells = the-instance;
         need = needed-length arity terms starts m us (reads (shape_of arity) (drop k terms)) first-terms as_many noted room (take n cells) below ∙ ap length the-instance;
       }
@@ -225,8 +220,9 @@ fits_not need room r h g = by_cases (leb need room)
 module _ (arity : ℕ → ℕ) (form : StoredForm) (w v cells terms starts : List ℕ) (n k : ℕ) (y : Ready arity form w v cells terms starts n k) where
   pub need-bounded : needed starts (take n cells) ≤ 256 * 257
   need-bounded =
-      let z : n * 257 ≤ 256 * 257 = mul-le-mul {n₂ = 256} {m₂ = 257} y.small (omega arith) in
-      omega (arith, z, needed-most 256 starts cells n y.placed)
+      let l : length (take n cells) ≤ 256 = omega (arith, length-take n cells, y.small) in
+      let z : length (take n cells) * 257 ≤ 256 * 257 = mul-le-mul {n₂ = 256} {m₂ = 257} l (omega arith) in
+      omega (arith, z, needed-most 256 starts (take n cells) y.placed)
 
   pub missing-bounded : (room r : ℕ) → Missing (needed starts (take n cells)) room r → r ≤ 256 * 257
   missing-bounded room r h = by_cases (leb (needed starts (take n cells)) room)

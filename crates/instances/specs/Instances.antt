@@ -74,14 +74,12 @@ abbrev pub Replaces : List ℕ → List ℕ → ℕ → ℕ → ℕ → List ℕ
 Replaces terms starts c to r a b =
     (r ≡ to + length (stands_for terms starts c)) × (b ≡ sets a to (stands_for terms starts c))
 
--- the instance of the first n cells is known and fits
-abbrev pub Writable : List ℕ → List ℕ → List ℕ → ℕ → List ℕ → Type 0
-Writable terms starts cells n out =
-    (n ≤ length cells) × AllPlaced (length terms) starts n cells
-    × (length (instance_cells terms starts (take n cells)) ≤ length out)
+-- the instance of these cells is known and fits
+abbrev pub Writable : List ℕ → List ℕ → List ℕ → List ℕ → Type 0
+Writable terms starts cells out =
+    AllPlaced (length terms) starts (length cells) cells × (length (instance_cells terms starts cells) ≤ length out)
 
 -- it stands in b, and r is how many cells it has
-abbrev pub InstanceStands : List ℕ → List ℕ → List ℕ → ℕ → ℕ → List ℕ → List ℕ → Type 0
-InstanceStands terms starts cells n r a b =
-    (r ≡ length (instance_cells terms starts (take n cells)))
-    × (b ≡ sets a 0 (instance_cells terms starts (take n cells)))
+abbrev pub InstanceStands : List ℕ → List ℕ → List ℕ → ℕ → List ℕ → List ℕ → Type 0
+InstanceStands terms starts cells r a b =
+    (r ≡ length (instance_cells terms starts cells)) × (b ≡ sets a 0 (instance_cells terms starts cells))

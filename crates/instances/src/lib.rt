@@ -2,7 +2,7 @@
 // slice that is handed on is copied in memory, which took an eighth of the time of a short instance.
 #![tactic(auto)]
 
-ghost use Rattle.std.specs.Prelude.{◌≡◌, ◌+◌, ◌-◌, ◌*◌, ◌≤◌, ◌<◌, length, take};
+ghost use Rattle.std.specs.Prelude.{◌≡◌, ◌+◌, ◌-◌, ◌≤◌, length};
 ghost use Rattle.convert.specs.Holds.{RoomForTerms};
 ghost use Rattle.instances.specs.Leaving.{InstancesOf};
 ghost use Rattle.instances.specs.Instances.{
@@ -41,14 +41,14 @@ fn note_starts(s: &[u32], m: usize, end: usize, starts: &mut [u32], edition: u32
     let mut at = 0;
     let mut due = m;
     let mut i = 0;
+    // A turn for each cell and not for each i, of which a range would need a second loop within the first.
     while i + 1 < m {
         due = due_after(due, arguments_of(s[at], edition));
         at += 1;
-        if m <= due + i {
-            continue;
+        if due + i < m {
+            i += 1;
+            starts[i] = at as u32;
         }
-        i += 1;
-        starts[i] = at as u32;
     }
     starts[m] = end as u32;
 }
@@ -65,31 +65,29 @@ fn width_of(starts: &[u32], c: u32) -> usize
     1
 }
 
-// How many cells the instance of the first n cells has.
-fn need(cells: &[u32], n: usize, starts: &[u32]) -> usize
-    requires { (n ≤ most_cells) × (n ≤ length cells.now) × AllPlaced most_cells starts.now n cells.now }
-    ensures { result ≡ needed starts.now (take n cells.now) }
+// How many cells the instance of these cells has.
+fn need(cells: &[u32], starts: &[u32]) -> usize
+    requires { (length cells.now ≤ most_cells) × AllPlaced most_cells starts.now (length cells.now) cells.now }
+    ensures { result ≡ needed starts.now cells.now }
 {
-    let mut sum: usize = 0;
-    let mut i = 0;
-    while i < n {
-        sum += width_of(starts, cells[i]);
-        i += 1;
+    let mut sum = 0;
+    for &c in cells {
+        sum += width_of(starts, c);
     }
     sum
 }
 
-// How many cells the instance of the first n cells has, if that is more than there is room for; else 0. Where each
-// cell could be a term as long as all of them, nothing is counted.
-fn missing(cells: &[u32], n: usize, end: usize, starts: &[u32], room: usize) -> usize
-    requires { (end ≤ most_cells) × (n ≤ most_cells) × (n ≤ length cells.now)
-        × AllPlaced end starts.now n cells.now }
-    ensures { Missing (needed starts.now (take n cells.now)) room result }
+// How many cells the instance of these cells has, if that is more than there is room for; else 0. Where each cell could
+// be a term as long as all of them, nothing is counted.
+fn missing(cells: &[u32], end: usize, starts: &[u32], room: usize) -> usize
+    requires { (end ≤ most_cells) × (length cells.now ≤ most_cells)
+        × AllPlaced end starts.now (length cells.now) cells.now }
+    ensures { Missing (needed starts.now cells.now) room result }
 {
-    if n * (end + 1) <= room {
+    if cells.len() * (end + 1) <= room {
         return 0;
     }
-    let k = need(cells, n, starts);
+    let k = need(&cells[..], starts);
     if room < k {
         return k;
     }
@@ -101,14 +99,9 @@ fn copy_part(s: &[u32], start: usize, end: usize, out: &mut [u32], to: usize) ->
     requires { (start ≤ end) × (end ≤ length s.now) × (to + (end - start) ≤ length out.old) }
     ensures { PartCopied s.now start end to result out.old out.new }
 {
-    let mut i = start;
-    let mut at = to;
-    while i < end {
-        out[at] = s[i];
-        at += 1;
-        i += 1;
-    }
-    at
+    let next = to + (end - start);
+    out[to..next].copy_from_slice(&s[start..end]);
+    next
 }
 
 // Writes what stands for the cell c from `to` on; gives the place behind it.
@@ -124,16 +117,14 @@ fn replace(c: u32, terms: &[u32], starts: &[u32], out: &mut [u32], to: usize) ->
     to + 1
 }
 
-// Writes the instance of the first n cells; gives how many it has.
-fn write(cells: &[u32], n: usize, terms: &[u32], starts: &[u32], out: &mut [u32]) -> usize
-    requires { Writable terms.now starts.now cells.now n out.old }
-    ensures { InstanceStands terms.now starts.now cells.now n result out.old out.new }
+// Writes the instance of these cells; gives how many it has.
+fn write(cells: &[u32], terms: &[u32], starts: &[u32], out: &mut [u32]) -> usize
+    requires { Writable terms.now starts.now cells.now out.old }
+    ensures { InstanceStands terms.now starts.now cells.now result out.old out.new }
 {
     let mut to = 0;
-    let mut i = 0;
-    while i < n {
-        to = replace(cells[i], terms, starts, out, to);
-        i += 1;
+    for &c in cells {
+        to = replace(c, terms, starts, out, to);
     }
     to
 }
@@ -162,12 +153,11 @@ fn instance_with(
     if variables == m {
         let mut starts = [0u32; STARTS];
         note_starts(terms, m, end, &mut starts, edition);
-        let short = missing(cells, n, end, &starts, out.len());
+        let short = missing(&cells[..n], end, &starts, out.len());
         if 0 < short {
             return short + 1;
         }
-        let k = write(cells, n, terms, &starts, out);
-        return k + 1;
+        return write(&cells[..n], terms, &starts, out) + 1;
     }
     0
 }

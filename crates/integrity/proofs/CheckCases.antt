@@ -1,6 +1,6 @@
 -- A law for each case of the check.
 use Prim.Native.Nat.{ℕ, suc, ◌+◌, ◌<◌, ◌≤◌}
-use mathlib.Core.Path.{◌≡◌, refl, sym, ap, ◌∙◌}
+use mathlib.Core.Path.{◌≡◌, refl, sym, ap}
 use mathlib.Core.Bool.{Bool, true, false}
 use mathlib.Core.List.{List}
 use native.Mathlib.Omega.{arith}
@@ -33,14 +33,6 @@ module _ (test : ℕ → Bool) (n i : ℕ) (e : every_below test i ≡ true) whe
 
   pub pass_on : test i ≡ true → every_below test (i + 1) ≡ true
   pass_on t = rw add-one (every-suc test i e t)
-
--- the same of records numbered from 1
-module _ (test : ℕ → Bool) (n i : ℕ) (e : every_below (λ j. test (suc j)) i ≡ true) where
-  pub later-failed : i < n → test (i + 1) ≡ false → i ≡ first_failing (λ j. test (suc j)) n
-  later-failed l t = pass-failed (λ j. test (suc j)) n i e l (ap test (sym (add-one i)) ∙ t)
-
-  pub later-on : test (i + 1) ≡ true → every_below (λ j. test (suc j)) (i + 1) ≡ true
-  later-on t = pass_on (λ j. test (suc j)) n i e (ap test (sym (add-one i)) ∙ t)
 
 -- where none failed, all are whole
 pub pass-whole : (test : ℕ → Bool) (n i : ℕ) → i ≡ first_failing test n → n ≤ i → every_below test n ≡ true

@@ -1,4 +1,3 @@
-pub mod FormCases
 pub mod NodeCases
 pub mod FirstCases
 pub mod RecordCases

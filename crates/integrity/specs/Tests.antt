@@ -14,7 +14,7 @@ use Rattle.trie.specs.Siblings.{Trie, trie_in, sound}
 use Rattle.store.specs.Views.{View}
 use Rattle.store.specs.Clauses.{view_in}
 use Rattle.agreement.specs.Whole.{every_below, first_leaf, node_whole, subgoal_whole, answer_whole, chain, chains}
-use Rattle.agreement.specs.Faults.{Fault, nothing, heading, node, subgoal, answer, among, chained, answer_lost}
+use Rattle.agreement.specs.Faults.{Fault, first_failing, nothing, heading, node, subgoal, answer, among, chained, answer_lost}
 use Rattle.integrity.specs.declared.CheckAnswer.{CheckAnswer}
 use Rattle.integrity.specs.declared.CheckAnswer.TheVariants as said
 
@@ -30,11 +30,11 @@ said_check (said.Answer a) = answer a
 -- ---- a form, as a path gives it
 
 -- of a term to call with m variables
-unfoldable pub called_form : Coding → ℕ → Word → Bool
+abbrev pub called_form : Coding → ℕ → Word → Bool
 called_form c m w = c.legal 1 w && predicate w && eqb (length (met [] w)) m
 
 -- of a subgoal with m variables, or of the m terms of an answer
-unfoldable pub form_whole : Coding → Bool → ℕ → Word → Bool
+abbrev pub form_whole : Coding → Bool → ℕ → Word → Bool
 form_whole c called m w = pick called (called_form c m w) (c.legal m w)
 
 -- ---- a node
@@ -78,7 +78,7 @@ module _ (v : View) where
       && eqb (v.node y.leaf).link a
 
   -- and the part behind it
-  unfoldable pub next_whole : ℕ → Bool
+  abbrev pub next_whole : ℕ → Bool
   next_whole a =
       let y = v.answer a in
       pick (eqb y.next 0) true
@@ -175,3 +175,18 @@ module _ (cs : List ℕ) (h : Head) where
 
   abbrev pub AnswerOfNumber : ℕ → Answer → Type 0
   AnswerOfNumber a y = Bounds cs h × (y ≡ answer_under cs h a)
+
+-- ---- a pass over records, by a closure that tests them
+
+-- it answers as this test does
+abbrev pub AnswersAs : (ℕ → Bool → Type 0) → (ℕ → Bool) → ℕ → Type 0
+AnswersAs post test n = (i : ℕ) (b : Bool) → i < n → post i b → b ≡ test i
+
+-- it may be called at a number where all before it pass
+abbrev pub Testable : (ℕ → Type 0) → (ℕ → Bool → Type 0) → ℕ → Type 0
+Testable pre post n =
+    (i : ℕ) → i < n → ((test : ℕ → Bool) → AnswersAs post test n → every_below test i ≡ true) → pre i
+
+-- the first of n numbers that fails
+abbrev pub FirstFailing : (ℕ → Bool → Type 0) → ℕ → ℕ → Type 0
+FirstFailing post n r = (test : ℕ → Bool) → AnswersAs post test n → r ≡ first_failing test n

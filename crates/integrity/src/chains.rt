@@ -7,6 +7,7 @@ ghost use Rattle.agreement.specs.Faults.{answer_lost};
 ghost use Rattle.integrity.specs.Tests.{ChainsWhole, ChainCounted, ChainSearched, chained_count, chained_in};
 ghost use Rattle.integrity.specs.Tests.{ChainStarts};
 
+use super::passes::first_failing;
 use space::Head;
 use space::records::{answer_in, subgoal_in};
 
@@ -18,8 +19,7 @@ fn chain_length(space: &[u32], h: Head, first: usize) -> usize
     let mut a = first;
     let mut count = 0;
     while a != 0 {
-        let y = answer_in(space, h, a);
-        a = y.next;
+        a = answer_in(space, h, a).next;
         count += 1;
     }
     count
@@ -31,11 +31,8 @@ pub fn chains_length(space: &[u32], h: Head) -> usize
     ensures { result ≡ chained_count space.now h }
 {
     let mut count = 0;
-    let mut i = 0;
-    while i < h.subgoals {
-        let g = subgoal_in(space, h, i + 1);
-        count += chain_length(space, h, g.first);
-        i += 1;
+    for i in 0..h.subgoals {
+        count += chain_length(space, h, subgoal_in(space, h, i + 1).first);
     }
     count
 }
@@ -50,8 +47,7 @@ fn is_after(space: &[u32], h: Head, first: usize, a: usize) -> bool
         if b == a {
             return true;
         }
-        let y = answer_in(space, h, b);
-        b = y.next;
+        b = answer_in(space, h, b).next;
     }
     false
 }
@@ -71,13 +67,5 @@ pub fn first_lost(space: &[u32], h: Head) -> usize
     requires { ChainsWhole space.now h }
     ensures { result ≡ answer_lost (coding_of h.edition) (view_in space.now h) }
 {
-    let mut i = 0;
-    while i < h.answers {
-        let found = is_chained(space, h, i + 1);
-        if !found {
-            return i;
-        }
-        i += 1;
-    }
-    i
+    first_failing(h.answers, |i| is_chained(space, h, i + 1))
 }

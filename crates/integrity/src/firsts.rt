@@ -31,8 +31,7 @@ pub fn led_up(space: &[u32], h: Head, s: usize, i: usize) -> bool
     ensures { result ≡ led_up (coding_of h.edition) (view_in space.now h) 383 s i }
 {
     let mut n = i;
-    let mut left = MOST_TOKENS;
-    while left != 0 {
+    for _ in 0..MOST_TOKENS {
         let y = node_in(space, h.nodes, n);
         let p = y.parent;
         let above = node_in(space, h.nodes, p);
@@ -45,7 +44,6 @@ pub fn led_up(space: &[u32], h: Head, s: usize, i: usize) -> bool
             return false;
         }
         n = p;
-        left -= 1;
     }
     true
 }

@@ -5,6 +5,7 @@
 mod chains;
 mod firsts;
 mod nodes;
+mod passes;
 mod paths;
 mod records;
 
@@ -67,8 +68,7 @@ fn check_in(space: &[u32], h: Head) -> CheckAnswer
 pub fn check(space: &[u32]) -> CheckAnswer
     ensures { said_check result ≡ fault_of space.now }
 {
-    let header = read_header(space);
-    match header {
+    match read_header(space) {
         space::Header::Sound(h) => check_in(space, h),
         space::Header::Refused(_) => CheckAnswer::Header,
     }

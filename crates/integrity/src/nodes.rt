@@ -10,80 +10,58 @@ ghost use Rattle.agreement.specs.Faults.{node_broken};
 ghost use Rattle.integrity.specs.Tests.{subgoal_ends, answer_ends, leads_back, root_named, RecordNumber};
 ghost use Rattle.integrity.specs.Tests.{tries_in, node_test, NodesWhole, NodeOfNumber, ChildOfNumber};
 
+use super::passes::first_failing;
 use space::records::{answer_in, node_in, read_node, subgoal_in};
 use space::{Head, Node, NodeRead};
 use trie::Search;
 use trie::siblings::{parent_is, search_children};
 
 // Is k a subgoal whose form ends at node i?
+#[tactic(auto, unfolding(crate::specs::Tests::subgoal_ends))]
 fn subgoal_ends(space: &[u32], h: Head, k: usize, i: usize) -> bool
     requires { RecordNumber space.now h k }
     ensures { result ≡ subgoal_ends (view_in space.now h) k i }
 {
-    if h.subgoals < k {
-        return false;
-    }
-    let g = subgoal_in(space, h, k);
-    g.leaf == i
+    k <= h.subgoals && subgoal_in(space, h, k).leaf == i
 }
 
 // Is k an answer whose form ends there?
+#[tactic(auto, unfolding(crate::specs::Tests::answer_ends))]
 fn answer_ends(space: &[u32], h: Head, k: usize, i: usize) -> bool
     requires { RecordNumber space.now h k }
     ensures { result ≡ answer_ends (view_in space.now h) k i }
 {
-    if h.answers < k {
-        return false;
-    }
-    let y = answer_in(space, h, k);
-    y.leaf == i
+    k <= h.answers && answer_in(space, h, k).leaf == i
 }
 
 // Does the link k of node i lead back to it?
+#[tactic(auto, unfolding(crate::specs::Tests::leads_back))]
 fn leads_back(space: &[u32], h: Head, k: usize, i: usize) -> bool
     requires { Bounds space.now h }
     ensures { result ≡ leads_back (view_in space.now h) k i }
 {
-    if k == 0 {
-        return true;
-    }
-    if subgoal_ends(space, h, k, i) {
-        return true;
-    }
-    answer_ends(space, h, k, i)
+    k == 0 || subgoal_ends(space, h, k, i) || answer_ends(space, h, k, i)
 }
 
 // Is s a subgoal whose answer root is node i?
+#[tactic(auto, unfolding(crate::specs::Tests::root_named))]
 fn root_named(space: &[u32], h: Head, s: usize, i: usize) -> bool
     requires { Bounds space.now h }
     ensures { result ≡ root_named (view_in space.now h) s i }
 {
-    if s == 0 {
-        return false;
-    }
-    if h.subgoals < s {
-        return false;
-    }
-    let g = subgoal_in(space, h, s);
-    g.root == i
+    0 < s && s <= h.subgoals && subgoal_in(space, h, s).root == i
 }
 
 // A root: that of the subgoals, or it follows the leaf of the subgoal that names it.
+#[tactic(auto, unfolding(agreement::specs::Whole::root_whole, crate::specs::Tests::root_named))]
 fn root_whole(space: &[u32], h: Head, i: usize, y: Node) -> bool
     requires { NodeOfNumber space.now h i y }
     ensures { result ≡ root_whole (coding_of h.edition) (view_in space.now h) i }
 {
-    if y.token != 0 {
+    if y.token != 0 || y.sibling != 0 {
         return false;
     }
-    if y.sibling != 0 {
-        return false;
-    }
-    if i == 0 {
-        return true;
-    }
-    let above = node_in(space, h.nodes, i - 1);
-    root_named(space, h, above.link, i)
+    i == 0 || root_named(space, h, node_in(space, h.nodes, i - 1).link, i)
 }
 
 // Does the search for its token among its parent's children find node i?
@@ -91,28 +69,21 @@ fn is_found(space: &[u32], h: Head, i: usize, y: Node) -> bool
     requires { ChildOfNumber space.now h i y }
     ensures { result ≡ ends_at i (search_children (tries_in space.now h) y.parent y.token) }
 {
-    let found = search_children(space, h.nodes, h.subgoals + h.answers, y.parent, y.token);
-    match found {
+    match search_children(space, h.nodes, h.subgoals + h.answers, y.parent, y.token) {
         Search::Found(j) => j == i,
-        Search::Last(_) => false,
-        Search::Damaged => false,
+        Search::Last(_) | Search::Damaged => false,
     }
 }
 
 // A node below another; those before it are whole.
+#[tactic(auto, unfolding(agreement::specs::Whole::child_whole, trie::specs::Siblings::parent_is))]
 fn child_whole(space: &[u32], h: Head, i: usize, y: Node) -> bool
     requires { ChildOfNumber space.now h i y }
     ensures { result ≡ child_whole (coding_of h.edition) (view_in space.now h) i }
 {
-    if parent_is(space, h.nodes, y.sibling, y.parent) {
-        if is_found(space, h, i, y) {
-            if y.link == 0 {
-                return y.child != 0;
-            }
-            return true;
-        }
-    }
-    false
+    parent_is(space, h.nodes, y.sibling, y.parent)
+        && is_found(space, h, i, y)
+        && (y.link != 0 || y.child != 0)
 }
 
 // Node i; those before it are whole.
@@ -123,15 +94,14 @@ fn node_whole(space: &[u32], h: Head, i: usize) -> bool
     let NodeRead::Sound(y) = read_node(space, h.nodes, h.subgoals + h.answers, i) else {
         return false;
     };
-    if parent_is(space, h.nodes, y.child, i) {
-        if leads_back(space, h, y.link, i) {
-            if y.parent == i {
-                return root_whole(space, h, i, y);
-            }
-            return child_whole(space, h, i, y);
-        }
+    if !parent_is(space, h.nodes, y.child, i) || !leads_back(space, h, y.link, i) {
+        return false;
     }
-    false
+    if y.parent == i {
+        root_whole(space, h, i, y)
+    } else {
+        child_whole(space, h, i, y)
+    }
 }
 
 // The first node that is not whole; the nodes used where all are.
@@ -139,13 +109,5 @@ pub fn first_node(space: &[u32], h: Head) -> usize
     requires { Bounds space.now h }
     ensures { result ≡ node_broken (coding_of h.edition) (view_in space.now h) }
 {
-    let mut i = 0;
-    while i < h.nodes {
-        let whole = node_whole(space, h, i);
-        if !whole {
-            return i;
-        }
-        i += 1;
-    }
-    i
+    first_failing(h.nodes, |i| node_whole(space, h, i))
 }

@@ -15,10 +15,7 @@ pub fn path_whole(space: &[u32], end: End, m: usize, called: bool, edition: u32)
 {
     if called {
         let n = path_worth(space, end, 1, true, edition);
-        if n == 0 {
-            return false;
-        }
-        return n - 1 == m;
+        return 0 < n && n - 1 == m;
     }
     0 < path_worth(space, end, m, false, edition)
 }

@@ -11,52 +11,37 @@ ghost use Rattle.integrity.specs.Tests.{subgoal_test, answer_test, SubgoalOfNumb
 ghost use Rattle.integrity.specs.Tests.{NodesWhole, SubgoalAmongWhole};
 
 use super::firsts::led_up;
+use super::passes::first_failing;
 use super::paths::path_whole;
 use space::records::{answer_in, node_in, subgoal_in};
 use space::{Answer, Head, Subgoal};
-use trie::End;
+use trie::ends::{answer_end, subgoal_end};
 
 // Its leaf is linked to it, its answer root follows the leaf, and its state is one that there is.
+#[tactic(auto, unfolding(crate::specs::Tests::subgoal_stands))]
 fn subgoal_stands(space: &[u32], h: Head, s: usize, g: Subgoal) -> bool
     requires { SubgoalOfNumber space.now h s g }
     ensures { result ≡ subgoal_stands (view_in space.now h) s }
 {
-    if h.nodes <= g.root {
-        return false;
-    }
-    if g.root <= g.leaf {
-        return false;
-    }
-    if g.root - g.leaf != 1 {
+    if h.nodes <= g.root || g.root <= g.leaf || g.root - g.leaf != 1 {
         return false;
     }
     let root = node_in(space, h.nodes, g.root);
-    if root.parent != g.root {
-        return false;
-    }
     let leaf = node_in(space, h.nodes, g.leaf);
-    if leaf.link != s {
-        return false;
-    }
-    g.state <= 1
+    root.parent == g.root && leaf.link == s && g.state <= 1
 }
 
 // Is a an answer to subgoal s?
+#[tactic(auto, unfolding(crate::specs::Tests::answers_to))]
 fn answers_to(space: &[u32], h: Head, a: usize, s: usize) -> bool
     requires { Bounds space.now h }
     ensures { result ≡ answers_to (view_in space.now h) a s }
 {
-    if a == 0 {
-        return false;
-    }
-    if h.answers < a {
-        return false;
-    }
-    let y = answer_in(space, h, a);
-    y.subgoal == s
+    0 < a && a <= h.answers && answer_in(space, h, a).subgoal == s
 }
 
 // The first and the last answer of subgoal s.
+#[tactic(auto, unfolding(agreement::specs::Whole::ends_whole, crate::specs::Tests::answers_to))]
 fn ends_whole(space: &[u32], h: Head, s: usize, g: Subgoal) -> bool
     requires { SubgoalOfNumber space.now h s g }
     ensures { result ≡ ends_whole (coding_of h.edition) (view_in space.now h) s }
@@ -64,37 +49,24 @@ fn ends_whole(space: &[u32], h: Head, s: usize, g: Subgoal) -> bool
     if g.last == 0 {
         return g.first == 0;
     }
-    if answers_to(space, h, g.first, s) {
-        if g.last <= h.answers {
-            let y = answer_in(space, h, g.last);
-            if y.subgoal == s {
-                return y.next == 0;
-            }
-        }
+    if !answers_to(space, h, g.first, s) || h.answers < g.last {
+        return false;
     }
-    false
+    let y = answer_in(space, h, g.last);
+    y.subgoal == s && y.next == 0
 }
 
 // Subgoal s, where all nodes are whole.
+#[tactic(auto, unfolding(agreement::specs::Whole::subgoal_whole, crate::specs::Tests::subgoal_stands))]
 fn subgoal_whole(space: &[u32], h: Head, s: usize) -> bool
     requires { SubgoalAmongWhole space.now h s }
     ensures { result ≡ subgoal_test space.now h s }
 {
     let g = subgoal_in(space, h, s);
-    if subgoal_stands(space, h, s, g) {
-        let end = End {
-            nodes: h.nodes,
-            links: h.subgoals,
-            root: 0,
-            leaf: g.leaf,
-        };
-        if path_whole(space, end, g.variables, true, h.edition) {
-            if ends_whole(space, h, s, g) {
-                return led_up(space, h, s, g.leaf);
-            }
-        }
-    }
-    false
+    subgoal_stands(space, h, s, g)
+        && path_whole(space, subgoal_end(h, g), g.variables, true, h.edition)
+        && ends_whole(space, h, s, g)
+        && led_up(space, h, s, g.leaf)
 }
 
 // One less than the first subgoal that is not whole; the subgoals used where all are. All nodes are whole.
@@ -102,33 +74,19 @@ pub fn first_subgoal(space: &[u32], h: Head) -> usize
     requires { Bounds space.now h × NodesWhole space.now h h.nodes }
     ensures { result ≡ subgoal_broken (coding_of h.edition) (view_in space.now h) }
 {
-    let mut i = 0;
-    while i < h.subgoals {
-        let whole = subgoal_whole(space, h, i + 1);
-        if !whole {
-            return i;
-        }
-        i += 1;
-    }
-    i
+    first_failing(h.subgoals, |i| subgoal_whole(space, h, i + 1))
 }
 
 // Its subgoal is one that there is, and its leaf is linked to it.
+#[tactic(auto, unfolding(crate::specs::Tests::answer_stands))]
 fn answer_stands(space: &[u32], h: Head, a: usize, y: Answer) -> bool
     requires { AnswerOfNumber space.now h a y }
     ensures { result ≡ answer_stands (view_in space.now h) a }
 {
-    if y.subgoal == 0 {
+    if y.subgoal == 0 || h.subgoals < y.subgoal || h.nodes <= y.leaf {
         return false;
     }
-    if h.subgoals < y.subgoal {
-        return false;
-    }
-    if h.nodes <= y.leaf {
-        return false;
-    }
-    let leaf = node_in(space, h.nodes, y.leaf);
-    leaf.link == a
+    node_in(space, h.nodes, y.leaf).link == a
 }
 
 // Its next answer is above it, and one to the same subgoal.
@@ -139,35 +97,22 @@ fn next_whole(space: &[u32], h: Head, a: usize, y: Answer) -> bool
     if y.next == 0 {
         return true;
     }
-    if y.next <= a {
-        return false;
-    }
-    if h.answers < y.next {
-        return false;
-    }
-    let z = answer_in(space, h, y.next);
-    z.subgoal == y.subgoal
+    a < y.next && y.next <= h.answers && answer_in(space, h, y.next).subgoal == y.subgoal
 }
 
 // Answer a.
+#[tactic(auto, unfolding(agreement::specs::Whole::answer_whole, crate::specs::Tests::answer_stands))]
 fn answer_whole(space: &[u32], h: Head, a: usize) -> bool
     requires { AnswerUsed space.now h a }
     ensures { result ≡ answer_test space.now h a }
 {
     let y = answer_in(space, h, a);
-    if answer_stands(space, h, a, y) {
-        let g = subgoal_in(space, h, y.subgoal);
-        let end = End {
-            nodes: h.nodes,
-            links: h.answers,
-            root: g.root,
-            leaf: y.leaf,
-        };
-        if path_whole(space, end, g.variables, false, h.edition) {
-            return next_whole(space, h, a, y);
-        }
+    if !answer_stands(space, h, a, y) {
+        return false;
     }
-    false
+    let g = subgoal_in(space, h, y.subgoal);
+    path_whole(space, answer_end(h, g, y), g.variables, false, h.edition)
+        && next_whole(space, h, a, y)
 }
 
 // One less than the first answer that is not whole; the answers used where all are.
@@ -175,13 +120,5 @@ pub fn first_answer(space: &[u32], h: Head) -> usize
     requires { Bounds space.now h }
     ensures { result ≡ answer_broken (coding_of h.edition) (view_in space.now h) }
 {
-    let mut i = 0;
-    while i < h.answers {
-        let whole = answer_whole(space, h, i + 1);
-        if !whole {
-            return i;
-        }
-        i += 1;
-    }
-    i
+    first_failing(h.answers, |i| answer_whole(space, h, i + 1))
 }

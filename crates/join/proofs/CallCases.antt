@@ -44,7 +44,7 @@ use Rattle.pairing.specs.declared.Needs.{Needs}
 use Rattle.join.specs.declared.Parties.{Parties}
 use Rattle.pairing.specs.declared.Sides.{Sides}
 use Rattle.pairing.specs.declared.Sums.{Sums}
-use Rattle.pairing.specs.Counting.{all_forms, JoinReady, Fitting, CountedOf, CountsForms, NeedsUpTo}
+use Rattle.pairing.specs.Counting.{all_forms, JoinReady, CountedOf, CountsForms, NeedsUpTo}
 use Rattle.join.specs.Entering.{Enters}
 use Rattle.join.specs.Joining.{is_number, join_asked, Numbered, PartiesIn, sides_of, Grounded, JoinsUnder, sums_fit, room_for, TellsRoom, SomeNew, Enterable, EntersAll}
 use Rattle.join.proofs.EnterLaws.{sound-is}
@@ -269,12 +269,6 @@ module _ (way : ℕ → Finding) (cs : List ℕ) (h : Head) (y : Parties) (ps ks
       fit = n.summed.0;
       target = target-fit cs h y ps ks n.grounded;
     })
-
-    pub may-need : JoinReady cs x ps ks × Fitting cs x ps ks
-    may-need = (may-enter.ready, may-enter.fit)
-
-    pub may-need-root : y.t.root < x.h.nodes
-    may-need-root = (may-count cs h y ps ks n.grounded x i).1
 
     module _ (l : sound_last (view_in cs h) y.target ≡ true) where
       entered_all : h.nodes + nodes_needed_by (way h.nodes) (view_in cs h) y.target [] (all_forms cs (sides_of h y) ps ks) ≤ h.node_capacity

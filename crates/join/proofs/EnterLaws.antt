@@ -1,8 +1,8 @@
 -- The pass over all forms of a join that enters them: what is known of the sources stays known as the target's cells
 -- change, and the forms that are still to come stay the same.
-use mathlib.Core.Path.{◌≡◌, refl, sym, ap, ◌∙◌, subst}
+use mathlib.Core.Path.{◌≡◌, sym, ap, ◌∙◌, subst}
 use mathlib.Core.Bool.{true}
-use mathlib.Core.List.{List, map}
+use mathlib.Core.List.{List, [], map}
 use Prim.Native.Nat.{ℕ, ◌≤◌, ◌<◌}
 use native.Mathlib.Omega.{arith}
 use lib.ListN.{length, take}
@@ -33,13 +33,13 @@ use Rattle.parts.specs.Parts.{parts, AllGround, InHand, all_fit}
 use Rattle.pairing.specs.declared.Source.{Source}
 use Rattle.pairing.specs.declared.Sides.{Sides}
 use Rattle.pairing.specs.declared.Cursor.{Cursor}
-use Rattle.pairing.specs.declared.Match.{Match}
+use Rattle.pairing.specs.declared.Walk.{Walk}
 use Rattle.pairing.specs.declared.Match.TheVariants as match
-use Rattle.pairing.specs.Pairing.{forms_from, SourceIn, Remains, two_hands, most_tokens, form_in, Throughout, Stands, parts_from, to_come, Advances}
-use Rattle.pairing.specs.Counting.{beginning, all_forms, JoinReady, Fitting}
+use Rattle.pairing.specs.Pairing.{forms_from, SourceIn, Remains, form_in, Throughout, Stands, parts_from, to_come, Advances}
+use Rattle.pairing.specs.Counting.{Begun, all_forms, JoinReady, Fitting}
 use Rattle.join.specs.Entering.{under_head, Target, Givable, Enters}
 use Rattle.pairing.proofs.RemainsLaws.{forms-are}
-use Rattle.pairing.proofs.CountLaws.{begins, all_come, fit-cons, not-long}
+use Rattle.pairing.proofs.CountLaws.{begins, all_come, fit-cons}
 
 pub sound-is : {h k : Head} → header.Sound h ≡ header.Sound k → h ≡ k
 sound-is {h} {k} e = ap head_of e
@@ -162,29 +162,23 @@ module _ (find : Finding) where
 
 module _ {find : Finding} (finds : Finds find) where
   module _ (cs0 : List ℕ) (x0 : Sides) (s : ℕ) (ps ks : List ℕ) where
-    pub entering-begun : space_header cs0 ≡ header.Sound x0.h → JoinReady cs0 x0 ps ks → Fitting cs0 x0 ps ks → Target cs0 x0 s → (hands form : List ℕ) → length hands ≡ two_hands → length form ≡ most_tokens
-        → Entering find cs0 x0 s ps ks cs0 x0 (beginning x0) hands form
-    entering-begun e r f t hands form lh lf = record {
+    pub entering-begun : space_header cs0 ≡ header.Sound x0.h → JoinReady cs0 x0 ps ks → Fitting cs0 x0 ps ks → Target cs0 x0 s → (w : Walk) → Begun x0 w → Entering find cs0 x0 s ps ks cs0 x0 w.at w.first w.form
+    entering-begun e r f t w b = record {
       space = e;
       known = r.known;
       target = t;
-      stands = begins cs0 x0 ps ks r hands form lh lf;
-      fit = subst (λ (ws : List Word). all_fit (stored_of x0.h.edition) ws ≡ true) (all_come cs0 x0 ps ks hands) f;
-      left = ap (forms_given_by find (sizes_of x0.h.edition) cs0 s) (sym (all_come cs0 x0 ps ks hands));
+      stands = begins cs0 x0 ps ks r w b;
+      fit = subst (λ (ws : List Word). all_fit (stored_of x0.h.edition) ws ≡ true) (all_come cs0 x0 ps ks w b) f;
+      left = ap (forms_given_by find (sizes_of x0.h.edition) cs0 s) (sym (all_come cs0 x0 ps ks w b));
     }
 
-    module _ (cs : List ℕ) (x : Sides) (at : Cursor) (hands form : List ℕ) (n : Entering find cs0 x0 s ps ks cs x at hands form) (hands' form' : List ℕ) where
-      entered-end : Advances cs x ps ks at hands hands' form' match.End → Enters find cs0 x0 s ps ks cs
+    module _ (cs : List ℕ) (x : Sides) (at : Cursor) (hands form : List ℕ) (n : Entering find cs0 x0 s ps ks cs x at hands form) where
+      -- nothing more matches
+      pub entered-end : to_come cs x ps ks at hands ≡ [] → Enters find cs0 x0 s ps ks cs
       unfolding forms_given_by
       entered-end e = sym (ap (forms_given_by find (sizes_of x.h.edition) cs s) e) ∙ n.left
 
-      -- nothing more matches
-      pub entered-other : (r : Match) → Advances cs x ps ks at hands hands' form' r → ((next : Cursor) (m : ℕ) → r ≡ match.At next m → ⊥) → Enters find cs0 x0 s ps ks cs
-      entered-other (match.At next m) a z = absurd (z next m refl)
-      entered-other match.TooLong a z = absurd (not-long x.h.edition (to_come cs x ps ks at hands) n.fit a)
-      entered-other match.End a z = entered-end a
-
-      module _ (next : Cursor) (m : ℕ) (a : Advances cs x ps ks at hands hands' form' (match.At next m)) (cs' : List ℕ) (g : cs' ≡ form_given_by find (sizes_of x.h.edition) cs s (take m form') (header.Sound x.h)) where
+      module _ (hands' form' : List ℕ) (next : Cursor) (m : ℕ) (a : Advances cs x ps ks at hands hands' form' (match.At next m)) (cs' : List ℕ) (g : cs' ≡ form_given_by find (sizes_of x.h.edition) cs s (take m form') (header.Sound x.h)) where
         framed : Framed x.h.edition s cs x.h cs'
         framed = subst (Framed x.h.edition s cs x.h) (sym g) (form-framed finds cs x.h n.space s n.target.low n.target.high n.target.root_in n.target.last-in (take m form'))
 
@@ -228,10 +222,10 @@ module _ {find : Finding} (finds : Finds find) where
             }
 
       -- there are fewer to come
-      pub entering-less : (next : Cursor) (m : ℕ) (a : Advances cs x ps ks at hands hands' form' (match.At next m)) (cs' : List ℕ) (g : cs' ≡ form_given_by find (sizes_of x.h.edition) cs s (take m form') (header.Sound x.h))
+      pub entering-less : (hands' form' : List ℕ) (next : Cursor) (m : ℕ) (a : Advances cs x ps ks at hands hands' form' (match.At next m)) (cs' : List ℕ) (g : cs' ≡ form_given_by find (sizes_of x.h.edition) cs s (take m form') (header.Sound x.h))
           (h' : Head) → header.Sound h' ≡ space_header cs' → length (to_come cs' (under_head x h') ps ks next hands') < length (to_come cs x ps ks at hands)
-      entering-less next m a cs' g h' e =
-          let F = framed next m a cs' g in
+      entering-less hands' form' next m a cs' g h' e =
+          let F = framed hands' form' next m a cs' g in
           let is : F.head ≡ h' = sound-is (sym F.space ∙ sym e) in
           let come = come-kept cs x s ps ks n.known n.target cs' F h' is next hands' form' a.0 in
           omega (arith, ap length come, ap length a.1.1)

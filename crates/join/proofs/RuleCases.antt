@@ -3,7 +3,6 @@ use mathlib.Core.Path.{◌≡◌, ◌∙◌}
 use mathlib.Core.Bool.{true, false, true≢false, false≢true}
 use mathlib.Core.List.{List}
 use Prim.Native.Nat.{ℕ, ◌-◌, ◌≤◌, ◌<◌}
-use native.Mathlib.Omega.{arith}
 use lib.Dec.{leb}
 use borrow.Author.Tests.{lt-ltb, le-ltb, le-leb, lt-leb}
 use Rattle.plain.specs.Coding.{coding_of}
@@ -16,45 +15,8 @@ use Rattle.sides.specs.declared.Judged.{Judged}
 use Rattle.sides.specs.declared.Judged.TheVariants.{Damaged, Ground, Variable}
 use Rattle.join.specs.declared.Parties.{Parties}
 use Rattle.pairing.specs.declared.Sums.{Sums}
-use Rattle.join.specs.Joining.{is_number, whole_answers, ground_answers, sums_fit, room_for, Rules, RulesOn}
+use Rattle.join.specs.Joining.{whole_answers, ground_answers, sums_fit, room_for, Rules, RulesOn}
 use Rattle.join.proofs.JoinCases.{ruled-first-broken, ruled-second-broken, ruled-finished, ruled-first-open, ruled-second-open, ruled-first-variable, ruled-second-variable, ruled-unnamed, ruled-on}
-
--- ---- numbers
-
-pub number-zero : (n s : ℕ) → s ≡ 0 → false ≡ is_number n s
-unfolding is_number
-number-zero n s e = rw (le-ltb 0 s (omega arith))
-
-pub number-some : (n s : ℕ) → (s ≡ 0 → ⊥) → leb s n ≡ is_number n s
-unfolding is_number
-number-some n s e = rw (lt-ltb 0 s (omega arith))
-
--- ---- what was judged
-
-module _ {j : Judged} where
-  pub whole-damaged : j ≡ Damaged → false ≡ whole_answers j
-  unfolding whole_answers
-  whole-damaged e = rw e
-
-  pub whole-ground : j ≡ Ground → true ≡ whole_answers j
-  unfolding whole_answers
-  whole-ground e = rw e
-
-  pub whole-variable : j ≡ Variable → true ≡ whole_answers j
-  unfolding whole_answers
-  whole-variable e = rw e
-
-  pub ground-damaged : j ≡ Damaged → false ≡ ground_answers j
-  unfolding ground_answers
-  ground-damaged e = rw e
-
-  pub ground-ground : j ≡ Ground → true ≡ ground_answers j
-  unfolding ground_answers
-  ground-ground e = rw e
-
-  pub ground-variable : j ≡ Variable → false ≡ ground_answers j
-  unfolding ground_answers
-  ground-variable e = rw e
 
 -- ---- room
 

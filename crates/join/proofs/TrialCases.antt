@@ -83,9 +83,6 @@ module _ (h : Head) (c : HeadCounts h) (free : ℕ) where
       room-nodes h (nodes_needed_by find (view_in cs x.h) s [] (all_forms cs x ps ks)) (answers_needed_by find (view_in cs x.h) s [] (all_forms cs x ps ks)) (omega arith)
       ∙ ap (λ (k : Head). room_for k (nodes_needed_by find (view_in cs x.h) s [] (all_forms cs x ps ks)) (answers_needed_by find (view_in cs x.h) s [] (all_forms cs x ps ks))) (sym e)
 
-pub settle-not : (h : Head) (free : ℕ) (r : Tried) → Settles h free r 255
-settle-not h free r find cs x root ps ks e t o = absurd (o refl)
-
 -- ---- the call on trial
 
 module _ (cs : List ℕ) (x : Sides) (free root : ℕ) (ps ks : List ℕ) (T : Triable cs x free root ps ks) where

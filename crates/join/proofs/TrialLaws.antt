@@ -1,6 +1,7 @@
 -- The forms of a join on trial, one after another.
 use mathlib.Core.Path.{◌≡◌, refl, sym, ap, ◌∙◌, subst}
-use mathlib.Core.Bool.{Bool, true, false}
+use mir.Val.{bool_byte}
+use mathlib.Core.Bool.{not, Bool, true, false}
 use mathlib.Core.List.{List, [], ◌∷◌, ◌++◌}
 use Prim.Native.Nat.{ℕ, suc, ◌+◌, ◌-◌, ◌<◌, ◌≤◌, min}
 use native.Mathlib.Omega.{arith}
@@ -34,7 +35,7 @@ use Rattle.drafts.proofs.Roots.{prefixes-word, word-brings}
 use Rattle.pairing.specs.declared.Sides.{Sides}
 use Rattle.join.specs.declared.Tally.{Tally}
 use Rattle.join.specs.declared.TriedForm.TheVariants as tried-form
-use Rattle.join.specs.Trial.{one_unheld, room_of, Within, nodes_for, answers_for, Tallied, Formable, TriesForm}
+use Rattle.join.specs.Trial.{room_of, Within, nodes_for, answers_for, Tallied, Formable, TriesForm}
 
 missing-whole : (n : ℕ) → missing (whole n) ≡ 0
 unfolding missing
@@ -52,17 +53,9 @@ lacking-stopped : (v : View) (p l : ℕ) (left : Word) → lacking v (stopped p 
 unfolding lacking
 lacking-stopped v p l left = refl
 
-unheld : (held : Bool) → one_unheld held ≡ pick held 0 1
-unfolding one_unheld
-unheld held = refl
-
-pub unheld-none : (held : Bool) → held ≡ true → (0 ≡ one_unheld held) × (0 ≤ 1)
-unfolding one_unheld
-unheld-none held e = (rw e, omega arith)
-
-pub unheld-one : (held : Bool) → held ≡ false → (1 ≡ one_unheld held) × (1 ≤ 1)
-unfolding one_unheld
-unheld-one held e = (rw e, omega arith)
+unheld : (held : Bool) → bool_byte (not held) ≡ pick held 0 1
+unheld true = refl
+unheld false = refl
 
 module _ {find : Finding} (finds : Finds find) (steady : Steady find) (ds : List ℕ) (x : Sides) (free root : ℕ) (w : Word) (y : Tally) (F : Formable ds x free root w y) where
   -- the nodes that are used are as they were
@@ -162,7 +155,7 @@ module _ {find : Finding} (finds : Finds find) (steady : Steady find) (ds : List
           ∙ ap (λ (i : ℕ). y.used + i) (sym (noted-needs finds steady (view_in cs x.h) s (within cs s r) es before (T.noted s r).3 w parent last left stops_at)
           ∙ ap (λ (i : ℕ). min i (length w - most before w)) (sym (ap missing stops_at ∙ missing-stopped parent last left)))
 
-      answers_with : (held : Bool) → held ≡ has (T.noted s r).0 (parent ∷ drop (length w - k) w) → one_unheld held ≡ answers_for find cs x s before w
+      answers_with : (held : Bool) → held ≡ has (T.noted s r).0 (parent ∷ drop (length w - k) w) → bool_byte (not held) ≡ answers_for find cs x s before w
       answers_with held h =
           unheld held ∙ ap (λ (b : Bool). pick b 0 1) (h ∙ (T.noted s r).3.held w parent last left stops_at)
           ∙ ap (λ (b : Bool). pick b (pick (has before w) 0 1) 0) (sym (ap (lacking (view_in cs x.h)) stops_at ∙ lacking-stopped (view_in cs x.h) parent last left))
@@ -178,7 +171,7 @@ module _ {find : Finding} (finds : Finds find) (steady : Steady find) (ds : List
       )
 
       pub form-counted : (used : ℕ) (held : Bool) → WordDrafted ds (room_of x free) y.used parent (drop (length w - k) w) ds' (drafted.Word used held)
-          → (one : ℕ) → one ≡ one_unheld held
+          → (one : ℕ) → one ≡ bool_byte (not held)
           → TriesForm find x free root ds y w ds' (tried-form.Counted (record { used = used; answers = y.answers + one }))
       form-counted used held d one i = λ cs before T. (
         record {
@@ -204,6 +197,6 @@ module _ {find : Finding} (finds : Finds find) (steady : Steady find) (ds : List
       part-full d = form-full (subst (λ (q : Word). WordDrafted ds (room_of x free) y.used parent q ds' drafted.Full) part-is d)
 
       pub part-counted : (used : ℕ) (held : Bool) → WordDrafted ds (room_of x free) y.used parent (take (length w - (length w - k)) (drop (length w - k) w)) ds' (drafted.Word used held)
-          → (one : ℕ) → one ≡ one_unheld held
+          → (one : ℕ) → one ≡ bool_byte (not held)
           → TriesForm find x free root ds y w ds' (tried-form.Counted (record { used = used; answers = y.answers + one }))
       part-counted used held d one i = form-counted used held (subst (λ (q : Word). WordDrafted ds (room_of x free) y.used parent q ds' (drafted.Word used held)) part-is d) one i

@@ -26,10 +26,11 @@ use Rattle.drafts.proofs.WipeCases.{wiped-same}
 use Rattle.drafts.proofs.Roots.{roots-prefixes, roots-size, keyed-none, bucketed-none}
 use Rattle.pairing.specs.declared.Sides.{Sides}
 use Rattle.pairing.specs.declared.Cursor.{Cursor}
+use Rattle.pairing.specs.declared.Walk.{Walk}
 use Rattle.pairing.specs.declared.Match.{Match}
 use Rattle.pairing.specs.declared.Match.TheVariants as match
-use Rattle.pairing.specs.Pairing.{two_hands, most_tokens, Throughout, Stands, to_come, Advances}
-use Rattle.pairing.specs.Counting.{beginning, all_forms}
+use Rattle.pairing.specs.Pairing.{Throughout, Stands, to_come, Advances}
+use Rattle.pairing.specs.Counting.{Begun, all_forms}
 use Rattle.pairing.proofs.CountLaws.{begins, all_come, fit-cons, all-few}
 use Rattle.join.specs.declared.Tally.{Tally}
 use Rattle.join.specs.declared.TriedForm.TheVariants as tried-form
@@ -87,17 +88,17 @@ module _ {find : Finding} (finds : Finds find) (steady : Steady find) (cs : List
   within : (s : ℕ) → root ≡ (subgoal_under cs x.h s).root → (subgoal_under cs x.h s).root < x.h.nodes
   within s r = subst (λ (i : ℕ). i < x.h.nodes) (sym R.0.2 ∙ r) R.0.1.target.root_in
 
-  pub trying-begun : (hands form : List ℕ) → length hands ≡ two_hands → length form ≡ most_tokens → Trying find cs x free root ps ks cs (beginning x) hands form (no_tally x)
-  trying-begun hands form lh lf =
-      let e = all_come cs x ps ks hands in
-      let b : Bounds cs x.h = header-bounds cs x.h (sym R.0.1.space) in
+  pub trying-begun : (w : Walk) → Begun x w → Trying find cs x free root ps ks cs w.at w.first w.form (no_tally x)
+  trying-begun w b =
+      let e = all_come cs x ps ks w b in
+      let o : Bounds cs x.h = header-bounds cs x.h (sym R.0.1.space) in
       record {
-        stands = begins cs x ps ks R.0.1.ready hands form lh lf;
+        stands = begins cs x ps ks R.0.1.ready w b;
         fit = subst (λ (ws : List Word). all_fit (stored_of x.h.edition) ws ≡ true) e R.0.1.fit;
         before = [];
         tallied = record {
           kept = kept_same _ _ cs;
-          buckets = bucketed-none cs (room_of x free) b.some-node R.2;
+          buckets = bucketed-none cs (room_of x free) o.some-node R.2;
           noted = λ s r. (roots_below x.h.nodes, ap length (roots-prefixes x.h.nodes) ∙ roots-size x.h.nodes, keyed-none (node_in sizes cs) x.h.nodes, noted-none finds steady (view_in cs x.h) s (within s r));
         };
         nodes = λ s r. ap (λ (ws : List Word). x.h.nodes + nodes_needed_by find (view_in cs x.h) s [] ws) (sym e);
@@ -118,26 +119,29 @@ module _ {find : Finding} (finds : Finds find) (steady : Steady find) (cs : List
     pub trying-stands : Stands ds x at hands form
     trying-stands = stands-draft cs ds x R.0.1.space _ _ G.tallied.kept low high R.0.0 R.0.1.target ps ks R.0.1.ready.known at hands form G.stands
 
+    pub trying-next : (hands' form' : List ℕ) (r : Match) → Advances ds x ps ks at hands hands' form' r → Advances cs x ps ks at hands hands' form' r
+    trying-next = advances-back cs ds x R.0.1.space _ _ G.tallied.kept low high R.0.0 R.0.1.target ps ks R.0.1.ready.known at hands form G.stands
+
+    pub tried-long : TriesForms find cs x free root ps ks ds tried.Unknown
+    tried-long = (G.tallied.kept, tt)
+
+    pub tried-end : to_come ds x ps ks at hands ≡ [] → TriesForms find cs x free root ps ks ds (tried.All y)
+    tried-end a =
+        let e = trying-next [] [] match.End a in (
+          G.tallied.kept,
+          λ s r.
+              let n = G.nodes s r in
+              let i = ap (nodes_needed_by find (view_in cs x.h) s G.before) e ∙ nodes-nil find cs x s G.before in
+              let m = G.answers s r in
+              let j = ap (answers_needed_by find (view_in cs x.h) s G.before) e ∙ answers-nil find cs x s G.before in
+              (omega arith, omega arith),
+        )
+
     module _ (hands' form' : List ℕ) where
-      pub trying-next : (r : Match) → Advances ds x ps ks at hands hands' form' r → Advances cs x ps ks at hands hands' form' r
-      trying-next = advances-back cs ds x R.0.1.space _ _ G.tallied.kept low high R.0.0 R.0.1.target ps ks R.0.1.ready.known at hands form G.stands hands' form'
+      module _ (next : Cursor) (n : ℕ) (b : Advances ds x ps ks at hands hands' form' (match.At next n)) where
+        a : Advances cs x ps ks at hands hands' form' (match.At next n)
+        a = trying-next hands' form' (match.At next n) b
 
-      pub tried-long : Advances ds x ps ks at hands hands' form' match.TooLong → TriesForms find cs x free root ps ks ds tried.Unknown
-      tried-long a = (G.tallied.kept, tt)
-
-      pub tried-end : Advances ds x ps ks at hands hands' form' match.End → TriesForms find cs x free root ps ks ds (tried.All y)
-      tried-end a =
-          let e = trying-next match.End a in (
-            G.tallied.kept,
-            λ s r.
-                let n = G.nodes s r in
-                let i = ap (nodes_needed_by find (view_in cs x.h) s G.before) e ∙ nodes-nil find cs x s G.before in
-                let m = G.answers s r in
-                let j = ap (answers_needed_by find (view_in cs x.h) s G.before) e ∙ answers-nil find cs x s G.before in
-                (omega arith, omega arith),
-          )
-
-      module _ (next : Cursor) (n : ℕ) (a : Advances cs x ps ks at hands hands' form' (match.At next n)) where
         pub trying-less : length (to_come cs x ps ks next hands') < length (to_come cs x ps ks at hands)
         trying-less = let e = ap length a.1.1 in omega arith
 

@@ -12,6 +12,7 @@ use Rattle.space.specs.Heading.{space_header}
 use Rattle.space.specs.Judging.{subgoal_sound}
 use Rattle.space.specs.Sound.{subgoal_under}
 use Rattle.space.specs.declared.Head.{Head}
+use Rattle.space.specs.declared.Subgoal.{Subgoal}
 use Rattle.space.specs.declared.Header.TheVariants as header
 use Rattle.trie.specs.Walks.{Finding, root_sound}
 use Rattle.store.specs.Views.{answer_trie}
@@ -26,6 +27,7 @@ use Rattle.sides.specs.declared.Judged.{Judged}
 use Rattle.sides.specs.declared.Judged.TheVariants.{Damaged, Ground, Variable}
 use Rattle.join.specs.declared.Numbers.{Numbers}
 use Rattle.join.specs.declared.Parties.{Parties}
+use Rattle.pairing.specs.declared.Source.{Source}
 use Rattle.pairing.specs.declared.Sides.{Sides}
 use Rattle.pairing.specs.declared.Counted.TheVariants as counted
 use Rattle.pairing.specs.declared.Sums.{Sums}
@@ -53,12 +55,11 @@ pub record PartiesIn (cs : List ℕ) (h : Head) (y : Parties) : Type 0 where
   pub target_sound : subgoal_sound h.nodes h.answers y.t ≡ true
   pub rooted : root_sound (answer_trie (view_in cs h)) y.t.root ≡ true
 
+abbrev pub source_of : ℕ → Subgoal → Source
+source_of n g = record { number = n; root = g.root; variables = g.variables; first = g.first }
+
 abbrev pub sides_of : Head → Parties → Sides
-sides_of h y = record {
-  h = h;
-  first = record { number = y.first; root = y.f.root; variables = y.f.variables; first = y.f.first };
-  second = record { number = y.second; root = y.g.root; variables = y.g.variables; first = y.g.first };
-}
+sides_of h y = record { h = h; first = source_of y.first y.f; second = source_of y.second y.g }
 
 -- ---- what the rule asks
 

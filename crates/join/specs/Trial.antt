@@ -1,5 +1,5 @@
 -- The forms of a join on trial: what the draft of their new nodes tells of what they need, and that it leaves no trace.
-use Rattle.std.specs.Prelude.{ℕ, ◌+◌, ◌-◌, ◌<◌, ◌≤◌, ◌^◌, min, Bool, List, [], ◌∷◌, ◌≡◌, length}
+use Rattle.std.specs.Prelude.{ℕ, ◌+◌, ◌-◌, ◌<◌, ◌≤◌, ◌^◌, min, List, [], ◌∷◌, ◌≡◌, length}
 use Rattle.basis.specs.Choice.{pick}
 use Rattle.plain.specs.Words.{Word, has, most, prefixes}
 use Rattle.space.specs.Layout.{sizes, node_in}
@@ -22,9 +22,6 @@ use Rattle.join.specs.declared.TriedForm.TheVariants as tried-form
 use Rattle.join.specs.declared.Tried.{Tried}
 use Rattle.join.specs.declared.Tried.TheVariants as tried
 use Rattle.join.specs.Joining.{Enterable, TellsRoom}
-
-unfoldable pub one_unheld : Bool → ℕ
-one_unheld held = pick held 0 1
 
 -- the first free nodes, as many as a draft may use
 abbrev pub room_of : Sides → ℕ → Room

@@ -1,15 +1,11 @@
 // The forms of a join entered, each as a single answer is. The sources are read again meanwhile: their records and
 // paths stay as they are while another subgoal is answered.
-ghost use Rattle.std.specs.Prelude.{◌≡◌};
 ghost use Rattle.trie.specs.Index.{search_indexed};
-ghost use Rattle.join.specs.Entering.{Givable, GivesForm, under_head, Enters};
+ghost use Rattle.join.specs.Entering.{Givable, GivesForm, Enters};
 ghost use Rattle.join.specs.Joining.{Enterable};
 
 use answering::answer_at;
-use basis::limits::MOST_TOKENS;
-use pairing::counting::begin;
-use pairing::cursors::{HANDS, advance};
-use pairing::{Match, Sides};
+use pairing::{Match, Request, Sides, Walk};
 use space::heading::read_header;
 use space::records::subgoal_in;
 use space::{Head, Header};
@@ -23,39 +19,19 @@ fn give(space: &mut [u32], h: Head, s: usize, tokens: &[u32], index: &[u32], sto
     answer_at(space, h, s, g, tokens, index, stood);
 }
 
-// The same sources under another header.
-fn under(x: Sides, h: Head) -> Sides
-    ensures { result ≡ under_head x h }
-{
-    let first = x.first;
-    let second = x.second;
-    Sides {
-        h: h,
-        first: first,
-        second: second,
-    }
-}
-
 // All forms given to subgoal s.
-pub fn enter(space: &mut [u32], x: Sides, s: usize, pairs: &[u32], copies: &[u32], index: &[u32])
-    requires { Enterable space.old x s pairs.now copies.now }
-    ensures { Enters (search_indexed index.now x.h.nodes) space.old x s pairs.now copies.now space.new }
+pub fn enter(space: &mut [u32], x: Sides, s: usize, asked: &Request)
+    requires { Enterable space.old x s asked.now.pairs.now asked.now.copies.now }
+    ensures { Enters (search_indexed asked.now.index.now x.h.nodes) space.old x s
+        asked.now.pairs.now asked.now.copies.now space.new }
 {
-    let mut hands = [0u32; HANDS];
-    let mut form = [0u32; MOST_TOKENS];
-    let mut at = begin(x);
+    let mut walk = Walk::begin(x);
     let mut y = x;
-    loop {
-        let next = advance(space, y, at, &mut hands, pairs, copies, &mut form);
-        let Match::At(behind, n) = next else {
+    while let Match::At(_, n) = walk.advance(space, y, asked) {
+        give(space, y.h, s, &walk.form[..n], asked.index, x.h.nodes);
+        let Header::Sound(h) = read_header(space) else {
             return;
         };
-        give(space, y.h, s, &form[..n], index, x.h.nodes);
-        let header = read_header(space);
-        let Header::Sound(h) = header else {
-            return;
-        };
-        y = under(y, h);
-        at = behind;
+        y.h = h;
     }
 }

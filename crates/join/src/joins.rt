@@ -10,9 +10,9 @@ ghost use Rattle.store.specs.Calls.{Answers, AnswersIndexed};
 ghost use Rattle.store.specs.Clauses.{view_in, RootIn};
 ghost use Rattle.store.specs.Replies.{said_join};
 ghost use Rattle.pairing.specs.Counting.{ReadyToCount};
-ghost use Rattle.join.specs.Joining.{is_number, Numbered, PartiesIn, sides_of, whole_answers, ground_answers};
-ghost use Rattle.join.specs.Joining.{RulesOn, Rules, Grounded, JoinsUnder, JoinsNumbered, SomeNew, sums_fit};
-ghost use Rattle.join.specs.Joining.{room_for, TellsRoom, SomeNeeded, Enterable, EntersAll};
+ghost use Rattle.join.specs.Joining.{is_number, Numbered, PartiesIn, source_of, sides_of, whole_answers};
+ghost use Rattle.join.specs.Joining.{ground_answers, RulesOn, Rules, Grounded, JoinsUnder, JoinsNumbered, SomeNew};
+ghost use Rattle.join.specs.Joining.{sums_fit, room_for, TellsRoom, SomeNeeded, Enterable, EntersAll};
 ghost use Rattle.join.specs.Trial.{Roomed, TellsInPlace};
 
 use super::entering::enter;
@@ -24,46 +24,44 @@ use basis::refusals::{
 };
 use basis::wide;
 use pairing::counting::{count, needs};
-use pairing::{Counted, Sides, Source, Sums};
+use pairing::{Counted, Request, Sides, Source, Sums};
 use sides::Judged;
 use sides::chains::judge;
 use sides::names::named;
 use space::heading::read_header;
 use space::records::{read_node, read_subgoal};
-use space::{Head, Header, NodeRead, SubgoalRead};
+use space::{Head, Header, NodeRead, Subgoal, SubgoalRead};
 use store::JoinAnswer;
+
+// A subgoal as the source of a join.
+fn source_of(number: usize, g: Subgoal) -> Source
+    ensures { result ≡ source_of number g }
+{
+    Source {
+        number,
+        root: g.root,
+        variables: g.variables,
+        first: g.first,
+    }
+}
 
 // The sources as the passes take them.
 fn sides_of(h: Head, y: Parties) -> Sides
     ensures { result ≡ sides_of h y }
 {
-    let first = Source {
-        number: y.first,
-        root: y.f.root,
-        variables: y.f.variables,
-        first: y.f.first,
-    };
-    let second = Source {
-        number: y.second,
-        root: y.g.root,
-        variables: y.g.variables,
-        first: y.g.first,
-    };
     Sides {
-        h: h,
-        first: first,
-        second: second,
+        h,
+        first: source_of(y.first, y.f),
+        second: source_of(y.second, y.g),
     }
 }
 
 // Is this the number of a subgoal?
+#[tactic(auto, unfolding(crate::specs::Joining::is_number))]
 fn is_number(subgoals: usize, s: usize) -> bool
     ensures { result ≡ is_number subgoals s }
 {
-    if s == 0 {
-        return false;
-    }
-    s <= subgoals
+    s != 0 && s <= subgoals
 }
 
 // Is the answer root of the target a sound root?
@@ -78,79 +76,66 @@ fn is_root(space: &[u32], h: Head, root: usize) -> bool
 }
 
 // Is nothing damaged among the answers of a source?
+#[tactic(auto, unfolding(crate::specs::Joining::whole_answers))]
 fn is_whole(j: Judged) -> bool
     ensures { result ≡ whole_answers j }
 {
-    match j {
-        Judged::Damaged => return false,
-        Judged::Ground => return true,
-        Judged::Variable => return true,
-    }
+    !matches!(j, Judged::Damaged)
 }
 
 // Do they hold no variable?
+#[tactic(auto, unfolding(crate::specs::Joining::ground_answers))]
 fn is_ground(j: Judged) -> bool
     ensures { result ≡ ground_answers j }
 {
-    match j {
-        Judged::Damaged => return false,
-        Judged::Ground => return true,
-        Judged::Variable => return false,
-    }
+    matches!(j, Judged::Ground)
 }
 
 // The refusal by the states, the sources' answers and the names; 0 for none.
-fn ruling(y: Parties, f: Judged, g: Judged, pairs: &[u32], copies: &[u32]) -> u32
+fn ruling(y: Parties, f: Judged, g: Judged, asked: &Request) -> u32
     requires { y.t.variables ≤ 32 }
-    ensures { RulesOn y f g pairs.now copies.now result }
+    ensures { RulesOn y f g asked.now.pairs.now asked.now.copies.now result }
 {
     if y.t.state != 0 {
         return STATE;
     }
-    if y.f.state == 0 {
+    if y.f.state == 0 || y.g.state == 0 {
         return SOURCE_OPEN;
     }
-    if y.g.state == 0 {
-        return SOURCE_OPEN;
-    }
-    if is_ground(f) {
-        if is_ground(g) {
-            if named(pairs, copies, y.f.variables, y.g.variables, y.t.variables) {
-                return 0;
-            }
-            return NAMES;
+    if is_ground(f) && is_ground(g) {
+        if named(
+            asked.pairs,
+            asked.copies,
+            y.f.variables,
+            y.g.variables,
+            y.t.variables,
+        ) {
+            return 0;
         }
+        return NAMES;
     }
     SOURCE_VARIABLE
 }
 
 // The same, after what is damaged.
-fn rule(y: Parties, f: Judged, g: Judged, pairs: &[u32], copies: &[u32]) -> u32
+fn rule(y: Parties, f: Judged, g: Judged, asked: &Request) -> u32
     requires { y.t.variables ≤ 32 }
-    ensures { Rules y f g pairs.now copies.now result }
+    ensures { Rules y f g asked.now.pairs.now asked.now.copies.now result }
 {
-    if is_whole(f) {
-        if is_whole(g) {
-            return ruling(y, f, g, pairs, copies);
-        }
+    if is_whole(f) && is_whole(g) {
+        return ruling(y, f, g, asked);
     }
     RECORDS
 }
 
 // All forms are entered; how many are new is what the answers used rise by.
-fn join_entered(
-    space: &mut [u32],
-    x: Sides,
-    s: usize,
-    pairs: &[u32],
-    copies: &[u32],
-    index: &[u32],
-) -> JoinAnswer
-    requires { Enterable space.old x s pairs.now copies.now }
-    ensures { EntersAll (search_indexed index.now x.h.nodes) space.old x s pairs.now copies.now result
+fn join_entered(space: &mut [u32], x: Sides, s: usize, asked: &Request) -> JoinAnswer
+    requires { Enterable space.old x s asked.now.pairs.now asked.now.copies.now }
+    ensures { EntersAll (search_indexed asked.now.index.now x.h.nodes) space.old x s
+        asked.now.pairs.now asked.now.copies.now result
         space.new }
 {
-    enter(space, x, s, pairs, copies, index);
+    enter(space, x, s, asked);
     let header = read_header(space);
     let Header::Sound(h) = header else {
         return JoinAnswer::Joined(0);
@@ -160,6 +145,7 @@ fn join_entered(
 }
 
 // Is there room by the sums alone?
+#[tactic(auto, unfolding(crate::specs::Joining::sums_fit))]
 fn sums_fit(h: Head, y: Sums) -> bool
     requires nodes_bound { (h.nodes ≤ h.node_capacity) × (h.answers ≤ h.answer_capacity) }
     requires node_capacity_bound { (h.node_capacity < 2 ^ 32) × (h.answer_capacity < 2 ^ 32) }
@@ -167,21 +153,19 @@ fn sums_fit(h: Head, y: Sums) -> bool
 {
     let nodes = (h.node_capacity - h.nodes) as u64;
     let answers = (h.answer_capacity - h.answers) as u64;
-    if y.missing <= nodes {
-        return y.lacking <= answers;
-    }
-    false
+    y.missing <= nodes && y.lacking <= answers
 }
 
 // The refusal for want of room, by the exact needs; 0 for none.
-fn full(space: &[u32], x: Sides, root: usize, pairs: &[u32], copies: &[u32], index: &[u32]) -> u32
-    requires ready_to_count { ReadyToCount space.now x pairs.now copies.now }
+fn full(space: &[u32], x: Sides, root: usize, asked: &Request) -> u32
+    requires ready_to_count { ReadyToCount space.now x asked.now.pairs.now asked.now.copies.now }
     requires root_lt_nodes { root < x.h.nodes }
-    ensures { TellsRoom (search_indexed index.now x.h.nodes) space.now x root pairs.now copies.now result }
+    ensures { TellsRoom (search_indexed asked.now.index.now x.h.nodes) space.now x root
+        asked.now.pairs.now asked.now.copies.now result }
 {
     let nodes = (x.h.node_capacity - x.h.nodes) as u64;
     let answers = (x.h.answer_capacity - x.h.answers) as u64;
-    let y = needs(space, x, root, pairs, copies, index, nodes);
+    let y = needs(space, x, root, asked, nodes);
     if nodes < y.nodes {
         return NODES;
     }
@@ -201,64 +185,41 @@ fn full_for_one(h: Head) -> u32
     RECORDS_LEFT
 }
 
-// The fewer of two numbers.
-fn least(a: usize, b: u64) -> usize
-    ensures { result ≤ a }
-{
-    if b < a as u64 {
-        return b as usize;
-    }
-    a
-}
-
 // The refusal for want of room where some form is new. Without variables all forms are the empty one and not counted;
 // others are counted on trial where that settles it. A draft takes no more nodes than the tokens that were not found.
-fn room(
-    space: &mut [u32],
-    x: Sides,
-    root: usize,
-    pairs: &[u32],
-    copies: &[u32],
-    index: &[u32],
-    missing: u64,
-) -> u32
-    requires roomed { Roomed space.old x root pairs.now copies.now }
-    requires some_needed { SomeNeeded (search_indexed index.now x.h.nodes) space.old x root pairs.now copies.now }
-    ensures { TellsInPlace (search_indexed index.now x.h.nodes) space.old x root pairs.now copies.now
-        space.new result }
+fn room(space: &mut [u32], x: Sides, root: usize, asked: &Request, missing: u64) -> u32
+    requires roomed { Roomed space.old x root asked.now.pairs.now asked.now.copies.now }
+    requires some_needed { SomeNeeded (search_indexed asked.now.index.now x.h.nodes) space.old x root
+        asked.now.pairs.now asked.now.copies.now }
+    ensures { TellsInPlace (search_indexed asked.now.index.now x.h.nodes) space.old x root
+        asked.now.pairs.now asked.now.copies.now space.new result }
 {
-    if copies.len() == 0 {
+    if asked.copies.is_empty() {
         return full_for_one(x.h);
     }
-    let free = least(x.h.node_capacity - x.h.nodes, missing);
-    let r = on_trial(space, x, root, pairs, copies, index, free);
+    let free = ((x.h.node_capacity - x.h.nodes) as u64).min(missing) as usize;
+    let r = on_trial(space, x, root, asked, free);
     if r == UNSETTLED {
-        return full(space, x, root, pairs, copies, index);
+        return full(space, x, root, asked);
     }
     r
 }
 
 // Forms that fit, of which some are new: 9 by the last answer, 10, 11, or all are entered.
-fn join_new(
-    space: &mut [u32],
-    h: Head,
-    y: Parties,
-    sums: Sums,
-    pairs: &[u32],
-    copies: &[u32],
-    index: &[u32],
-) -> JoinAnswer
-    requires { SomeNew (search_indexed index.now h.nodes) space.old h y pairs.now copies.now sums }
-    ensures { JoinsUnder (search_indexed index.now h.nodes) space.old h y pairs.now copies.now result space.new }
+fn join_new(space: &mut [u32], h: Head, y: Parties, sums: Sums, asked: &Request) -> JoinAnswer
+    requires { SomeNew (search_indexed asked.now.index.now h.nodes) space.old h y
+        asked.now.pairs.now asked.now.copies.now sums }
+    ensures { JoinsUnder (search_indexed asked.now.index.now h.nodes) space.old h y
+        asked.now.pairs.now asked.now.copies.now result space.new }
 {
     if last_sound(space, h, y.target, y.t.last) {
         let x = sides_of(h, y);
         if sums_fit(h, sums) {
-            return join_entered(space, x, y.target, pairs, copies, index);
+            return join_entered(space, x, y.target, asked);
         }
-        let r = room(space, x, y.t.root, pairs, copies, index, sums.missing);
+        let r = room(space, x, y.t.root, asked, sums.missing);
         if r == 0 {
-            return join_entered(space, x, y.target, pairs, copies, index);
+            return join_entered(space, x, y.target, asked);
         }
         return JoinAnswer::Refused(r);
     }
@@ -266,18 +227,12 @@ fn join_new(
 }
 
 // Sources that the rule lets through: 4, 9 by the searches, nothing new, or some.
-fn join_ground(
-    space: &mut [u32],
-    h: Head,
-    y: Parties,
-    pairs: &[u32],
-    copies: &[u32],
-    index: &[u32],
-) -> JoinAnswer
-    requires { Grounded space.old h y pairs.now copies.now }
-    ensures { JoinsUnder (search_indexed index.now h.nodes) space.old h y pairs.now copies.now result space.new }
+fn join_ground(space: &mut [u32], h: Head, y: Parties, asked: &Request) -> JoinAnswer
+    requires { Grounded space.old h y asked.now.pairs.now asked.now.copies.now }
+    ensures { JoinsUnder (search_indexed asked.now.index.now h.nodes) space.old h y
+        asked.now.pairs.now asked.now.copies.now result space.new }
 {
-    let counted = count(space, sides_of(h, y), y.t.root, pairs, copies, index);
+    let counted = count(space, sides_of(h, y), y.t.root, asked);
     let Counted::Sums(sums) = counted else {
         return JoinAnswer::Refused(LENGTH);
     };
@@ -285,43 +240,31 @@ fn join_ground(
         if sums.lacking == 0 {
             return JoinAnswer::Joined(0);
         }
-        return join_new(space, h, y, sums, pairs, copies, index);
+        return join_new(space, h, y, sums, asked);
     }
     JoinAnswer::Refused(RECORDS)
 }
 
 // The three subgoals are read: the sources' answers, then the rule.
-fn join_parties(
-    space: &mut [u32],
-    h: Head,
-    y: Parties,
-    pairs: &[u32],
-    copies: &[u32],
-    index: &[u32],
-) -> JoinAnswer
+fn join_parties(space: &mut [u32], h: Head, y: Parties, asked: &Request) -> JoinAnswer
     requires { PartiesIn space.old h y }
-    ensures { JoinsUnder (search_indexed index.now h.nodes) space.old h y pairs.now copies.now result space.new }
+    ensures { JoinsUnder (search_indexed asked.now.index.now h.nodes) space.old h y
+        asked.now.pairs.now asked.now.copies.now result space.new }
 {
     let f = judge(space, h, y.first, y.f);
     let g = judge(space, h, y.second, y.g);
-    let r = rule(y, f, g, pairs, copies);
+    let r = rule(y, f, g, asked);
     if r == 0 {
-        return join_ground(space, h, y, pairs, copies, index);
+        return join_ground(space, h, y, asked);
     }
     JoinAnswer::Refused(r)
 }
 
 // Subgoals that there are: their records and the target's answer root.
-fn join_known(
-    space: &mut [u32],
-    h: Head,
-    a: Numbers,
-    pairs: &[u32],
-    copies: &[u32],
-    index: &[u32],
-) -> JoinAnswer
+fn join_known(space: &mut [u32], h: Head, a: Numbers, asked: &Request) -> JoinAnswer
     requires { Numbered space.old h a }
-    ensures { JoinsNumbered (search_indexed index.now h.nodes) space.old h a pairs.now copies.now result
+    ensures { JoinsNumbered (search_indexed asked.now.index.now h.nodes) space.old h a
+        asked.now.pairs.now asked.now.copies.now result
         space.new }
 {
     let SubgoalRead::Sound(f) = read_subgoal(space, h, a.first) else {
@@ -336,36 +279,29 @@ fn join_known(
     if is_root(space, h, t.root) {
         let y = Parties {
             first: a.first,
-            f: f,
+            f,
             second: a.second,
-            g: g,
+            g,
             target: a.target,
-            t: t,
+            t,
         };
-        return join_parties(space, h, y, pairs, copies, index);
+        return join_parties(space, h, y, asked);
     }
     JoinAnswer::Refused(RECORDS)
 }
 
 // In a space whose header is sound: the numbers.
-fn join_in(
-    space: &mut [u32],
-    h: Head,
-    a: Numbers,
-    pairs: &[u32],
-    copies: &[u32],
-    index: &[u32],
-) -> JoinAnswer
+fn join_in(space: &mut [u32], h: Head, a: Numbers, asked: &Request) -> JoinAnswer
     requires { header.Sound h ≡ space_header space.old }
-    ensures { JoinsNumbered (search_indexed index.now h.nodes) space.old h a pairs.now copies.now result
+    ensures { JoinsNumbered (search_indexed asked.now.index.now h.nodes) space.old h a
+        asked.now.pairs.now asked.now.copies.now result
         space.new }
 {
-    if is_number(h.subgoals, a.first) {
-        if is_number(h.subgoals, a.second) {
-            if is_number(h.subgoals, a.target) {
-                return join_known(space, h, a, pairs, copies, index);
-            }
-        }
+    if is_number(h.subgoals, a.first)
+        && is_number(h.subgoals, a.second)
+        && is_number(h.subgoals, a.target)
+    {
+        return join_known(space, h, a, asked);
     }
     JoinAnswer::Refused(NUMBER)
 }
@@ -383,16 +319,20 @@ pub fn join_indexed(
     ensures { AnswersIndexed index.now space.old (join first second pairs.now target copies.now)
         (said_join result) [] space.new }
 {
-    let header = read_header(space);
-    match header {
-        Header::Refused(r) => return JoinAnswer::Refused(r),
+    match read_header(space) {
+        Header::Refused(r) => JoinAnswer::Refused(r),
         Header::Sound(h) => {
             let a = Numbers {
                 first: wide(first),
                 second: wide(second),
                 target: wide(target),
             };
-            return join_in(space, h, a, pairs, copies, index);
+            let asked = Request {
+                pairs,
+                copies,
+                index,
+            };
+            join_in(space, h, a, &asked)
         }
     }
 }

@@ -3,18 +3,15 @@
 // Where the draft cannot tell, the forms are compared with one another, as crate pairing does.
 ghost use Rattle.std.specs.Prelude.{◌≡◌, ◌≤◌};
 ghost use Rattle.trie.specs.Index.{search_indexed};
-ghost use Rattle.join.specs.Trial.{Formable, TriesForm, Tryable, TriesForms, TriesAll, one_unheld};
+ghost use Rattle.join.specs.Trial.{Formable, TriesForm, Tryable, TriesForms, TriesAll, room_of};
 ghost use Rattle.join.specs.Trial.{HeadCounts, Settles, Triable, Settled};
 
 use super::{Tally, Tried, TriedForm};
-use basis::limits::MOST_TOKENS;
 use basis::refusals::{NODES, RECORDS_LEFT};
 use drafts::drafting::draft;
 use drafts::wiping::{is_blank, wipe};
 use drafts::{Drafted, Room};
-use pairing::counting::begin;
-use pairing::cursors::{HANDS, advance};
-use pairing::{Match, Sides};
+use pairing::{Match, Request, Sides, Walk};
 use space::Head;
 use space::records::node_in;
 use trie::Walked;
@@ -23,14 +20,14 @@ use trie::walks::walk_tokens;
 // No refusal: the count on trial does not settle whether there is room.
 pub const UNSETTLED: u32 = 255;
 
-// 1 for a form that is not held.
-fn one_unheld(held: bool) -> u64
-    ensures { (result ≡ one_unheld held) × (result ≤ 1) }
+// The free nodes that a draft may use.
+fn room_of(x: Sides, free: usize) -> Room
+    ensures { result ≡ room_of x free }
 {
-    if held {
-        return 0;
+    Room {
+        base: x.h.nodes,
+        most: free,
     }
-    1
 }
 
 // One form on trial, in free nodes of which `free` may be used.
@@ -46,7 +43,7 @@ fn try_form(
     requires { Formable space.old x free root tokens.now y }
     ensures { TriesForm (search_indexed index.now x.h.nodes) x free root space.old y tokens.now space.new result }
 {
-    let walked = walk_tokens(
+    match walk_tokens(
         space,
         x.h.nodes,
         x.h.answers,
@@ -54,72 +51,59 @@ fn try_form(
         tokens,
         index,
         x.h.nodes,
-    );
-    match walked {
+    ) {
         Walked::Whole(leaf) => {
-            let z = node_in(space, x.h.nodes, leaf);
-            if z.link == 0 {
-                return TriedForm::Unknown;
+            if node_in(space, x.h.nodes, leaf).link == 0 {
+                TriedForm::Unknown
+            } else {
+                TriedForm::Counted(y)
             }
-            return TriedForm::Counted(y);
         }
         Walked::Stopped(parent, _, left) => {
-            let room = Room {
-                base: x.h.nodes,
-                most: free,
-            };
-            let drafted = draft(space, room, y.used, parent, &tokens[tokens.len() - left..]);
-            match drafted {
-                Drafted::Word(used, held) => {
-                    let answers = y.answers + one_unheld(held);
-                    let more = Tally {
-                        used: used,
-                        answers: answers,
-                    };
-                    return TriedForm::Counted(more);
-                }
-                Drafted::Full => return TriedForm::Over,
+            match draft(
+                space,
+                room_of(x, free),
+                y.used,
+                parent,
+                &tokens[tokens.len() - left..],
+            ) {
+                Drafted::Word(used, held) => TriedForm::Counted(Tally {
+                    used,
+                    answers: y.answers + u64::from(!held),
+                }),
+                Drafted::Full => TriedForm::Over,
             }
         }
-        Walked::Damaged => return TriedForm::Unknown,
+        Walked::Damaged => TriedForm::Unknown,
     }
 }
 
 // All forms on trial.
-fn try_forms(
-    space: &mut [u32],
-    x: Sides,
-    free: usize,
-    root: usize,
-    pairs: &[u32],
-    copies: &[u32],
-    index: &[u32],
-) -> Tried
-    requires { Tryable space.old x free root pairs.now copies.now }
-    ensures { TriesForms (search_indexed index.now x.h.nodes) space.old x free root pairs.now copies.now
-        space.new result }
+fn try_forms(space: &mut [u32], x: Sides, free: usize, root: usize, asked: &Request) -> Tried
+    requires { Tryable space.old x free root asked.now.pairs.now asked.now.copies.now }
+    ensures { TriesForms (search_indexed asked.now.index.now x.h.nodes) space.old x free root
+        asked.now.pairs.now asked.now.copies.now space.new result }
 {
-    let mut hands = [0u32; HANDS];
-    let mut form = [0u32; MOST_TOKENS];
-    let mut at = begin(x);
+    let mut walk = Walk::begin(x);
     let mut y = Tally {
         used: x.h.nodes,
         answers: 0,
     };
     loop {
-        let next = advance(space, x, at, &mut hands, pairs, copies, &mut form);
-        match next {
-            Match::At(behind, n) => {
-                let one = try_form(space, x, free, root, &form[..n], index, y);
-                match one {
-                    TriedForm::Counted(more) => {
-                        y = more;
-                        at = behind;
-                    }
-                    TriedForm::Over => return Tried::Over,
-                    TriedForm::Unknown => return Tried::Unknown,
-                }
-            }
+        match walk.advance(space, x, asked) {
+            Match::At(_, n) => match try_form(
+                space,
+                x,
+                free,
+                root,
+                &walk.form[..n],
+                asked.index,
+                y,
+            ) {
+                TriedForm::Counted(more) => y = more,
+                TriedForm::Over => return Tried::Over,
+                TriedForm::Unknown => return Tried::Unknown,
+            },
             Match::TooLong => return Tried::Unknown,
             Match::End => return Tried::All(y),
         }
@@ -127,25 +111,13 @@ fn try_forms(
 }
 
 // The same, and the space is as it was.
-fn try_all(
-    space: &mut [u32],
-    x: Sides,
-    free: usize,
-    root: usize,
-    pairs: &[u32],
-    copies: &[u32],
-    index: &[u32],
-) -> Tried
-    requires { Tryable space.old x free root pairs.now copies.now }
-    ensures { TriesAll (search_indexed index.now x.h.nodes) space.old x free root pairs.now copies.now
-        space.new result }
+fn try_all(space: &mut [u32], x: Sides, free: usize, root: usize, asked: &Request) -> Tried
+    requires { Tryable space.old x free root asked.now.pairs.now asked.now.copies.now }
+    ensures { TriesAll (search_indexed asked.now.index.now x.h.nodes) space.old x free root
+        asked.now.pairs.now asked.now.copies.now space.new result }
 {
-    let r = try_forms(space, x, free, root, pairs, copies, index);
-    let room = Room {
-        base: x.h.nodes,
-        most: free,
-    };
-    wipe(space, room);
+    let r = try_forms(space, x, free, root, asked);
+    wipe(space, room_of(x, free));
     r
 }
 
@@ -163,38 +135,26 @@ fn settle(h: Head, free: usize, r: Tried) -> u32
             if answers < y.answers {
                 return RECORDS_LEFT;
             }
-            return 0;
+            0
         }
         Tried::Over => {
             if free == h.node_capacity - h.nodes {
                 return NODES;
             }
-            return UNSETTLED;
+            UNSETTLED
         }
-        Tried::Unknown => return UNSETTLED,
+        Tried::Unknown => UNSETTLED,
     }
 }
 
 // The same of the forms of a join, where the free nodes are zeros.
-pub fn on_trial(
-    space: &mut [u32],
-    x: Sides,
-    root: usize,
-    pairs: &[u32],
-    copies: &[u32],
-    index: &[u32],
-    free: usize,
-) -> u32
-    requires { Triable space.old x free root pairs.now copies.now }
-    ensures { Settled (search_indexed index.now x.h.nodes) space.old x root pairs.now copies.now
-        space.new result }
+pub fn on_trial(space: &mut [u32], x: Sides, root: usize, asked: &Request, free: usize) -> u32
+    requires { Triable space.old x free root asked.now.pairs.now asked.now.copies.now }
+    ensures { Settled (search_indexed asked.now.index.now x.h.nodes) space.old x root
+        asked.now.pairs.now asked.now.copies.now space.new result }
 {
-    let room = Room {
-        base: x.h.nodes,
-        most: free,
-    };
-    if is_blank(space, room) {
-        let r = try_all(space, x, free, root, pairs, copies, index);
+    if is_blank(space, room_of(x, free)) {
+        let r = try_all(space, x, free, root, asked);
         return settle(x.h, free, r);
     }
     UNSETTLED

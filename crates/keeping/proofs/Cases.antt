@@ -3,15 +3,14 @@ use Prim.Native.Nat.{ℕ, suc, ◌+◌, ◌-◌, ◌*◌, ◌/◌, ◌%◌, ◌^
 use mathlib.Core.Path.{◌≡◌, refl, sym, ap, ◌∙◌}
 use mathlib.Core.Bool.{true, false}
 use mathlib.Core.List.{List}
-use native.Mathlib.Nat.{mul-le-mul_left, min-eq_left, min-eq_right, zero-min, min-le_left, min-le_right}
+use native.Mathlib.Nat.{mul-le-mul_left, min-le_left, min-le_right}
 use native.Mathlib.Omega.{arith}
-use lib.Dec.{eqb, ltb, leb}
+use lib.Dec.{ltb, leb}
 use lib.ListN.{length, get_or, set}
-use borrow.Author.Tests.{eq-eqb, ne_eqb, lt-ltb, le-ltb, le-leb, lt-leb, leb-true}
-use Rattle.basis.specs.Choice.{pick}
+use borrow.Author.Tests.{lt-ltb, le-ltb, leb-true}
 use Rattle.basis.proofs.Cases.{by_cases}
 use Rattle.space.specs.declared.Node.{Node}
-use Rattle.trie.specs.Index.{slot_after, insert_from}
+use Rattle.trie.specs.Index.{insert_from}
 use Rattle.trie.specs.Ledger.{Ledger, mixed_slot, ledger_capacity, enter_node, enter_nodes, caught_up}
 use Rattle.trie.proofs.LedgerLaws.{mixed-inside, nodes-long}
 use Rattle.keeping.specs.Clauses.{ledger_in, nodes_held, nodes_in, LeavesLedger, EntersNode, CatchesUp}
@@ -25,93 +24,6 @@ pub mixed-is : (size parent token wide : ℕ) → 0 < size → wide ≡ token
     → (((parent * 1780508695 + wide * 97174869) % 4294967296) * size / 4294967296 ≡ mixed_slot size parent token) × (((parent * 1780508695 + wide * 97174869) % 4294967296) * size / 4294967296 < size)
 unfolding mixed_slot
 mixed-is size parent token wide h e = rw e (refl, mixed-inside size parent token h)
-
-pub behind-round : (size slot : ℕ) → slot < size → slot + 1 ≡ size → (0 ≡ slot_after size slot) × (0 < size)
-unfolding slot_after
-behind-round size slot h e = let z : suc slot ≡ size = omega arith in (rw (eq-eqb (suc slot) size z), omega arith)
-
-pub behind-next : (size slot : ℕ) → slot < size → (slot + 1 ≡ size → ⊥) → (slot + 1 ≡ slot_after size slot) × (slot + 1 < size)
-unfolding slot_after
-behind-next size slot h e =
-    let z : suc slot ≡ size → ⊥ = λ q. e (let w : slot + 1 ≡ suc slot = omega arith in w ∙ q) in
-    let w : slot + 1 ≡ suc slot = omega arith in
-    (rw (ne_eqb (suc slot) size z) w, less size slot h e)
-  where
-    less : (size slot : ℕ) → slot < size → (slot + 1 ≡ size → ⊥) → slot + 1 < size
-    less size slot h e = omega arith
-
--- ---- how many nodes
-
-module _ (lasts slots : ℕ) where
-  pub held_none : lasts ≡ 0 → 0 ≡ nodes_held lasts slots
-  unfolding nodes_held
-  held_none z = rw z (none (leb slots (2 ^ 32)) (slots / 2))
-    where
-      none : (b : _) (x : ℕ) → 0 ≡ pick b (min 0 x) 0
-      none true x = sym (zero-min x)
-      none false x = refl
-
-  pub held-over : 4294967296 < slots → 0 ≡ nodes_held lasts slots
-  unfolding nodes_held
-  held-over h = rw (lt-leb slots (2 ^ 32) h)
-
-  module _ (h : slots ≤ 4294967296) where
-    pub held-lasts : lasts - 1 ≤ slots / 2 → lasts - 1 ≡ nodes_held lasts slots
-    unfolding nodes_held
-    held-lasts l = rw (le-leb slots (2 ^ 32) h, min-eq_left l)
-
-    pub held-slots : slots / 2 < lasts - 1 → slots / 2 ≡ nodes_held lasts slots
-    unfolding nodes_held
-    held-slots l = rw (le-leb slots (2 ^ 32) h) (sym (min-eq_right (less l)))
-      where
-        less : slots / 2 < lasts - 1 → slots / 2 ≤ lasts - 1
-        less l = omega arith
-
--- ---- one entry
-
--- nothing is written yet; so many slots are left to look at, and the next is `slot`
-pub record Probing (before : List ℕ) (first x : ℕ) (index : List ℕ) (slot left : ℕ) : Type 0 where
-  pub same : index ≡ before
-  pub long : length index ≡ length before
-  pub inside : slot < length before
-  pub rest : insert_from (length before) before first x ≡ insert_from left before slot x
-
-module _ (before : List ℕ) (first x : ℕ) where
-  step_is : (k slot : ℕ) → insert_from (suc k) before slot x ≡ pick (eqb (get_or before slot 0) 0) (set before slot x) (insert_from k before (slot_after (length before) slot) x)
-  unfolding insert_from
-  step_is k slot = refl
-
-  end_is : (slot : ℕ) → insert_from 0 before slot x ≡ before
-  unfolding insert_from
-  end_is slot = refl
-
-  pub probing-begin : first < length before → Probing before first x before first (length before)
-  probing-begin l = record { same = refl; long = refl; inside = l; rest = refl }
-
-  module _ {index : List ℕ} {slot left : ℕ} (p : Probing before first x index slot left) where
-    pub probing-ended : left ≤ 0 → index ≡ insert_from (length before) before first x
-    probing-ended l =
-        let z : left ≡ 0 = omega arith in
-        p.same ∙ sym (p.rest ∙ ap (λ (k : ℕ). insert_from k before slot x) z ∙ end_is slot)
-
-    module _ (l : 0 < left) where
-      one-step : left ≡ suc (left - 1)
-      one-step = omega arith
-
-      here : insert_from (length before) before first x ≡ pick (eqb (get_or index slot 0) 0) (set index slot x) (insert_from (left - 1) before (slot_after (length before) slot) x)
-      here = p.rest ∙ ap (λ (k : ℕ). insert_from k before slot x) one-step ∙ step_is (left - 1) slot ∙ rw p.same
-
-      pub probing-free : get_or index slot 0 ≡ 0 → set index slot x ≡ insert_from (length before) before first x
-      probing-free z = sym (here ∙ rw (eq-eqb (get_or index slot 0) 0 z))
-
-      pub probing-on : (get_or index slot 0 ≡ 0 → ⊥) → (size next : ℕ) → size ≡ length before → (next ≡ slot_after size slot) × (next < size)
-          → Probing before first x index next (left - 1)
-      probing-on z size next s e = record {
-        same = p.same;
-        long = p.long;
-        inside = omega (arith, e.1);
-        rest = here ∙ rw (ne_eqb (get_or index slot 0) 0 z, ← s, ← e.0);
-      }
 
 -- ---- a node
 
@@ -134,9 +46,9 @@ module _ (space lasts slots : List ℕ) (n : ℕ) (y : Node) (e : y ≡ nodes_in
 
 -- ---- all nodes
 
-pub capacity-held : (lasts slots : List ℕ) → ledger_capacity (ledger_in lasts slots) ≡ nodes_held (length lasts) (length slots)
+pub capacity_held : (lasts slots : List ℕ) → ledger_capacity (ledger_in lasts slots) ≡ nodes_held (length lasts) (length slots)
 unfolding ledger_capacity nodes_held
-capacity-held lasts slots = refl
+capacity_held lasts slots = refl
 
 -- where there are cells for any
 pub record Cells (room lasts slots : ℕ) : Type 0 where
@@ -171,7 +83,7 @@ module _ (space : List ℕ) (nodes room : ℕ) (lasts₀ slots₀ : List ℕ) (e
 
   caught-is : caught_up (nodes_in space) nodes k ≡ enter_nodes (nodes_in space) k (get_or lasts₀ 0 0) (min nodes room - get_or lasts₀ 0 0)
   unfolding caught_up
-  caught-is = ap (λ (i : ℕ). enter_nodes (nodes_in space) k (get_or lasts₀ 0 0) (min nodes i - get_or lasts₀ 0 0)) (capacity-held lasts₀ slots₀ ∙ sym e)
+  caught-is = ap (λ (i : ℕ). enter_nodes (nodes_in space) k (get_or lasts₀ 0 0) (min nodes i - get_or lasts₀ 0 0)) (capacity_held lasts₀ slots₀ ∙ sym e)
 
   pub catch-none : room ≡ 0 → CatchesUp space nodes lasts₀ slots₀ lasts₀ slots₀
   unfolding enter_nodes
@@ -207,10 +119,3 @@ module _ (space : List ℕ) (nodes room : ℕ) (lasts₀ slots₀ : List ℕ) (e
         let b : n - s ≤ min nodes room - s = c.up_to in
         let o : n - s ≡ min nodes room - s = omega arith in
         rw (caught-is, ← o) c.left
-
-    -- no nodes left, or no cells
-    pub catching-all : nodes ≤ n → CatchesUp space nodes lasts₀ slots₀ lasts slots
-    catching-all h = catching-ended (omega arith)
-
-    pub catching-full : room ≤ n → CatchesUp space nodes lasts₀ slots₀ lasts slots
-    catching-full h = catching-ended (omega arith)

@@ -8,7 +8,7 @@ use native.Mathlib.Omega.{arith}
 use lib.Dec.{eqb}
 use lib.ListN.{length, get_or, take, length-take}
 use lib.Seq.{take_all}
-use borrow.Author.Tests.{eq-eqb, ne_eqb, lt-ltb, le-ltb, le-leb, lt-leb}
+use borrow.Author.Tests.{eq-eqb, ne_eqb, lt-ltb}
 use Rattle.basis.specs.Choice.{pick}
 use Rattle.basis.proofs.Cases.{by_cases}
 use Rattle.space.specs.Layout.{sizes, node_in}
@@ -17,7 +17,7 @@ use Rattle.space.specs.declared.Node.{Node}
 use Rattle.space.specs.declared.NodeRead.TheVariants as node
 use Rattle.space.proofs.JudgingLaws.{read-node-sound, read-node-damaged}
 use Rattle.trie.specs.Siblings.{Trie, trie_in, at_sibling, search_children}
-use Rattle.trie.specs.Walks.{walk_from_by, walk_from}
+use Rattle.trie.specs.Walks.{walk_from_by, walk_from, walk_by, shown}
 use Rattle.trie.specs.Index.{slot_after, confirmed, confirmed_in, judged_in, probe}
 use Rattle.trie.specs.Ledger.{Ledger, mixed_slot, usable, is_last, absent, found_in, search_in}
 use Rattle.trie.specs.declared.Search.{Search}
@@ -25,16 +25,15 @@ use Rattle.trie.specs.declared.Search.TheVariants.{Last}
 use Rattle.trie.proofs.SearchCases.{Here}
 use Rattle.trie.proofs.IndexLaws.{probe_found, confirmed-is, from-alike}
 use Rattle.trie.proofs.LedgerLaws.{capacity-slots, capacity-lasts, capacity-most, usable-parts}
-use Rattle.keeping.specs.Clauses.{ledger_in, nodes_held, LooksUp, Usable, UsesSlots}
-use Rattle.keeping.proofs.Cases.{capacity-held}
+use Rattle.keeping.specs.Clauses.{ledger_in, LooksUp, Usable, UsesSlots}
 
 -- ---- the slots
 
--- nothing was met yet; so many slots are left to look at, and the next is `slot`
-pub record Looking (space : List ℕ) (nodes parent token : ℕ) (slots : List ℕ) (slot left : ℕ) : Type 0 where
+-- nothing was met yet; so many slots were looked at, and the next is `slot`
+pub record Looking (space : List ℕ) (nodes parent token : ℕ) (slots : List ℕ) (slot looked : ℕ) : Type 0 where
   pub inside : slot < length slots
   pub rest : (links : ℕ) → probe (length slots) (trie_in sizes space nodes links) slots parent token (mixed_slot (length slots) parent token)
-      ≡ probe left (trie_in sizes space nodes links) slots parent token slot
+      ≡ probe (length slots - looked) (trie_in sizes space nodes links) slots parent token slot
 
 module _ (space : List ℕ) (nodes parent token : ℕ) (slots : List ℕ) where
   step_is : (links k slot : ℕ) → probe (suc k) (trie_in sizes space nodes links) slots parent token slot
@@ -46,25 +45,27 @@ module _ (space : List ℕ) (nodes parent token : ℕ) (slots : List ℕ) where
   unfolding probe
   end_is links slot = refl
 
-  pub looking-begin : (size slot : ℕ) → size ≡ length slots → (slot ≡ mixed_slot size parent token) × (slot < size) → Looking space nodes parent token slots slot size
-  looking-begin size slot s e = record {
-    inside = omega (arith, e.1);
-    rest = λ links. rw (e.0, s);
+  pub looking-begin : (slot : ℕ) → (slot ≡ mixed_slot (length slots) parent token) × (slot < length slots) → Looking space nodes parent token slots slot 0
+  looking-begin slot e = record {
+    inside = e.1;
+    rest = λ links. rw e.0 (ap (λ (k : ℕ). probe k (trie_in sizes space nodes links) slots parent token (mixed_slot (length slots) parent token)) none_looked);
   }
+    where
+      none_looked : length slots ≡ length slots - 0
+      none_looked = omega arith
 
-  module _ {slot left : ℕ} (p : Looking space nodes parent token slots slot left) where
-    pub looking-ended : left ≤ 0 → LooksUp space nodes parent token slots 0
+  module _ {slot looked : ℕ} (p : Looking space nodes parent token slots slot looked) where
+    pub looking-ended : length slots ≤ looked → LooksUp space nodes parent token slots 0
     looking-ended l links =
-        let z : left ≡ 0 = omega arith in
+        let z : length slots - looked ≡ 0 = omega arith in
         sym (p.rest links ∙ ap (λ (k : ℕ). probe k (trie_in sizes space nodes links) slots parent token slot) z ∙ end_is links slot)
 
-    module _ (l : 0 < left) (x : ℕ) (e : x ≡ get_or slots slot 0) where
-      one-step : left ≡ suc (left - 1)
-      one-step = omega arith
-
+    module _ (l : looked < length slots) (x : ℕ) (e : x ≡ get_or slots slot 0) where
       here : (links : ℕ) → probe (length slots) (trie_in sizes space nodes links) slots parent token (mixed_slot (length slots) parent token)
-          ≡ pick (eqb x 0) 0 (pick (confirmed_in space nodes parent token x) x (probe (left - 1) (trie_in sizes space nodes links) slots parent token (slot_after (length slots) slot)))
-      here links = p.rest links ∙ ap (λ (k : ℕ). probe k (trie_in sizes space nodes links) slots parent token slot) one-step ∙ step_is links (left - 1) slot ∙ rw (← e)
+          ≡ pick (eqb x 0) 0 (pick (confirmed_in space nodes parent token x) x (probe (length slots - (looked + 1)) (trie_in sizes space nodes links) slots parent token (slot_after (length slots) slot)))
+      here links =
+          let one : length slots - looked ≡ suc (length slots - (looked + 1)) = omega arith in
+          p.rest links ∙ ap (λ (k : ℕ). probe k (trie_in sizes space nodes links) slots parent token slot) one ∙ step_is links (length slots - (looked + 1)) slot ∙ rw (← e)
 
       pub looking-free : x ≡ 0 → LooksUp space nodes parent token slots 0
       looking-free z links = sym (here links ∙ rw (eq-eqb x 0 z))
@@ -73,10 +74,10 @@ module _ (space : List ℕ) (nodes parent token : ℕ) (slots : List ℕ) where
         pub looking-met : b ≡ true → LooksUp space nodes parent token slots x
         looking-met t links = sym (here links ∙ rw (ne_eqb x 0 z, sym f ∙ t))
 
-        pub looking-on : b ≡ false → (size next : ℕ) → size ≡ length slots → (next ≡ slot_after size slot) × (next < size) → Looking space nodes parent token slots next (left - 1)
-        looking-on t size next s g = record {
-          inside = omega (arith, g.1);
-          rest = λ links. here links ∙ rw (ne_eqb x 0 z, sym f ∙ t, ← s, ← g.0);
+        pub looking-on : b ≡ false → (next : ℕ) → (next ≡ slot_after (length slots) slot) × (next < length slots) → Looking space nodes parent token slots next (looked + 1)
+        looking-on t next g = record {
+          inside = g.1;
+          rest = λ links. here links ∙ rw (ne_eqb x 0 z, sym f ∙ t, ← g.0);
         }
 
 -- ---- the last child
@@ -85,15 +86,7 @@ module _ (space : List ℕ) (nodes links parent l : ℕ) where
   abbrev t : Trie
   t = trie_in sizes space nodes links
 
-  pub last-low : l ≤ parent → false ≡ is_last (trie_in sizes space nodes links) parent l
-  unfolding is_last
-  last-low h = simp (le-ltb parent l h)
-
   module _ (h : parent < l) where
-    pub last-high : nodes ≤ l → false ≡ is_last (trie_in sizes space nodes links) parent l
-    unfolding is_last
-    last-high k = simp (lt-ltb parent l h, le-ltb l nodes k)
-
     module _ (k : l < nodes) where
       pub last-damaged : node.Damaged ≡ read_node nodes links (node_in sizes space) l → false ≡ is_last (trie_in sizes space nodes links) parent l
       unfolding is_last
@@ -180,20 +173,6 @@ module _ (t : Trie) (lasts slots : List ℕ) (parent token : ℕ) where
 
 -- ---- the slots that are looked in
 
-module _ (nodes : ℕ) (lasts slots : List ℕ) (room : ℕ) (e : room ≡ nodes_held (length lasts) (length slots)) where
-  pub used-short : room < nodes → UsesSlots nodes lasts slots 0
-  unfolding usable
-  used-short h = (sym (rw (capacity-held lasts slots ∙ sym e, lt-leb nodes room h)), omega arith)
-
-  module _ (h : nodes ≤ room) (entered : ℕ) (f : entered ≡ get_or lasts 0 0) where
-    pub used_all : entered ≡ nodes → UsesSlots nodes lasts slots (length slots)
-    unfolding usable
-    used_all z = (sym (rw (capacity-held lasts slots ∙ sym e, le-leb nodes room h, ← f, eq-eqb entered nodes z)), omega arith)
-
-    pub used-none : (entered ≡ nodes → ⊥) → UsesSlots nodes lasts slots 0
-    unfolding usable
-    used-none z = (sym (rw (capacity-held lasts slots ∙ sym e, le-leb nodes room h, ← f, ne_eqb entered nodes z)), omega arith)
-
 -- without every node, the chains alone are gone along
 unusable : (k : Ledger) (t : Trie) (parent token : ℕ) → usable t.nodes k ≡ false → search_in k t parent token ≡ search_children t parent token
 unfolding search_in search_children
@@ -223,8 +202,8 @@ module _ (nodes : ℕ) (lasts slots : List ℕ) (k : ℕ) (used : UsesSlots node
       go (inl a) z = rw a.1 a.0
       go (inr a) z = absurd (z (ap length a.1))
 
-  pub used-walks : (t : Trie) → t.nodes ≡ nodes → 0 < nodes → (n : ℕ) (xs : List ℕ) → walk_from_by (search_in (ledger_in lasts (take k slots))) t n xs ≡ walk_from_by (search_in (ledger_in lasts slots)) t n xs
-  used-walks t same some n xs = go used-either
+  used-descends : (t : Trie) → t.nodes ≡ nodes → 0 < nodes → (n : ℕ) (xs : List ℕ) → walk_from_by (search_in (ledger_in lasts (take k slots))) t n xs ≡ walk_from_by (search_in (ledger_in lasts slots)) t n xs
+  used-descends t same some n xs = go used-either
     where
       go : Either → walk_from_by (search_in (ledger_in lasts (take k slots))) t n xs ≡ walk_from_by (search_in (ledger_in lasts slots)) t n xs
       go (inl a) = ap (λ (i : List ℕ). walk_from_by (search_in (ledger_in lasts i)) t n xs) a.1
@@ -232,6 +211,11 @@ module _ (nodes : ℕ) (lasts slots : List ℕ) (k : ℕ) (used : UsesSlots node
           ap (λ (i : List ℕ). walk_from_by (search_in (ledger_in lasts i)) t n xs) a.1
           ∙ walk-chains (ledger_in lasts []) t n xs (rw same (none-usable nodes lasts some))
           ∙ sym (walk-chains (ledger_in lasts slots) t n xs (rw same a.0))
+
+  pub used-walks : (t : Trie) → t.nodes ≡ nodes → 0 < nodes → (root : ℕ) (xs : List ℕ)
+      → shown (walk_by (search_in (ledger_in lasts (take k slots))) t root xs) ≡ shown (walk_by (search_in (ledger_in lasts slots)) t root xs)
+  unfolding walk_by
+  used-walks t same some root xs = rw (used-descends t same some root xs) refl
 
   pub used-length : k ≡ length (take k slots)
   used-length = let l = length-take k slots in let h = used.1 in omega arith

@@ -6,7 +6,7 @@ use Rattle.space.specs.declared.Node.{Node}
 use Rattle.trie.specs.Siblings.{Trie, trie_in}
 use Rattle.trie.specs.Index.{probe}
 use Rattle.trie.specs.Ledger.{Ledger, mixed_slot, enter_node, caught_up, usable, search_in}
-use Rattle.trie.specs.Walks.{walk_from_by, walk_by, shown}
+use Rattle.trie.specs.Walks.{walk_by, shown}
 use Rattle.trie.specs.declared.Walked.{Walked}
 
 -- the ledger in these cells
@@ -63,10 +63,6 @@ UsesSlots nodes lasts slots used =
     (used ≡ pick (usable nodes (ledger_in lasts slots)) (length slots) 0) × (used ≤ length slots)
 
 -- the walk, as the code answers
-abbrev pub ledger_walk_below : List ℕ → (nodes links start : ℕ) → (tokens lasts slots : List ℕ) → Walked
-ledger_walk_below cs nodes links start tokens lasts slots =
-    shown (walk_from_by (search_in (ledger_in lasts slots)) (trie_in sizes cs nodes links) start tokens)
-
 abbrev pub ledger_walk : List ℕ → (nodes links root : ℕ) → (tokens lasts slots : List ℕ) → Walked
 ledger_walk cs nodes links root tokens lasts slots =
     shown (walk_by (search_in (ledger_in lasts slots)) (trie_in sizes cs nodes links) root tokens)

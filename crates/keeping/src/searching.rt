@@ -7,13 +7,14 @@ ghost use Rattle.trie.specs.Siblings.{trie_in, sound};
 ghost use Rattle.trie.specs.Ledger.{is_last, found_in, search_in};
 ghost use Rattle.keeping.specs.Clauses.{ledger_in, trie_for, LooksUp, LedgerRoom, Usable};
 
-use super::slots::{mixed_slot, next_slot};
+use super::slots::mixed_slot;
 use basis::wide;
 use space::NodeRead;
 use space::records::{node_in, read_node};
 use trie::Search;
 use trie::lookups::{confirms, judge};
 use trie::siblings::search_children;
+use trie::slots::slot_after;
 
 // What the slots give: the child, or 0 where they lack it.
 fn look_up(space: &[u32], nodes: usize, parent: usize, token: u32, slots: &[u32]) -> usize
@@ -23,8 +24,7 @@ fn look_up(space: &[u32], nodes: usize, parent: usize, token: u32, slots: &[u32]
 {
     let size = slots.len();
     let mut slot = mixed_slot(size, parent, token);
-    let mut left = size;
-    while 0 < left {
+    for _ in 0..size {
         let x = wide(slots[slot]);
         if x == 0 {
             return 0;
@@ -32,30 +32,24 @@ fn look_up(space: &[u32], nodes: usize, parent: usize, token: u32, slots: &[u32]
         if confirms(space, nodes, parent, token, x) {
             return x;
         }
-        slot = next_slot(size, slot);
-        left -= 1;
+        slot = slot_after(size, slot);
     }
     0
 }
 
 // Is node l the last child of `parent`, by its own record?
+#[tactic(auto, unfolding(trie::specs::Ledger::is_last))]
 fn is_last(space: &[u32], nodes: usize, links: usize, parent: usize, l: usize) -> bool
     requires { NodesIn space.now nodes }
     ensures { result ≡ is_last (trie_in sizes space.now nodes links) parent l }
 {
-    if l <= parent {
+    if l <= parent || nodes <= l {
         return false;
     }
-    if nodes <= l {
-        return false;
+    match read_node(space, nodes, links, l) {
+        NodeRead::Sound(y) => y.parent == parent && y.sibling == 0,
+        NodeRead::Damaged => false,
     }
-    let NodeRead::Sound(y) = read_node(space, nodes, links, l) else {
-        return false;
-    };
-    if y.parent != parent {
-        return false;
-    }
-    y.sibling == 0
 }
 
 // By the slots, and the last child that is noted.
@@ -97,7 +91,7 @@ pub fn search_kept(
     requires parent_value { sound (trie_in sizes space.now nodes links) parent ≡ true }
     ensures { result ≡ search_in (ledger_in lasts.now slots.now) (trie_for space.now nodes links) parent token }
 {
-    if slots.len() == 0 {
+    if slots.is_empty() {
         return search_children(space, nodes, links, parent, token);
     }
     let y = node_in(space, nodes, parent);

@@ -1,6 +1,5 @@
-// The slots of a ledger: where a child is looked for first, and which slot follows another.
+// The slots of a ledger: where a child is looked for first.
 ghost use Rattle.std.specs.Prelude.{◌≡◌, ◌<◌, ◌≤◌, ◌^◌};
-ghost use Rattle.trie.specs.Index.{slot_after};
 ghost use Rattle.trie.specs.Ledger.{mixed_slot};
 
 use basis::wide;
@@ -10,18 +9,6 @@ pub fn mixed_slot(size: usize, parent: usize, token: u32) -> usize
     requires { (0 < size) × (size ≤ 2 ^ 32) × (parent < 2 ^ 32) }
     ensures { (result ≡ mixed_slot size parent token) × (result < size) }
 {
-    let wide_token = wide(token);
-    let mixed = (parent * 1780508695 + wide_token * 97174869) % 4294967296;
+    let mixed = (parent * 1780508695 + wide(token) * 97174869) % 4294967296;
     mixed * size / 4294967296
-}
-
-// The next slot, around.
-pub fn next_slot(size: usize, slot: usize) -> usize
-    requires { slot < size }
-    ensures { (result ≡ slot_after size slot) × (result < size) }
-{
-    if slot + 1 == size {
-        return 0;
-    }
-    slot + 1
 }

@@ -1,5 +1,5 @@
 -- The cases of the definitions that the code's inner functions answer by, one law to each.
-use Prim.Native.Nat.{ℕ, suc, ◌+◌, ◌-◌, ◌≤◌, ◌<◌}
+use Prim.Native.Nat.{ℕ, suc, ◌+◌, ◌-◌, ◌≤◌, ◌<◌, max}
 use mathlib.Core.Bool.{Bool, true, false}
 use mathlib.Core.List.{List}
 use mathlib.Core.Path.{◌≡◌, refl, sym, ap, ◌∙◌}
@@ -8,8 +8,10 @@ use native.Mathlib.Numerals.{add-one}
 use lib.ListN.{length, take, drop, get_or}
 use lib.Seq.{drop-cons, drop-length, get_or-take}
 use lib.Dec.{eqb, leb, ltb}
-use borrow.Author.Tests.{ltb-true, le-leb, lt-leb, lt-ltb, le-ltb, eq-eqb, ne_eqb}
+use borrow.Author.Tests.{ltb-true, ltb-false, le-leb, lt-leb, lt-ltb, le-ltb, eq-eqb, ne_eqb}
 use Rattle.basis.specs.Choice.{pick}
+use Rattle.basis.proofs.Cases.{by_cases}
+use Rattle.forms.specs.declared.Shape.TheVariants.{Symbol, Pair, Illegal}
 use Rattle.forms.specs.declared.Shape.{Shape}
 use Rattle.forms.specs.Cells.{payload, tag, variable, callable, shape_of, arity_of}
 use Rattle.forms.specs.Numbering.{rank}
@@ -49,6 +51,12 @@ module _ (e c : ℕ) where
   pub symbol-shape : variable c ≡ false → (q : Shape) → shape_of (arity_of e) c ≡ q → legal_shape q ≡ is_symbol e c
   unfolding is_symbol
   symbol-shape v q h = rw (v, h)
+
+pub legal-other : (q : Shape) → (q ≡ Illegal → ⊥) → legal_shape q ≡ true
+unfolding legal_shape
+legal-other (Symbol k) n = refl
+legal-other Pair n = refl
+legal-other Illegal n = absurd (n refl)
 
 -- ---- places
 
@@ -92,13 +100,11 @@ module _ (p : Spot) (c : ℕ) where
     allowed-other b v = rw (lt-ltb 0 p.due h, b, v)
 
 module _ (known c : ℕ) where
-  pub known-old : variable c ≡ true → payload c < known → known ≡ known_after known c
+  pub known-most : variable c ≡ true → max known (payload c + 1) ≡ known_after known c
   unfolding known_after
-  known-old v l = rw (v, lt-ltb _ _ l)
-
-  pub known-new : variable c ≡ true → known ≤ payload c → payload c + 1 ≡ known_after known c
-  unfolding known_after
-  known-new v l = rw (v, le-ltb _ _ l, add-one)
+  known-most v = rw v (by_cases (ltb (payload c) known)
+      (λ l. let z : payload c < known = ltb-true _ _ l in rw l (omega arith))
+      (λ l. let z : known ≤ payload c = ltb-false _ _ l in rw l (omega arith)))
 
   pub known_same : variable c ≡ false → known ≡ known_after known c
   unfolding known_after

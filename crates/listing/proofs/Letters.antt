@@ -7,7 +7,7 @@ use mathlib.Core.Logic.{◌⊎◌, inl, inr}
 use mathlib.Core.Path.{◌≡◌, refl, sym, ap, ◌∙◌}
 use native.Mathlib.Omega.{arith}
 use native.Mathlib.Numerals.{add-one}
-use lib.ListN.{length, take, drop, get_or, set, length-drop, drop_of_length-le}
+use lib.ListN.{length, take, drop, get_or, set, drop_of_length-le}
 use lib.Seq.{drop-cons, take-suc-set}
 use lib.Dec.{eqb, ltb}
 use borrow.Author.Tests.{ltb-true, ltb-false, lt-ltb, le-ltb, eqb-true, eqb-false, eq-eqb, ne_eqb, le-leb, lt-leb}
@@ -46,28 +46,22 @@ module _ (e : ℕ) (symbols : List ℕ) (i : ℕ) where
     pub symbols-not : is_symbol e c ≡ false → false ≡ are_symbols e (drop i symbols)
     symbols-not h = rw (symbols-step, h)
 
-    found-again : (r : ℕ) → r ≡ i + 1 + rank (drop (i + 1) symbols) c → contains (drop (suc i) symbols) c ≡ ltb r (length symbols)
-    unfolding contains
-    found-again r h = same_test _ _ there back
-      where
-        n : length (drop (suc i) symbols) ≡ length symbols - suc i
-        n = length-drop (suc i) symbols
+    module _ (is : is_symbol e c ≡ true) (r : ℕ) (found : r ≡ rank (drop (i + 1) symbols) c) where
+      pub symbols-again : r < length (drop (i + 1) symbols) → false ≡ are_symbols e (drop i symbols)
+      unfolding contains
+      symbols-again h =
+          let f : r ≡ rank (drop (suc i) symbols) c = rw add-one at found in
+          let l : r < length (drop (suc i) symbols) = rw add-one at h in
+          let k : rank (drop (suc i) symbols) c < length (drop (suc i) symbols) = omega arith in
+          rw (symbols-step, is, lt-ltb _ _ k)
 
-        z : r ≡ suc i + rank (drop (suc i) symbols) c
-        z = rw add-one at h
-
-        there : ltb (rank (drop (suc i) symbols) c) (length (drop (suc i) symbols)) ≡ true → ltb r (length symbols) ≡ true
-        there q = let l : rank (drop (suc i) symbols) c < length (drop (suc i) symbols) = ltb-true _ _ q in lt-ltb r (length symbols) (omega (arith, n, z))
-
-        back : ltb r (length symbols) ≡ true → ltb (rank (drop (suc i) symbols) c) (length (drop (suc i) symbols)) ≡ true
-        back q = let l : r < length symbols = ltb-true _ _ q in lt-ltb (rank (drop (suc i) symbols) c) (length (drop (suc i) symbols)) (omega (arith, n, z))
-
-    module _ (is : is_symbol e c ≡ true) (r : ℕ) (found : r ≡ i + 1 + rank (drop (i + 1) symbols) c) where
-      pub symbols-again : r < length symbols → false ≡ are_symbols e (drop i symbols)
-      symbols-again h = rw (symbols-step, is, found-again r found, lt-ltb r (length symbols) h)
-
-      pub symbols-later : length symbols ≤ r → are_symbols e (drop i symbols) ≡ are_symbols e (drop (i + 1) symbols)
-      symbols-later h = rw (symbols-step, is, found-again r found, le-ltb r (length symbols) h, add-one)
+      pub symbols-later : length (drop (i + 1) symbols) ≤ r → are_symbols e (drop i symbols) ≡ are_symbols e (drop (i + 1) symbols)
+      unfolding contains
+      symbols-later h =
+          let f : r ≡ rank (drop (suc i) symbols) c = rw add-one at found in
+          let l : length (drop (suc i) symbols) ≤ r = rw add-one at h in
+          let k : length (drop (suc i) symbols) ≤ rank (drop (suc i) symbols) c = omega arith in
+          rw (symbols-step, is, le-ltb _ _ k, add-one)
 
 -- ---- whether there is a list
 

@@ -41,49 +41,34 @@ enum Choice {
 
 // ---- what is given
 
-// The place of c among the symbols from `from` on, or their number.
-fn find(symbols: &[u32], from: usize, c: u32) -> usize
-    requires { from ≤ length symbols.now }
-    ensures { (result ≡ from + rank (drop from symbols.now) c) × (result ≤ length symbols.now) }
+// The place of c among the symbols, or their number.
+fn find(symbols: &[u32], c: u32) -> usize
+    ensures { (result ≡ rank symbols.now c) × (result ≤ length symbols.now) }
 {
-    let mut i = from;
-    while i < symbols.len() {
-        if symbols[i] == c {
+    for (i, &symbol) in symbols.iter().enumerate() {
+        if symbol == c {
             return i;
         }
-        i += 1;
     }
-    i
+    symbols.len()
 }
 
 // Whether a cell is an atom, an integer, a functor or the pair, legal in the edition.
 fn is_symbol(c: u32, edition: u32) -> bool
     ensures { result ≡ is_symbol edition c }
 {
-    if forms::is_variable(c) {
-        return false;
-    }
-    match forms::shape_of(c, edition) {
-        forms::Shape::Symbol(_) => true,
-        forms::Shape::Pair => true,
-        forms::Shape::Illegal => false,
-    }
+    !forms::is_variable(c) && !matches!(forms::shape_of(c, edition), forms::Shape::Illegal)
 }
 
 // Whether each cell is a symbol, and none is repeated.
 fn are_symbols(symbols: &[u32], edition: u32) -> bool
     ensures { result ≡ are_symbols edition symbols.now }
 {
-    let mut i = 0;
-    while i < symbols.len() {
-        let c = symbols[i];
-        if !is_symbol(c, edition) {
+    for (i, &c) in symbols.iter().enumerate() {
+        let later = &symbols[i + 1..];
+        if !is_symbol(c, edition) || find(later, c) < later.len() {
             return false;
         }
-        if find(symbols, i + 1, c) < symbols.len() {
-            return false;
-        }
-        i += 1;
     }
     true
 }
@@ -92,16 +77,11 @@ fn are_symbols(symbols: &[u32], edition: u32) -> bool
 fn is_listable(symbols: &[u32], s: usize, edition: u32) -> bool
     ensures { result ≡ listable edition s symbols.now }
 {
-    if !forms::is_converter_edition(edition) {
-        return false;
-    }
-    if s < 1 {
-        return false;
-    }
-    if MOST_LISTED < s {
-        return false;
-    }
-    if MOST_SYMBOLS < symbols.len() {
+    if !forms::is_converter_edition(edition)
+        || s < 1
+        || MOST_LISTED < s
+        || MOST_SYMBOLS < symbols.len()
+    {
         return false;
     }
     are_symbols(symbols, edition)
@@ -124,26 +104,16 @@ fn beginning() -> Spot
 fn may_begin(c: u32, at: usize) -> bool
     ensures { result ≡ may_begin at c }
 {
-    if at == 0 {
-        return forms::is_callable(c);
-    }
-    true
+    at != 0 || forms::is_callable(c)
 }
 
 // Whether c may stand at a place: a term is due there, and a variable is a known one or the next.
 fn is_allowed(c: u32, place: Spot) -> bool
     ensures { result ≡ allowed place c }
 {
-    if place.due == 0 {
-        return false;
-    }
-    if !may_begin(c, place.at) {
-        return false;
-    }
-    if forms::is_variable(c) {
-        return forms::payload_of(c) <= place.known;
-    }
-    true
+    0 < place.due
+        && may_begin(c, place.at)
+        && (!forms::is_variable(c) || forms::payload_of(c) <= place.known)
 }
 
 // How many variables are known after c.
@@ -151,11 +121,7 @@ fn known_after(known: usize, c: u32) -> usize
     ensures { result ≡ known_after known c }
 {
     if forms::is_variable(c) {
-        let number = forms::payload_of(c);
-        if number < known {
-            return known;
-        }
-        return number + 1;
+        return known.max(forms::payload_of(c) + 1);
     }
     known
 }
@@ -165,12 +131,10 @@ fn place_after(place: Spot, c: u32, edition: u32) -> Spot
     requires { (place.at ≤ 8) × (0 < place.due) × (place.due ≤ 4096) }
     ensures { result ≡ passed edition place c }
 {
-    let known = known_after(place.known, c);
-    let due = forms::due_after(place.due, forms::arguments_of(c, edition));
     Spot {
         at: place.at + 1,
-        known: known,
-        due: due,
+        known: known_after(place.known, c),
+        due: forms::due_after(place.due, forms::arguments_of(c, edition)),
     }
 }
 
@@ -195,7 +159,7 @@ fn place_of(symbols: &[u32], c: u32) -> usize
     if forms::is_variable(c) {
         return symbols.len() + forms::payload_of(c);
     }
-    find(symbols, 0, c)
+    find(symbols, c)
 }
 
 // Whether c is one of them, where terms have s cells.
@@ -205,7 +169,7 @@ fn is_letter(symbols: &[u32], s: usize, c: u32) -> bool
     if forms::is_variable(c) {
         return forms::payload_of(c) < s;
     }
-    find(symbols, 0, c) < symbols.len()
+    find(symbols, c) < symbols.len()
 }
 
 // Whether a term stands in the list.
@@ -217,13 +181,8 @@ fn is_listed(symbols: &[u32], s: usize, term: &[u32], edition: u32) -> bool
         return false;
     }
     let mut place = beginning();
-    while place.at < s {
-        let at = place.at;
-        let c = term[at];
-        if !is_letter(symbols, s, c) {
-            return false;
-        }
-        if !is_allowed(c, place) {
+    for &c in term {
+        if !is_letter(symbols, s, c) || !is_allowed(c, place) {
             return false;
         }
         place = place_after(place, c, edition);
@@ -238,10 +197,7 @@ fn is_leading(arity: usize, t: usize, sums: &[bool; MOST_LISTED]) -> bool
     requires { t < 8 }
     ensures { result ≡ leads_to arity t (take t sums.now) }
 {
-    if arity == 0 {
-        return false;
-    }
-    if t < arity {
+    if arity == 0 || t < arity {
         return false;
     }
     sums[t - arity]
@@ -252,12 +208,10 @@ fn is_reached(symbols: &[u32], t: usize, sums: &[bool; MOST_LISTED], edition: u3
     requires { t < 8 }
     ensures { result ≡ sum_reached edition t (take t sums.now) symbols.now }
 {
-    let mut i = 0;
-    while i < symbols.len() {
-        if is_leading(forms::arguments_of(symbols[i], edition), t, sums) {
+    for &c in symbols {
+        if is_leading(forms::arguments_of(c, edition), t, sums) {
             return true;
         }
-        i += 1;
     }
     false
 }
@@ -268,10 +222,8 @@ fn sums_of(symbols: &[u32], edition: u32) -> [bool; MOST_LISTED]
 {
     let mut sums = [false; MOST_LISTED];
     sums[0] = true;
-    let mut t = 1;
-    while t < MOST_LISTED {
+    for t in 1..MOST_LISTED {
         sums[t] = is_reached(symbols, t, &sums, edition);
-        t += 1;
     }
     sums
 }
@@ -284,10 +236,7 @@ fn can_fit(due: usize, left: usize, sums: &[bool; MOST_LISTED]) -> bool
     if due == 0 {
         return left == 0;
     }
-    if left < due {
-        return false;
-    }
-    sums[left - due]
+    due <= left && sums[left - due]
 }
 
 // Whether a term can go on with c at a place, and end with the `left` cells after it.
@@ -295,11 +244,7 @@ fn goes_on(c: u32, place: Spot, left: usize, sums: &[bool; MOST_LISTED], edition
     requires { (left < 8) × (place.at ≤ 8) × (place.due ≤ 8) }
     ensures { result ≡ goes_on_by edition sums.now place left c }
 {
-    if !is_allowed(c, place) {
-        return false;
-    }
-    let next = place_after(place, c, edition);
-    can_fit(next.due, left, sums)
+    is_allowed(c, place) && can_fit(place_after(place, c, edition).due, left, sums)
 }
 
 // ---- the first term, and the one after a term
@@ -317,13 +262,11 @@ fn choose(
     ensures { ChoosesCell edition s symbols.now place from result }
 {
     let left = s - place.at - 1;
-    let mut j = from;
-    while j < symbols.len() + s {
+    for j in from..symbols.len() + s {
         let c = letter(symbols, j);
         if goes_on(c, place, left, sums, edition) {
             return Choice::Cell(c);
         }
-        j += 1;
     }
     Choice::Nothing
 }
@@ -341,11 +284,10 @@ fn fill(
     ensures { FillsFrom edition s symbols.now from term.old result term.new }
 {
     let mut place = from;
-    while place.at < s {
+    for at in from.at..s {
         let Choice::Cell(c) = choose(symbols, 0, place, s, sums, edition) else {
             return false;
         };
-        let at = place.at;
         term[at] = c;
         place = place_after(place, c, edition);
     }
@@ -369,35 +311,19 @@ fn advance(
         return false;
     }
     let c = term[at];
-    if advance(
-        symbols,
-        s,
-        sums,
-        edition,
-        term,
-        place_after(place, c, edition),
-    ) {
+    let next = place_after(place, c, edition);
+    if advance(symbols, s, sums, edition, term, next) {
         return true;
     }
     let later = place_of(symbols, c) + 1;
     // The place is written anew, so that its own copy is never lent and stays in registers.
-    let here = Spot {
-        at: at,
-        known: place.known,
-        due: place.due,
-    };
+    let here = Spot { at, ..place };
     let Choice::Cell(d) = choose(symbols, later, here, s, sums, edition) else {
         return false;
     };
     term[at] = d;
-    fill(
-        symbols,
-        s,
-        sums,
-        edition,
-        term,
-        place_after(place, d, edition),
-    )
+    let next = place_after(place, d, edition);
+    fill(symbols, s, sums, edition, term, next)
 }
 
 // Writes the term that was found, if it fits.

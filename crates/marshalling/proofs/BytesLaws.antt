@@ -1,10 +1,10 @@
 -- Laws of cells as bytes: lengths, what stands at a place, and reading and writing one after another.
-use Prim.Native.Nat.{ℕ, zero, suc, ◌+◌, ◌*◌, ◌^◌, ◌/◌, ◌%◌, ◌<◌}
+use Prim.Native.Nat.{ℕ, zero, suc, ◌+◌, ◌*◌, ◌^◌, ◌/◌, ◌%◌, ◌≤◌, ◌<◌}
 use mathlib.Core.List.{List, [], ◌∷◌, ◌++◌}
 use mathlib.Core.Path.{◌≡◌, refl, sym, ap, ◌∙◌}
 use native.Mathlib.Omega.{arith}
 use lib.ListN.{length, take, drop, get_or, set}
-use lib.Seq.{take-length}
+use lib.Seq.{take-length, take_all, sets}
 use Rattle.convert.proofs.CopyLaws.{copy_step}
 use Rattle.marshalling.specs.Bytes.{cell_of, cells_of, bytes_of}
 
@@ -54,12 +54,6 @@ bytes-at [] i h = absurd (omega arith)
 bytes-at (x ∷ c) zero h = (refl, refl, refl, refl)
 bytes-at (x ∷ c) (suc i) h = rw (four-suc-add i 1, four-suc-add i 2, four-suc-add i 3, four-suc i) (bytes-at c i (omega arith))
 
-pub bytes_take : (n : ℕ) (c : List ℕ) → take (4 * n) (bytes_of c) ≡ bytes_of (take n c)
-unfolding bytes_of
-bytes_take zero c = refl
-bytes_take (suc n) [] = rw (four-suc n)
-bytes_take (suc n) (x ∷ c) = rw (four-suc n, bytes_take n c)
-
 -- ---- one after another
 
 -- what stands in s before place i was put into a, and now what stands at i is
@@ -77,16 +71,19 @@ cells-all b a x i n q e f =
     let l : length (cells_of b) ≡ i = omega (arith, cells-length b) in
     q ∙ rw (← l, take-length) (ap (λ k. cells_of b ++ drop k a) (l ∙ e))
 
-pub bytes_next : (c a x : List ℕ) (i : ℕ) → i < length c → 4 * i + 3 < length a → x ≡ take (4 * i) (bytes_of c) ++ drop (4 * i) a
-    → set (set (set (set x (4 * i) (get_or c i 0 % 256)) (4 * i + 1) (get_or c i 0 / 256 % 256)) (4 * i + 2) (get_or c i 0 / 65536 % 256)) (4 * i + 3) (get_or c i 0 / 16777216)
+-- the four bytes of a cell put behind those before it
+pub bytes_next : (c a x : List ℕ) (i b : ℕ) → i < length c → get_or c i 0 < 2 ^ 32 → 4 * i + 3 < length a → x ≡ take (4 * i) (bytes_of c) ++ drop (4 * i) a
+    → b ≡ get_or c i 0 / 16777216 % 256
+    → sets x (4 * i) (get_or c i 0 % 256 ∷ get_or c i 0 / 256 % 256 ∷ get_or c i 0 / 65536 % 256 ∷ b ∷ [])
     ≡ take (4 * (i + 1)) (bytes_of c) ++ drop (4 * (i + 1)) a
-bytes_next c a x i h k q =
+bytes_next c a x i b h s k q e =
     let l = bytes-length c in
     let t = bytes-at c i h in
-    let q1 = put_next (bytes_of c) a x (4 * i) (get_or c i 0 % 256) (4 * i + 1) (omega arith) (omega arith) q t.0 refl in
-    let q2 = put_next (bytes_of c) a _ (4 * i + 1) (get_or c i 0 / 256 % 256) (4 * i + 2) (omega arith) (omega arith) q1 t.1 (omega arith) in
-    let q3 = put_next (bytes_of c) a _ (4 * i + 2) (get_or c i 0 / 65536 % 256) (4 * i + 3) (omega arith) (omega arith) q2 t.2 (omega arith) in
-    put_next (bytes_of c) a _ (4 * i + 3) (get_or c i 0 / 16777216) (4 * (i + 1)) (omega arith) (omega arith) q3 t.3 (omega arith)
+    let at : (j k v : ℕ) → k ≡ j → get_or (bytes_of c) j 0 ≡ v → get_or (bytes_of c) k 0 ≡ v = λ j k v f g. ap (λ m. get_or (bytes_of c) m 0) f ∙ g in
+    let q1 = put_next (bytes_of c) a x (4 * i) (get_or c i 0 % 256) (suc (4 * i)) (omega arith) (omega arith) q t.0 (omega arith) in
+    let q2 = put_next (bytes_of c) a _ (suc (4 * i)) (get_or c i 0 / 256 % 256) (suc (suc (4 * i))) (omega arith) (omega arith) q1 (at (4 * i + 1) _ _ (omega arith) t.1) (omega arith) in
+    let q3 = put_next (bytes_of c) a _ (suc (suc (4 * i))) (get_or c i 0 / 65536 % 256) (suc (suc (suc (4 * i)))) (omega arith) (omega arith) q2 (at (4 * i + 2) _ _ (omega arith) t.2) (omega arith) in
+    put_next (bytes_of c) a _ (suc (suc (suc (4 * i)))) b (4 * (i + 1)) (omega arith) (omega arith) q3 (at (4 * i + 3) _ _ (omega arith) (omega (arith, t.3, e, s))) (omega arith)
 
-pub bytes-all : (c a x : List ℕ) (i n : ℕ) → x ≡ take (4 * i) (bytes_of c) ++ drop (4 * i) a → i ≡ n → x ≡ bytes_of (take n c) ++ drop (4 * n) a
-bytes-all c a x i n q e = q ∙ rw (e, bytes_take)
+pub bytes-all : (c a x : List ℕ) (i n : ℕ) → x ≡ take (4 * i) (bytes_of c) ++ drop (4 * i) a → i ≡ n → length c ≤ n → x ≡ bytes_of c ++ drop (4 * n) a
+bytes-all c a x i n q e h = q ∙ rw (e, take_all (4 * n) (bytes_of c) (omega (arith, bytes-length c)))

@@ -3,7 +3,7 @@
 #![tactic(auto)]
 
 ghost use Rattle.std.specs.Prelude.{◌≡◌, ◌++◌, ◌*◌, ◌^◌, ◌/◌, ◌≤◌, ◌<◌, length, take, drop};
-ghost use Rattle.marshalling.specs.Bytes.{cell_of, cells_of, bytes_of};
+ghost use Rattle.marshalling.specs.Bytes.{cells_of, bytes_of};
 ghost use Rattle.marshalling.specs.Export.{CompactRoom, ExpandRoom, Delivers};
 ghost use Rattle.marshalling.specs.Export.{CompactsBytes, CompactsBytesIn, ExpandsBytes, ExpandsBytesIn};
 
@@ -19,27 +19,18 @@ use forms::{Loading, Reading};
 // A refusal is returned as 2^31 plus its number.
 const REFUSED: u32 = 2147483648;
 
-// The cell of four bytes, the lowest first.
-fn cell_of(b0: u8, b1: u8, b2: u8, b3: u8) -> u32
-    ensures { result ≡ cell_of b0 b1 b2 b3 }
-{
-    b0 as u32 + 256 * (b1 as u32) + 65536 * (b2 as u32) + 16777216 * (b3 as u32)
-}
-
 // Reads the n cells of bytes into the start of cells.
 fn decode(bytes: &[u8], n: usize, cells: &mut [u32])
     requires { (n ≡ length bytes.now / 4) × (n ≤ length cells.old) }
     ensures { cells.new ≡ cells_of bytes.now ++ drop n cells.old }
 {
-    let mut i = 0;
-    while i < n {
-        cells[i] = cell_of(
+    for i in 0..n {
+        cells[i] = u32::from_le_bytes([
             bytes[4 * i],
             bytes[4 * i + 1],
             bytes[4 * i + 2],
             bytes[4 * i + 3],
-        );
-        i += 1;
+        ]);
     }
 }
 
@@ -48,14 +39,8 @@ fn encode(cells: &[u32], n: usize, out: &mut [u8])
     requires { (n ≤ length cells.now) × (4 * n ≤ length out.old) }
     ensures { out.new ≡ bytes_of (take n cells.now) ++ drop (4 * n) out.old }
 {
-    let mut i = 0;
-    while i < n {
-        let c = cells[i];
-        out[4 * i] = (c % 256) as u8;
-        out[4 * i + 1] = (c / 256 % 256) as u8;
-        out[4 * i + 2] = (c / 65536 % 256) as u8;
-        out[4 * i + 3] = (c / 16777216) as u8;
-        i += 1;
+    for (i, &c) in cells[..n].iter().enumerate() {
+        out[4 * i..4 * i + 4].copy_from_slice(&c.to_le_bytes());
     }
 }
 

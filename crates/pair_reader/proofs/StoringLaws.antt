@@ -1,14 +1,14 @@
 -- Laws of what the reader of pair form stores: variables numbered, cells written.
-use Prim.Native.Nat.{ℕ, suc, ◌+◌, ◌-◌, ◌≤◌, ◌<◌}
+use Prim.Native.Nat.{ℕ, suc, ◌+◌, ◌-◌, ◌≤◌, ◌<◌, max}
 use mathlib.Core.List.{List, [], ◌∷◌, ◌++◌, append_assoc}
 use mathlib.Core.Bool.{Bool, true, false}
 use mathlib.Core.Path.{◌≡◌, refl, sym, ap, ◌∙◌}
 use native.Mathlib.Omega.{arith}
 use native.Mathlib.Numerals.{add-one}
-use lib.ListN.{length, take, drop, get_or, set, length-append, length-set}
-use lib.Seq.{sets, sets-eq, drop-set-lt, take-set-le, length-sets, drop-cons, take-append_seam, drop_at, length-take-le, take-suc-set, slice-cons, slice_empty}
+use lib.ListN.{length, take, drop, get_or, set, length-append, length-set, length-drop, drop_of_length-le}
+use lib.Seq.{sets, sets-eq, drop-set-lt, take-set-le, length-sets, drop-cons, take-append_seam, drop_at, length-take-le, take-suc-set, take-set-lt, paste, set-append_left}
 use lib.Dec.{eqb, ltb}
-use borrow.Author.Tests.{eq-eqb, ne_eqb, le-leb, lt-leb, lt-ltb, le-ltb, ltb-true, ltb-false}
+use borrow.Author.Tests.{eq-eqb, ne_eqb, le-leb, lt-leb, ltb-true, ltb-false}
 use Rattle.basis.specs.Choice.{pick}
 use Rattle.basis.proofs.SetsLaws.{sets-append}
 use Rattle.forms.specs.Cells.{tag, variable, ELIST}
@@ -16,19 +16,30 @@ use Rattle.forms.specs.Numbering.{rank, seen, met, renamed}
 use Rattle.forms.proofs.NumberingLaws.{rank-le, met-append}
 use Rattle.pair_reader.specs.Storing.{numbered_from, Stored}
 
-minus_one : (m n : ℕ) → n < m → m - n ≡ suc (m - suc n)
-minus_one m n h = omega arith
+-- what is moved one place up, and x before it
+pub insert-moved : (out : List ℕ) (to end x : ℕ) → to ≤ end → end < length out
+    → set (paste out (to + 1) (drop to out) (end - to)) to x ≡ sets out to (x ∷ take (end - to) (drop to out))
+insert-moved out to end x h k =
+    let a : length (take (end - to) (drop to out)) ≡ end - to = length-take-le (end - to) (drop to out) (omega (arith, length-drop to out)) in
+    let b : suc to + length (take (end - to) (drop to out)) ≤ length (set out to x) = omega (arith, a, length-set out to x) in
+    let d : length (take (suc to) out) ≡ suc to = length-take-le (suc to) out (omega arith) in
+    let e : to < length (take (suc to) out) = omega arith in
+    let f : to < suc to = omega arith in
+    let g : to < suc to + (end - to) = omega arith in
+    rw (
+      add-one,
+      append_assoc (take (suc to) out) (take (end - to) (drop to out)) (drop (suc to + (end - to)) out),
+      set-append_left (take (suc to) out) (take (end - to) (drop to out) ++ drop (suc to + (end - to)) out) to x e,
+      sets-eq (take (end - to) (drop to out)) (set out to x) (suc to) b,
+      a,
+      take-set-lt (suc to) out to x f,
+      drop-set-lt (suc to + (end - to)) out to x g,
+      append_assoc (set (take (suc to) out) to x) (take (end - to) (drop to out)) (drop (suc to + (end - to)) out),
+    )
 
-pub insert-step : (l : List ℕ) (to end x : ℕ) → to < end → end < length l
-    → sets (set l to x) (to + 1) (get_or l to 0 ∷ take (end - (to + 1)) (drop (to + 1) (set l to x)))
-    ≡ sets l to (x ∷ take (end - to) (drop to l))
-insert-step l to end x h k =
-    let h₁ : to < length l = omega arith in
-    let h₂ : to < suc to = omega arith in
-    rw (add-one, drop-set-lt (suc to) l to x h₂, minus_one end to h, drop-cons l to 0 h₁)
-
-pub insert-last : (l : List ℕ) (to end x : ℕ) → to ≤ end → end ≤ to → set l to x ≡ sets l to (x ∷ take (end - to) (drop to l))
-insert-last l to end x h k = let e : end - to ≡ 0 = omega arith in rw e
+-- how many variables there are is more than the rank of any
+pub rank-most : (vars : List ℕ) (count c r : ℕ) → count ≤ length vars → r ≡ rank (take count vars) c → r ≤ count
+rank-most vars count c r h e = omega (arith, e, rank-le (take count vars) c, length-take-le count vars h)
 
 -- a part that was just written stands there, and is written over
 pub sets-part : (e l : List ℕ) (to : ℕ) → to + length e ≤ length l → take (length e) (drop to (sets l to e)) ≡ e
@@ -64,29 +75,27 @@ sets-insert e l out to end x p q h =
 
 -- ---- the search for a variable's rank
 
-module _ (v : List ℕ) (n x i : ℕ) where
+module _ (vs : List ℕ) (x i : ℕ) (r : rank vs x ≡ i + rank (drop i vs) x) where
   -- not here: the rank is further on
-  pub rank-next : i < n → n ≤ length v → (get_or v i 0 ≡ x → ⊥) → rank (drop i (take n v)) x ≡ suc (rank (drop (i + 1) (take n v)) x)
+  pub rank-next : i < length vs → (get_or vs i 0 ≡ x → ⊥) → rank vs x ≡ i + 1 + rank (drop (i + 1) vs) x
   unfolding rank
-  rank-next h k e = rw (slice-cons i n v 0 h k, ne_eqb (get_or v i 0) x e, add-one)
+  rank-next h e =
+      let q : rank (drop i vs) x ≡ suc (rank (drop (i + 1) vs) x) = rw (drop-cons vs i 0 h, ne_eqb (get_or vs i 0) x e, add-one) in
+      omega (arith, r, q)
 
-  -- here, or behind the last
-  pub rank-found : i ≤ n → n ≤ length v → get_or v i 0 ≡ x → rank (drop i (take n v)) x ≡ 0
+  -- here
+  pub rank-found : i < length vs → get_or vs i 0 ≡ x → rank vs x ≡ i
   unfolding rank
-  rank-found h k e = go (ltb i n) refl
-    where
-      go : (b : Bool) → ltb i n ≡ b → rank (drop i (take n v)) x ≡ 0
-      go true q = let g : i < n = omega (arith, ltb-true i n q) in rw (slice-cons i n v 0 g k, eq-eqb (get_or v i 0) x e)
-      go false q = let g : i ≡ n = omega (arith, ltb-false i n q) in rw (g, slice_empty n v)
+  rank-found h e =
+      let q : rank (drop i vs) x ≡ 0 = rw (drop-cons vs i 0 h, eq-eqb (get_or vs i 0) x e) in
+      omega (arith, r, q)
 
-  -- a turn of the search: x stands at n, so a place that holds another lies before it
-  pub rank-turn : i ≤ n → n < length v → get_or v n 0 ≡ x → rank (take n v) x ≡ i + rank (drop i (take n v)) x → (get_or v i 0 ≡ x → ⊥)
-      → (i + 1 ≤ n) × (rank (take n v) x ≡ i + 1 + rank (drop (i + 1) (take n v)) x)
-  rank-turn h k e r f = go (ltb i n) refl
-    where
-      go : (b : Bool) → ltb i n ≡ b → (i + 1 ≤ n) × (rank (take n v) x ≡ i + 1 + rank (drop (i + 1) (take n v)) x)
-      go true q = let g : i < n = omega (arith, ltb-true i n q) in (omega arith, omega (arith, rank-next g (omega arith) f))
-      go false q = let g : i ≡ n = omega (arith, ltb-false i n q) in absurd (f (rw g e))
+  -- nowhere
+  pub rank-absent : length vs ≤ i → rank vs x ≡ i
+  unfolding rank
+  rank-absent h =
+      let q : rank (drop i vs) x ≡ 0 = rw (drop_of_length-le vs h) in
+      omega (arith, r, q)
 
 -- ---- numbering on the way
 
@@ -129,18 +138,18 @@ module _ (vars : List ℕ) (count : ℕ) (out : List ℕ) (to : ℕ) where
     old-length = length-take-le count vars (omega arith)
 
     -- it is known already
-    variable-old : r < count → (seen (take count vars) c ≡ take count vars) × (pick (ltb r count) count (count + 1) ≡ count)
+    variable-old : r < count → (seen (take count vars) c ≡ take count vars) × (max count (r + 1) ≡ count)
     unfolding seen
     variable-old g =
         let m : rank (take count vars) c < length (take count vars) = omega (arith, old-length) in
-        (rw (q, lt-leb (length (take count vars)) (rank (take count vars) c) m), rw (lt-ltb r count g))
+        (rw (q, lt-leb (length (take count vars)) (rank (take count vars) c) m), omega arith)
 
     -- it is met for the first time
-    variable-new : count ≤ r → (seen (take count vars) c ≡ take count vars ++ (c ∷ [])) × (pick (ltb r count) count (count + 1) ≡ count + 1) × (rank (take count vars) c ≡ length (take count vars))
+    variable-new : count ≤ r → (seen (take count vars) c ≡ take count vars ++ (c ∷ [])) × (max count (r + 1) ≡ count + 1) × (rank (take count vars) c ≡ length (take count vars))
     unfolding seen
     variable-new g =
         let m : length (take count vars) ≤ rank (take count vars) c = omega (arith, old-length) in
-        (rw (q, le-leb (length (take count vars)) (rank (take count vars) c) m), rw (le-ltb r count g), omega (arith, rank-le (take count vars) c, old-length))
+        (rw (q, le-leb (length (take count vars)) (rank (take count vars) c) m), omega (arith, rank-le (take count vars) c, old-length), omega (arith, rank-le (take count vars) c, old-length))
 
     -- the rank that was found is the one among the variables that are known then
     variable-rank : renamed (seen (take count vars) c) c ≡ 268435456 + r
@@ -151,11 +160,11 @@ module _ (vars : List ℕ) (count : ℕ) (out : List ℕ) (to : ℕ) where
         go true p = let w = variable-old (ltb-true r count p) in rw w.0 (sym e)
         go false p = let w = variable-new (ltb-false r count p) in rw w.0 (rank-behind (take count vars) c w.2 ∙ sym w.2 ∙ sym e)
 
-    variable-known : (take (pick (ltb r count) count (count + 1)) (set vars count c) ≡ seen (take count vars) c) × (pick (ltb r count) count (count + 1) ≡ length (seen (take count vars) c))
+    variable-known : (take (max count (r + 1)) (set vars count c) ≡ seen (take count vars) c) × (max count (r + 1) ≡ length (seen (take count vars) c))
     variable-known = go (ltb r count) refl
       where
         go : (b : Bool) → ltb r count ≡ b
-            → (take (pick (ltb r count) count (count + 1)) (set vars count c) ≡ seen (take count vars) c) × (pick (ltb r count) count (count + 1) ≡ length (seen (take count vars) c))
+            → (take (max count (r + 1)) (set vars count c) ≡ seen (take count vars) c) × (max count (r + 1) ≡ length (seen (take count vars) c))
         go true p =
             let w = variable-old (ltb-true r count p) in
             rw (w.0, w.1) (take-set-le count vars count c (omega arith), sym old-length)
@@ -164,7 +173,7 @@ module _ (vars : List ℕ) (count : ℕ) (out : List ℕ) (to : ℕ) where
             rw (w.0, w.1) (rw add-one (take-suc-set vars count c h), simp length-append (omega (arith, old-length)))
 
     -- a variable
-    pub stored-variable : (vars₁ : List ℕ) (count₁ : ℕ) → vars₁ ≡ set vars count c → count₁ ≡ pick (ltb r count) count (count + 1)
+    pub stored-variable : (vars₁ : List ℕ) (count₁ : ℕ) → vars₁ ≡ set vars count c → count₁ ≡ max count (r + 1)
         → Stored (c ∷ []) vars count out to vars₁ count₁ (set out to (268435456 + r)) (to + 1)
     unfolding numbered_from met
     stored-variable vars₁ count₁ p n =

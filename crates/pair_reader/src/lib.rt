@@ -1,36 +1,24 @@
 // The readers of pair form, which write compact form and number variables as they read.
 #![tactic(auto)]
 
-ghost use Rattle.std.specs.Prelude.{◌≡◌, ◌∷◌, ◌+◌, ◌*◌, ◌-◌, ◌^◌, ◌≤◌, ◌<◌, length, take, drop, ltb};
+ghost use Rattle.std.specs.Prelude.{◌≡◌, ◌∷◌, ◌+◌, ◌*◌, ◌-◌, ◌^◌, ◌≤◌, ◌<◌, length, take, drop};
 ghost use Rattle.std.proofs.lemmas.List.Edits.{sets};
-ghost use Rattle.basis.specs.Choice.{pick};
 ghost use Rattle.pair_reader.specs.Storing.{placed, Ranks, Stores, PairRoom, ReadsTerms, ReadsList};
 
 use forms::{Place, Step};
 
-// The rank of the variable c among the first `count` cells of vars, or count. Puts c behind them,
-// so that the search always ends at it.
+// The rank of the variable c among the first `count` cells of vars, or count. Puts c behind them.
 fn number(vars: &mut [u32], count: usize, c: u32) -> usize
     requires { count < length vars.old }
     ensures { Ranks vars.old count c result vars.new }
 {
     vars[count] = c;
-    let mut i = 0;
-    while vars[i] != c {
-        i += 1;
+    for (i, &v) in vars[..count].iter().enumerate() {
+        if v == c {
+            return i;
+        }
     }
-    i
-}
-
-// How many variables are known after one of rank r, where `count` were before.
-fn known_after(r: usize, count: usize) -> usize
-    requires { count < 2 ^ 32 }
-    ensures { result ≡ pick (ltb r count) count (count + 1) }
-{
-    if r < count {
-        return count;
-    }
-    count + 1
+    count
 }
 
 // Moves the cells from `to` up to `end` one place up and puts x before them.
@@ -38,15 +26,8 @@ fn insert(out: &mut [u32], to: usize, end: usize, x: u32)
     requires { (to ≤ end) × (end < length out.old) }
     ensures { out.new ≡ sets out.old to (x ∷ take (end - to) (drop to out.old)) }
 {
-    let mut i = to;
-    let mut moved = x;
-    while i < end {
-        let y = out[i];
-        out[i] = moved;
-        moved = y;
-        i += 1;
-    }
-    out[i] = moved;
+    out.copy_within(to..end, to + 1);
+    out[to] = x;
 }
 
 // Writes the cell c at `to`, or the number of the variable c, and gives how many variables are known then.
@@ -57,7 +38,7 @@ pub fn store(c: u32, vars: &mut [u32], count: usize, out: &mut [u32], to: usize)
     if forms::is_variable(c) {
         let r = number(vars, count, c);
         out[to] = forms::VARIABLE + r as u32;
-        return known_after(r, count);
+        return count.max(r + 1);
     }
     out[to] = c;
     count
@@ -74,26 +55,18 @@ pub fn terms(s: &[u32], n: usize, vars: &mut [u32], out: &mut [u32], edition: u3
     if s.len() < n {
         return Step::Malformed;
     }
-    let mut at = 0;
-    let mut due = n;
-    while 0 < due {
-        if s.len() <= at {
-            return Step::Malformed;
-        }
-        let c = s[at];
+    for (at, &c) in s[..n].iter().enumerate() {
         if !forms::is_constant(c) {
             let place = Place {
-                at: at,
+                at,
                 to: at,
                 count: 0,
             };
-            return scan(s, place, due, vars, out, edition);
+            return scan(s, place, n - at, vars, out, edition);
         }
         out[at] = c;
-        at += 1;
-        due = forms::due_after(due, 0);
     }
-    Step::Done(at, at, 0)
+    Step::Done(n, n, 0)
 }
 
 // Reads the n terms that are due at a place, and writes their compact forms. In a pair's place its element and its tail

@@ -1,5 +1,5 @@
 -- The next pair of a join that matches: with the answer in hand, or with one of those behind it.
-use mathlib.Core.Path.{◌≡◌, refl, sym, ap, ◌∙◌, subst}
+use mathlib.Core.Path.{◌≡◌, refl, sym, ap, ◌∙◌}
 use mathlib.Core.List.{List, [], ◌∷◌, ◌++◌, map}
 use Prim.Native.Nat.{ℕ, ◌<◌}
 use native.Mathlib.Omega.{arith}
@@ -13,11 +13,9 @@ use Rattle.space.proofs.HeaderLaws.{bounds-nodes}
 use Rattle.parts.specs.Parts.{parts, InHand}
 use Rattle.pairing.specs.declared.Sides.{Sides}
 use Rattle.pairing.specs.declared.Cursor.{Cursor}
-use Rattle.pairing.specs.declared.Found.{Found}
 use Rattle.pairing.specs.declared.Found.TheVariants as found
-use Rattle.pairing.specs.declared.Match.{Match}
 use Rattle.pairing.specs.declared.Match.TheVariants as match
-use Rattle.pairing.specs.Pairing.{forms_from, form_in, FirstTakeable, TakesFirst, Throughout, Compared, Stands, parts_from, to_come, Finds, match_at, Advances}
+use Rattle.pairing.specs.Pairing.{forms_from, form_in, AnswerTakeable, TakesAnswer, Throughout, Compared, Stands, parts_from, to_come, FirstTooLong, Finds, Advances}
 use Rattle.pairing.proofs.RemainsLaws.{forms-none, Stop, remains-some}
 use Rattle.pairing.proofs.HandLaws.{form_in_lem, hand-said}
 
@@ -49,25 +47,21 @@ module _ (cs : List ℕ) (x : Sides) (ps ks : List ℕ) (k : Throughout cs x ps 
     compared = a.stands.inner
 
     -- what was found with the answer in hand
-    module _ (hands' form' : List ℕ) where
-      advanced : (r : Found) → Finds cs x ps ks inner hands hands' form' r → (r ≡ found.End → ⊥) → Advances cs x ps ks from hands0 hands' form' (match_at outer r)
-      unfolding match_at
-      advanced (found.At next n) f z = (
+    module _ (form' : List ℕ) where
+      pub advanced-at : (next n : ℕ) → Finds cs x ps ks inner hands form' (found.At next n) → Advances cs x ps ks from hands0 hands form' (match.At (cursor outer next) n)
+      advanced-at next n f = (
         record { outer = a.stands.outer; inner = f.0 },
         (f.1.0, a.passed ∙ ap (λ (ws : List Word). ws ++ behind) f.1.1, f.1.2),
       )
-      advanced found.TooLong f z = (f.0, f.1 ++ behind, a.passed ∙ ap (λ (ws : List Word). ws ++ behind) f.2, f.3)
-      advanced found.End f z = absurd (z refl)
 
-      -- as a match
-      pub advanced-as : (r : Found) → Finds cs x ps ks inner hands hands' form' r → (r ≡ found.End → ⊥) → (n : Match) → n ≡ match_at outer r → Advances cs x ps ks from hands0 hands' form' n
-      advanced-as r f z n e = subst (Advances cs x ps ks from hands0 hands' form') (sym e) (advanced r f z)
+      pub advanced-long : Finds cs x ps ks inner hands form' found.TooLong → FirstTooLong x.h.edition (to_come cs x ps ks from hands0)
+      advanced-long f = (f.0, f.1 ++ behind, a.passed ∙ ap (λ (ws : List Word). ws ++ behind) f.2, f.3)
 
-      module _ (f : Finds cs x ps ks inner hands hands' form' found.End) where
+      module _ (f : Finds cs x ps ks inner hands form' found.End) where
         only-behind : to_come cs x ps ks from hands0 ≡ behind
         only-behind = a.passed ∙ ap (λ (ws : List Word). ws ++ behind) f.0
 
-        pub advanced-end : outer ≡ 0 → Advances cs x ps ks from hands0 hands' form' match.End
+        pub advanced-end : outer ≡ 0 → to_come cs x ps ks from hands0 ≡ []
         advanced-end z =
             only-behind
             ∙ ap (λ (ws : List Word). combined ps ks (map (parts (stored_of x.h.edition)) ws) (parts_from cs x.h x.second x.second.first)) (forms-none cs x.h x.first.number outer z)
@@ -77,42 +71,27 @@ module _ (cs : List ℕ) (x : Sides) (ps ks : List ℕ) (k : Throughout cs x ps 
           stop : Stop cs x.h x.first outer y
           stop = remains-some cs x.h x.first outer y k.first a.stands.outer z e
 
-          pub first-takeable : FirstTakeable cs x y.leaf hands' form'
-          first-takeable = ((bounds-nodes cs x.h k.bounds, stop.leaf-in), (stop.form, stop.path, stop.ground), k.first.few, omega (arith, f.1), f.2)
+          pub first-takeable : AnswerTakeable cs x.h x.first y.leaf hands form'
+          first-takeable = ((bounds-nodes cs x.h k.bounds, stop.leaf-in), (stop.form, stop.path, stop.ground), k.first.few, omega (arith, a.stands.inner.hands-room), f.1)
 
           -- fewer are still to come
           pub advancing-less : length (forms_from cs x.h x.first.number y.next) < length (forms_from cs x.h x.first.number outer)
           advancing-less = omega (arith, ap length stop.are)
 
           -- the next answer of the first in hand
-          pub advancing-on : (hands'' form'' : List ℕ) → TakesFirst cs x y.leaf hands' hands'' → length form'' ≡ length form' → Advancing cs x ps ks from hands0 y.next x.second.first hands'' form''
-          advancing-on hands'' form'' t s =
-              let i : InHand (stored_of x.h.edition) x.first.variables stop.form hands'' = t.0 stop.form stop.path in
-              let w : form_in x.first.variables hands'' ≡ stop.form = form_in_lem (stored_of x.h.edition) x.first.variables stop.form hands'' i in
+          pub advancing-on : (hands' form'' : List ℕ) → TakesAnswer cs x.h x.first y.leaf hands hands' → length form'' ≡ length form' → Advancing cs x ps ks from hands0 y.next x.second.first hands' form''
+          advancing-on hands' form'' t s =
+              let i : InHand (stored_of x.h.edition) x.first.variables stop.form hands' = t.0 stop.form stop.path in
+              let w : form_in x.first.variables hands' ≡ stop.form = form_in_lem (stored_of x.h.edition) x.first.variables stop.form hands' i in
               let all : List Terms = parts_from cs x.h x.second x.second.first in
               let rest : List Word = combined ps ks (parts_from cs x.h x.first y.next) all in
               record {
                 stands = record {
                   outer = stop.behind;
-                  inner = record { rest = k.all; held = λ l. hand-said (stored_of x.h.edition) x.first.variables stop.form hands'' i; hands-room = t.1 ∙ f.1; form-room = s ∙ f.2 };
+                  inner = record { rest = k.all; held = λ l. hand-said (stored_of x.h.edition) x.first.variables stop.form hands' i; hands-room = t.1 ∙ a.stands.inner.hands-room; form-room = s ∙ f.1 };
                 };
                 passed = only-behind
                     ∙ ap (λ (ws : List Word). combined ps ks (map (parts (stored_of x.h.edition)) ws) (parts_from cs x.h x.second x.second.first)) stop.are
                     ∙ combined-cons ps ks (parts (stored_of x.h.edition) stop.form) (parts_from cs x.h x.first y.next) (parts_from cs x.h x.second x.second.first)
                     ∙ ap (λ (u : Word). along ps ks (parts (stored_of x.h.edition) u) (parts_from cs x.h x.second x.second.first) ++ combined ps ks (parts_from cs x.h x.first y.next) (parts_from cs x.h x.second x.second.first)) (sym w);
               }
-
--- ---- what was found, as a match
-
-module _ (outer : ℕ) {f : Found} where
-  pub match-at : (inner n : ℕ) → f ≡ found.At inner n → match.At (cursor outer inner) n ≡ match_at outer f
-  unfolding match_at
-  match-at inner n e = rw e
-
-  pub match-long : f ≡ found.TooLong → match.TooLong ≡ match_at outer f
-  unfolding match_at
-  match-long e = rw e
-
-  pub match-end : f ≡ found.End → match.End ≡ match_at outer f
-  unfolding match_at
-  match-end e = rw e

@@ -5,6 +5,7 @@ use mathlib.Core.List.{List, [], ◌∷◌, ◌++◌, map}
 use Prim.Native.Nat.{ℕ, suc, ◌+◌, ◌*◌, ◌^◌, ◌≤◌, ◌<◌}
 use native.Mathlib.Omega.{arith}
 use lib.ListN.{length, take}
+use lib.Seq.{length-take-le}
 use borrow.Author.Tests.{le-leb, lt-leb}
 use Rattle.basis.specs.Choice.{pick}
 use Rattle.forms.specs.Stored.{StoredForm, stored_of}
@@ -28,11 +29,13 @@ use native.Mathlib.Nat.{mul-le-mul_left}
 use Rattle.pairing.specs.declared.Source.{Source}
 use Rattle.pairing.specs.declared.Sides.{Sides}
 use Rattle.pairing.specs.declared.Cursor.{Cursor}
+use Rattle.pairing.specs.declared.Match.{Match}
 use Rattle.pairing.specs.declared.Match.TheVariants as match
 use Rattle.pairing.specs.declared.Sums.{Sums}
 use Rattle.pairing.specs.declared.Counted.TheVariants as counted
-use Rattle.pairing.specs.Pairing.{forms_from, Remains, two_hands, most_tokens, Stands, parts_from, to_come, FirstTooLong, Advances}
-use Rattle.pairing.specs.Counting.{beginning, all_forms, JoinReady, one_more, added, CountsForms}
+use Rattle.pairing.specs.declared.Walk.{Walk as JoinWalk}
+use Rattle.pairing.specs.Pairing.{forms_from, Remains, Stands, WalkStands, WalksOn, parts_from, to_come, FirstTooLong, Advances}
+use Rattle.pairing.specs.Counting.{Begun, all_forms, JoinReady, one_more, added, CountsForms}
 use Rattle.agreement.proofs.ChainSteps.{chain-ends}
 use Rattle.pairing.proofs.RemainsLaws.{forms-none}
 use Rattle.pairing.proofs.FindLaws.{along-end}
@@ -40,8 +43,8 @@ use Rattle.pairing.proofs.FindLaws.{along-end}
 -- ---- the beginning
 
 module _ (cs : List ℕ) (x : Sides) (ps ks : List ℕ) where
-  pub begins : JoinReady cs x ps ks → (hands form : List ℕ) → length hands ≡ two_hands → length form ≡ most_tokens → Stands cs x (beginning x) hands form
-  begins r hands form lh lf = record {
+  pub begins : JoinReady cs x ps ks → (w : JoinWalk) → Begun x w → WalkStands cs x w
+  begins r w b = subst (λ (a : Cursor). Stands cs x a w.first w.form) (sym b.0) (record {
     outer = r.firsts;
     inner = record {
       rest = record {
@@ -50,13 +53,13 @@ module _ (cs : List ℕ) (x : Sides) (ps ks : List ℕ) where
         ground = subst (AllGround (stored_of x.h.edition) x.second.variables) (sym (forms-none cs x.h x.second.number 0 refl)) tt;
       };
       held = λ l. absurd (omega arith);
-      hands-room = lh;
-      form-room = lf;
+      hands-room = b.1;
+      form-room = b.2;
     };
-  }
+  })
 
-  pub all_come : (hands : List ℕ) → all_forms cs x ps ks ≡ to_come cs x ps ks (beginning x) hands
-  all_come hands = sym (ap (λ (ws : List Word). ws ++ all_forms cs x ps ks) (along-end cs x ps ks 0 hands refl))
+  pub all_come : (w : JoinWalk) → Begun x w → all_forms cs x ps ks ≡ to_come cs x ps ks w.at w.first
+  all_come w b = sym (ap (λ (ws : List Word). ws ++ all_forms cs x ps ks) (along-end cs x ps ks 0 w.first refl)) ∙ ap (λ (a : Cursor). to_come cs x ps ks a w.first) (sym b.0)
 
 -- ---- one form more
 
@@ -70,6 +73,13 @@ unfit-cons stored w ws l = ap (λ (b : Bool). pick b (all_fit stored ws) false) 
 
 pub not-long : (edition : ℕ) (ws : List Word) → all_fit (stored_of edition) ws ≡ true → FirstTooLong edition ws → ⊥
 not-long edition ws f t = true≢false (sym f ∙ ap (all_fit (stored_of edition)) t.2 ∙ unfit-cons (stored_of edition) t.0 t.1 t.3)
+
+-- a walk over forms that all fit ends where none is still to come
+pub walk-ended : (cs : List ℕ) (x : Sides) (ps ks : List ℕ) (w w' : JoinWalk) (r : Match) → WalksOn cs x ps ks w w' r → ((next : Cursor) (n : ℕ) → r ≡ match.At next n → ⊥)
+    → all_fit (stored_of x.h.edition) (to_come cs x ps ks w.at w.first) ≡ true → to_come cs x ps ks w.at w.first ≡ []
+walk-ended cs x ps ks w w' (match.At next n) a z f = absurd (z next n refl)
+walk-ended cs x ps ks w w' match.TooLong a z f = absurd (not-long x.h.edition (to_come cs x ps ks w.at w.first) f a)
+walk-ended cs x ps ks w w' match.End a z f = a
 
 abbrev pub no_sums : Sums
 no_sums = record { sound = true; missing = 0; lacking = 0 }
@@ -123,11 +133,11 @@ module _ (find : Finding) where
     pub lacking-most : y.lacking + length (to_come cs x ps ks at hands) ≤ length (all_forms cs x ps ks)
 
   module _ (cs : List ℕ) (x : Sides) (root : ℕ) (ps ks : List ℕ) where
-    pub counting-begun : JoinReady cs x ps ks → (hands form : List ℕ) → length hands ≡ two_hands → length form ≡ most_tokens → Counting cs x root ps ks (beginning x) hands form no_sums
-    counting-begun r hands form lh lf =
-        let e = all_come cs x ps ks hands in
+    pub counting-begun : JoinReady cs x ps ks → (w : JoinWalk) → Begun x w → Counting cs x root ps ks w.at w.first w.form no_sums
+    counting-begun r w b =
+        let e = all_come cs x ps ks w b in
         record {
-          stands = begins cs x ps ks r hands form lh lf;
+          stands = begins cs x ps ks r w b;
           fit = ap (all_fit (stored_of x.h.edition)) e;
           sound = λ s p. sym (ap (all_sound_by find (view_in cs x.h) s) e);
           missing = λ s p. omega (arith, ap (sum_missing find (view_in cs x.h) s) e);
@@ -136,8 +146,8 @@ module _ (find : Finding) where
           lacking-most = omega (arith, ap length e);
         }
 
-    module _ (at : Cursor) (hands form : List ℕ) (y : Sums) (c : Counting cs x root ps ks at hands form y) (hands' form' : List ℕ) where
-      pub counted-end : Advances cs x ps ks at hands hands' form' match.End → CountsForms find cs x root ps ks (counted.Sums y)
+    module _ (at : Cursor) (hands form : List ℕ) (y : Sums) (c : Counting cs x root ps ks at hands form y) where
+      pub counted-end : to_come cs x ps ks at hands ≡ [] → CountsForms find cs x root ps ks (counted.Sums y)
       unfolding all_fit all_sound_by sum_missing sum_lacking
       counted-end e s p = (
         c.fit ∙ ap (all_fit (stored_of x.h.edition)) e,
@@ -150,10 +160,10 @@ module _ (find : Finding) where
           and-true true = refl
           and-true false = refl
 
-      pub counted-long : Advances cs x ps ks at hands hands' form' match.TooLong → CountsForms find cs x root ps ks counted.TooLong
+      pub counted-long : FirstTooLong x.h.edition (to_come cs x ps ks at hands) → CountsForms find cs x root ps ks counted.TooLong
       counted-long e s p = c.fit ∙ ap (all_fit (stored_of x.h.edition)) e.2 ∙ unfit-cons (stored_of x.h.edition) e.0 e.1 e.3
 
-      module _ (next : Cursor) (n : ℕ) (a : Advances cs x ps ks at hands hands' form' (match.At next n)) (m : Met) (q : Searched find cs x.h root (take n form') m) where
+      module _ (hands' form' : List ℕ) (next : Cursor) (n : ℕ) (a : Advances cs x ps ks at hands hands' form' (match.At next n)) (m : Met) (q : Searched find cs x.h root (take n form') m) where
         abbrev w : Word
         w = take n form'
 
@@ -200,6 +210,9 @@ module _ {find : Finding} (finds : Finds find) where
   -- no more tokens are missing than a form has
   pub missing-most : (cs : List ℕ) (x : Sides) (root : ℕ) (w : Word) (m : Met) → root < x.h.nodes → Searched find cs x.h root w m → m.missing ≤ length w
   missing-most cs x root w m l q = omega (arith, q.2, missing-of (answer_trie (view_in cs x.h)) root w (walk_by find (answer_trie (view_in cs x.h)) root w) l refl)
+
+  pub missing-short : (cs : List ℕ) (x : Sides) (root : ℕ) (form : List ℕ) (n : ℕ) (m : Met) → root < x.h.nodes → Searched find cs x.h root (take n form) m → n ≤ length form → m.missing ≤ n
+  missing-short cs x root form n m l q b = omega (arith, missing-most cs x root (take n form) m l q, length-take-le n form b)
 
 parts-length : (stored : StoredForm) (ws : List Word) → length (map (parts stored) ws) ≡ length ws
 parts-length stored [] = refl

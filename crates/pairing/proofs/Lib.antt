@@ -4,5 +4,4 @@ pub mod GatherLaws
 pub mod FindLaws
 pub mod AdvanceLaws
 pub mod CountLaws
-pub mod CountCases
 pub mod NeedLaws

@@ -24,8 +24,9 @@ use Rattle.pairing.specs.declared.Cursor.{Cursor}
 use Rattle.pairing.specs.declared.Match.TheVariants as match
 use Rattle.pairing.specs.declared.Needs.{Needs}
 use Rattle.sides.specs.declared.Earlier.{Earlier}
-use Rattle.pairing.specs.Pairing.{two_hands, most_tokens, Stands, to_come, Advances}
-use Rattle.pairing.specs.Counting.{beginning, all_forms, JoinReady, Fitting, backwards, EarlierOf, one_new, needs_more, NeedsUpTo}
+use Rattle.pairing.specs.declared.Walk.{Walk}
+use Rattle.pairing.specs.Pairing.{Stands, to_come, Advances}
+use Rattle.pairing.specs.Counting.{Begun, all_forms, JoinReady, Fitting, backwards, EarlierOf, one_new, needs_more, NeedsUpTo}
 use Rattle.sides.proofs.SharedLaws.{has-cons, held_whole}
 use Rattle.pairing.proofs.CountLaws.{begins, all_come, fit-cons, met-walk}
 
@@ -75,20 +76,19 @@ abbrev pub none_earlier : Earlier
 none_earlier = record { shared = 0; held = false }
 
 module _ (cs : List ℕ) (x : Sides) (ps ks : List ℕ) (w : Word) where
-  pub comparing-begun : JoinReady cs x ps ks → Fitting cs x ps ks → (hands form : List ℕ) → length hands ≡ two_hands → length form ≡ most_tokens
-      → Comparing cs x ps ks w (beginning x) hands form 0 none_earlier
+  pub comparing-begun : JoinReady cs x ps ks → Fitting cs x ps ks → (v : Walk) → Begun x v → Comparing cs x ps ks w v.at v.first v.form 0 none_earlier
   unfolding backwards most has
-  comparing-begun r f hands form lh lf = record {
-    stands = begins cs x ps ks r hands form lh lf;
-    fit = subst (λ (ws : List Word). all_fit (stored_of x.h.edition) ws ≡ true) (all_come cs x ps ks hands) f;
+  comparing-begun r f v b = record {
+    stands = begins cs x ps ks r v b;
+    fit = subst (λ (ws : List Word). all_fit (stored_of x.h.edition) ws ≡ true) (all_come cs x ps ks v b) f;
     done = [];
-    are = all_come cs x ps ks hands;
+    are = all_come cs x ps ks v b;
     passed = refl;
     shared = refl;
     held = refl;
   }
 
-  module _ (at : Cursor) (hands form : List ℕ) (i : ℕ) (e : Earlier) (c : Comparing cs x ps ks w at hands form i e) (hands' form' : List ℕ) where
+  module _ (at : Cursor) (hands form : List ℕ) (i : ℕ) (e : Earlier) (c : Comparing cs x ps ks w at hands form i e) where
     pub compared-end : (count : ℕ) → i ≡ count → EarlierOf (all_forms cs x ps ks) count w e
     compared-end count k =
         let t : take count (all_forms cs x ps ks) ≡ c.done = ap (take count) c.are ∙ take_at c.done (to_come cs x ps ks at hands) count (c.passed ∙ k) in
@@ -110,9 +110,9 @@ module _ (cs : List ℕ) (x : Sides) (ps ks : List ℕ) (w : Word) where
     pub comparing-short : (count : ℕ) → count ≤ length (all_forms cs x ps ks) → i < count → to_come cs x ps ks at hands ≡ [] → ⊥
     comparing-short count l k z = omega (arith, ap length (c.are ∙ ap (λ (ws : List Word). c.done ++ ws) z ∙ append-nil c.done), c.passed)
 
-    pub comparing-on : (next : Cursor) (n : ℕ) → Advances cs x ps ks at hands hands' form' (match.At next n) → (b : Earlier) → MeetsOneMore e (take n form') w b
+    pub comparing-on : (hands' form' : List ℕ) (next : Cursor) (n : ℕ) → Advances cs x ps ks at hands hands' form' (match.At next n) → (b : Earlier) → MeetsOneMore e (take n form') w b
         → Comparing cs x ps ks w next hands' form' (i + 1) b
-    comparing-on next n a b m =
+    comparing-on hands' form' next n a b m =
         let v : Word = take n form' in
         let j = m (backwards c.done []) c.shared c.held in
         record {
@@ -167,13 +167,12 @@ module _ (find : Finding) where
     pub answers-most : y.answers + length (to_come cs x ps ks at hands) ≤ length (all_forms cs x ps ks)
 
   module _ (cs : List ℕ) (x : Sides) (root : ℕ) (ps ks : List ℕ) where
-    pub needing-begun : JoinReady cs x ps ks → Fitting cs x ps ks → (hands form : List ℕ) → length hands ≡ two_hands → length form ≡ most_tokens
-        → Needing cs x root ps ks (beginning x) hands form 0 no_needs
+    pub needing-begun : JoinReady cs x ps ks → Fitting cs x ps ks → (v : Walk) → Begun x v → Needing cs x root ps ks v.at v.first v.form 0 no_needs
     unfolding backwards
-    needing-begun r f hands form lh lf =
-        let e = all_come cs x ps ks hands in
+    needing-begun r f v b =
+        let e = all_come cs x ps ks v b in
         record {
-          stands = begins cs x ps ks r hands form lh lf;
+          stands = begins cs x ps ks r v b;
           fit = subst (λ (ws : List Word). all_fit (stored_of x.h.edition) ws ≡ true) e f;
           done = [];
           are = e;
@@ -184,8 +183,8 @@ module _ (find : Finding) where
           answers-most = omega (arith, ap length e);
         }
 
-    module _ (at : Cursor) (hands form : List ℕ) (i : ℕ) (y : Needs) (c : Needing cs x root ps ks at hands form i y) (hands' form' : List ℕ) where
-      pub needed-end : (free : ℕ) → Advances cs x ps ks at hands hands' form' match.End → NeedsUpTo free find cs x root ps ks y
+    module _ (at : Cursor) (hands form : List ℕ) (i : ℕ) (y : Needs) (c : Needing cs x root ps ks at hands form i y) where
+      pub needed-end : (free : ℕ) → to_come cs x ps ks at hands ≡ [] → NeedsUpTo free find cs x root ps ks y
       unfolding nodes_needed_by answers_needed_by
       needed-end free e s p =
           let n = ap (nodes_needed_by find (view_in cs x.h) s (backwards c.done [])) e in
@@ -196,7 +195,7 @@ module _ (find : Finding) where
       pub needed-over : (free : ℕ) → free < y.nodes → NeedsUpTo free find cs x root ps ks y
       needed-over free o s p = (omega (arith, c.nodes s p), λ l. absurd (omega arith))
 
-      module _ (next : Cursor) (n : ℕ) (a : Advances cs x ps ks at hands hands' form' (match.At next n)) where
+      module _ (hands' form' : List ℕ) (next : Cursor) (n : ℕ) (a : Advances cs x ps ks at hands hands' form' (match.At next n)) where
         fewer : length (to_come cs x ps ks at hands) ≡ suc (length (to_come cs x ps ks next hands'))
         fewer = ap length a.1.1
 

@@ -1,5 +1,5 @@
 -- What the forms of a join need, as the functions that go through all of them say it.
-use Rattle.std.specs.Prelude.{ℕ, ◌+◌, ◌-◌, ◌≤◌, min, Bool, true, false, ◌&&◌, List, [], ◌∷◌, ◌≡◌, take}
+use Rattle.std.specs.Prelude.{ℕ, ◌+◌, ◌-◌, ◌≤◌, min, Bool, true, false, ◌&&◌, List, [], ◌∷◌, ◌≡◌, length, take}
 use Rattle.basis.specs.Choice.{pick}
 use Rattle.forms.specs.Stored.{StoredForm, stored_of}
 use Rattle.plain.specs.Words.{Word, most, has}
@@ -14,18 +14,22 @@ use Rattle.sides.specs.Counts.{sum_missing, sum_lacking}
 use Rattle.sides.specs.declared.Met.{Met}
 use Rattle.pairing.specs.declared.Sides.{Sides}
 use Rattle.pairing.specs.declared.Cursor.{Cursor}
+use Rattle.pairing.specs.declared.Walk.{Walk}
 use Rattle.pairing.specs.declared.Sums.{Sums}
 use Rattle.pairing.specs.declared.Counted.{Counted}
 use Rattle.pairing.specs.declared.Counted.TheVariants as counted
 use Rattle.pairing.specs.declared.Needs.{Needs}
 use Rattle.sides.specs.declared.Earlier.{Earlier}
-use Rattle.pairing.specs.Pairing.{Remains, Throughout, parts_from}
+use Rattle.pairing.specs.Pairing.{hand, most_tokens, Remains, Throughout, parts_from}
 
 -- ---- all forms
 
 -- nothing is in hand yet
 abbrev pub beginning : Sides → Cursor
 beginning x = record { outer = x.first.first; inner = 0 }
+
+abbrev pub Begun : Sides → Walk → Type 0
+Begun x w = (w.at ≡ beginning x) × (length w.first ≡ hand) × (length w.form ≡ most_tokens)
 
 -- in order of the first, then of the second
 abbrev pub all_forms : List ℕ → Sides → List ℕ → List ℕ → List Word

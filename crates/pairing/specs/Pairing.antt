@@ -1,6 +1,6 @@
 -- The pairs of a join one after another: the answers of a source from one on, the answers in hand, where a join stands,
 -- and the forms that are still to come.
-use Rattle.std.specs.Prelude.{ℕ, ◌-◌, ◌≤◌, ◌<◌, Bool, true, List, [], ◌∷◌, ◌++◌, map, ◌≡◌, length, take, drop, get_or}
+use Rattle.std.specs.Prelude.{ℕ, ◌-◌, ◌≤◌, ◌<◌, true, List, [], ◌∷◌, ◌++◌, map, ◌≡◌, length, take, drop, get_or}
 use Rattle.forms.specs.Stored.{stored_of}
 use Rattle.plain.specs.Words.{Word}
 use Rattle.plain.specs.Coding.{coding_of}
@@ -13,11 +13,10 @@ use Rattle.trie.specs.declared.End.{End}
 use Rattle.store.specs.Decisions.{Chain, broken, unbroken, chain_from}
 use Rattle.store.specs.Clauses.{view_in}
 use Rattle.parts.specs.Parts.{parts, GroundForm, AllGround, tokens_start, InHand}
-use Rattle.parts.specs.Hands.{Comparable, Compares, Copyable, Copies}
-use Rattle.parts.specs.declared.Together.{Together}
 use Rattle.pairing.specs.declared.Source.{Source}
 use Rattle.pairing.specs.declared.Sides.{Sides}
 use Rattle.pairing.specs.declared.Cursor.{Cursor}
+use Rattle.pairing.specs.declared.Walk.{Walk}
 use Rattle.pairing.specs.declared.Found.{Found}
 use Rattle.pairing.specs.declared.Found.TheVariants as found
 use Rattle.pairing.specs.declared.Match.{Match}
@@ -50,12 +49,9 @@ pub record Remains (cs : List ℕ) (h : Head) (x : Source) (a : ℕ) : Type 0 wh
 
 -- ---- answers in hand
 
--- the cells of a hand, and of two
+-- the cells of a hand
 abbrev pub hand : ℕ
 hand = 416
-
-abbrev pub two_hands : ℕ
-two_hands = 832
 
 -- the most tokens of a form
 abbrev pub most_tokens : ℕ
@@ -74,53 +70,22 @@ abbrev pub Gathers : List ℕ → End → List ℕ → List ℕ → ℕ → Type
 Gathers cs e cells cells' k =
     (k ≤ length cells') × (path_to cs e ≡ tokens (drop k cells')) × (length cells' ≡ length cells)
 
--- the path to an end is the form of m terms without variables, and there is room for it, and cells to gather it in
-abbrev pub PathTakeable : List ℕ → End → ℕ → List ℕ → List ℕ → ℕ → Type 0
-PathTakeable cs e m held form edition =
-    Ends cs e × ((w : Word) × (path_to cs e ≡ tokens w) × GroundForm (stored_of edition) m w) × (m ≤ 32)
-    × (hand ≤ length held) × (length form ≡ most_tokens)
-
--- it is in hand afterwards
-abbrev pub Takes : List ℕ → End → ℕ → List ℕ → List ℕ → ℕ → Type 0
-Takes cs e m held held' edition =
-    ((w : Word) → path_to cs e ≡ tokens w → InHand (stored_of edition) m w held') × (length held' ≡ length held)
-
 -- the end of an answer's path in a source
 abbrev pub end_of : Head → Source → ℕ → End
-end_of h x leaf = record { nodes = h.nodes; links = h.answers; root = x.root; leaf = leaf }
+end_of h y leaf = record { nodes = h.nodes; links = h.answers; root = y.root; leaf = leaf }
 
-abbrev pub FirstTakeable : List ℕ → Sides → ℕ → List ℕ → List ℕ → Type 0
-FirstTakeable cs x leaf hands form =
-    PathTakeable cs (end_of x.h x.first leaf) x.first.variables hands form x.h.edition
+-- the path to it is a form without variables, and there is room for it, and cells to gather it in
+abbrev pub AnswerTakeable : List ℕ → Head → Source → ℕ → List ℕ → List ℕ → Type 0
+AnswerTakeable cs h y leaf held form =
+    Ends cs (end_of h y leaf)
+    × ((w : Word) × (path_to cs (end_of h y leaf) ≡ tokens w) × GroundForm (stored_of h.edition) y.variables w)
+    × (y.variables ≤ 32) × (hand ≤ length held) × (length form ≡ most_tokens)
 
-abbrev pub TakesFirst : List ℕ → Sides → ℕ → List ℕ → List ℕ → Type 0
-TakesFirst cs x leaf hands hands' =
-    Takes cs (end_of x.h x.first leaf) x.first.variables hands hands' x.h.edition
-
-abbrev pub SecondTakeable : List ℕ → Sides → ℕ → List ℕ → List ℕ → Type 0
-SecondTakeable cs x leaf hands form =
-    (two_hands ≤ length hands)
-    × PathTakeable cs (end_of x.h x.second leaf) x.second.variables (drop hand hands) form x.h.edition
-
--- the first hand stays
-abbrev pub TakesSecond : List ℕ → Sides → ℕ → List ℕ → List ℕ → Type 0
-TakesSecond cs x leaf hands hands' =
-    Takes cs (end_of x.h x.second leaf) x.second.variables (drop hand hands) (drop hand hands') x.h.edition
-    × (take hand hands' ≡ take hand hands)
-
--- the answers in both hands compared
-abbrev pub HandsComparable : List ℕ → List ℕ → Type 0
-HandsComparable ps hands = (hand ≤ length hands) × Comparable ps hands (drop hand hands)
-
-abbrev pub HandsCompare : List ℕ → List ℕ → Bool → Type 0
-HandsCompare ps hands r = Compares ps hands (drop hand hands) r
-
--- and terms of both put together
-abbrev pub HandsCopyable : ℕ → List ℕ → List ℕ → List ℕ → Type 0
-HandsCopyable edition ks hands form = (hand ≤ length hands) × Copyable edition ks hands (drop hand hands) form
-
-abbrev pub HandsCopied : ℕ → List ℕ → List ℕ → List ℕ → List ℕ → Together → Type 0
-HandsCopied edition ks hands form form' r = Copies edition ks hands (drop hand hands) form form' r
+-- it is in hand afterwards
+abbrev pub TakesAnswer : List ℕ → Head → Source → ℕ → List ℕ → List ℕ → Type 0
+TakesAnswer cs h y leaf held held' =
+    ((w : Word) → path_to cs (end_of h y leaf) ≡ tokens w → InHand (stored_of h.edition) y.variables w held')
+    × (length held' ≡ length held)
 
 -- ---- where a join stands
 
@@ -138,7 +103,7 @@ pub record Compared (cs : List ℕ) (x : Sides) (inner : ℕ) (hands form : List
   pub rest : Remains cs x.h x.second inner
   pub held : 0 < inner → InHand (stored_of x.h.edition) x.first.variables
       (form_in x.first.variables hands) hands
-  pub hands-room : length hands ≡ two_hands
+  pub hands-room : length hands ≡ hand
   pub form-room : length form ≡ most_tokens
 
 pub record Stands (cs : List ℕ) (x : Sides) (at : Cursor) (hands form : List ℕ) : Type 0 where
@@ -177,19 +142,13 @@ FirstTooLong edition ws = (w : Word) × (rest : List Word) × (ws ≡ w ∷ rest
     × (256 < length ((stored_of edition).cells w))
 
 -- what the search for a match with the answer in hand answers and leaves
-abbrev pub Finds : List ℕ → Sides → List ℕ → List ℕ → ℕ → List ℕ → List ℕ → List ℕ → Found → Type 0
-Finds cs x ps ks from hands hands' form' (found.At next n) =
-    Compared cs x next hands' form'
-    × FormLeft x.h.edition form' n (along_hand cs x ps ks from hands) (along_hand cs x ps ks next hands')
-Finds cs x ps ks from hands hands' form' found.TooLong = FirstTooLong x.h.edition (along_hand cs x ps ks from hands)
-Finds cs x ps ks from hands hands' form' found.End =
-    (along_hand cs x ps ks from hands ≡ []) × (length hands' ≡ two_hands) × (length form' ≡ most_tokens)
-
--- what was found, as a match of the join
-unfoldable pub match_at : ℕ → Found → Match
-match_at outer (found.At inner n) = match.At (record { outer = outer; inner = inner }) n
-match_at outer found.TooLong = match.TooLong
-match_at outer found.End = match.End
+abbrev pub Finds : List ℕ → Sides → List ℕ → List ℕ → ℕ → List ℕ → List ℕ → Found → Type 0
+Finds cs x ps ks from hands form' (found.At next n) =
+    Compared cs x next hands form'
+    × FormLeft x.h.edition form' n (along_hand cs x ps ks from hands) (along_hand cs x ps ks next hands)
+Finds cs x ps ks from hands form' found.TooLong = FirstTooLong x.h.edition (along_hand cs x ps ks from hands)
+Finds cs x ps ks from hands form' found.End =
+    (along_hand cs x ps ks from hands ≡ []) × (length form' ≡ most_tokens)
 
 -- what the search for the next match answers and leaves
 abbrev pub Advances : List ℕ → Sides → List ℕ → List ℕ → Cursor → List ℕ → List ℕ → List ℕ → Match → Type 0
@@ -198,3 +157,14 @@ Advances cs x ps ks from hands hands' form' (match.At next n) =
     × FormLeft x.h.edition form' n (to_come cs x ps ks from hands) (to_come cs x ps ks next hands')
 Advances cs x ps ks from hands hands' form' match.TooLong = FirstTooLong x.h.edition (to_come cs x ps ks from hands)
 Advances cs x ps ks from hands hands' form' match.End = to_come cs x ps ks from hands ≡ []
+
+-- ---- a walk
+
+abbrev pub WalkStands : List ℕ → Sides → Walk → Type 0
+WalkStands cs x w = Stands cs x w.at w.first w.form
+
+-- the walk stands behind the match, and its form is in the cells of the walk
+abbrev pub WalksOn : List ℕ → Sides → List ℕ → List ℕ → Walk → Walk → Match → Type 0
+WalksOn cs x ps ks w w' (match.At next n) = Advances cs x ps ks w.at w.first w'.first w'.form (match.At w'.at n)
+WalksOn cs x ps ks w w' match.TooLong = FirstTooLong x.h.edition (to_come cs x ps ks w.at w.first)
+WalksOn cs x ps ks w w' match.End = to_come cs x ps ks w.at w.first ≡ []

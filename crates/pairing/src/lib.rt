@@ -8,6 +8,8 @@
 pub mod counting;
 pub mod cursors;
 
+use basis::limits::MOST_TOKENS;
+use parts::HAND;
 use space::Head;
 
 // A source of a join, once its answers are judged.
@@ -37,6 +39,25 @@ pub struct Sides {
 pub struct Cursor {
     pub outer: usize,
     pub inner: usize,
+}
+
+// What a join asks for: the pairs of terms that are to be equal, the terms that its forms are put together from, and
+// the index by which they are searched in the target.
+#[derive(Clone, Copy)]
+pub struct Request<'a> {
+    pub pairs: &'a [u32],
+    pub copies: &'a [u32],
+    pub index: &'a [u32],
+}
+
+// A walk over the pairs of a join: where it stands, the answers of both sources that are in hand, and the cells of the
+// form that it came to last.
+#[derive(Drop)]
+pub struct Walk {
+    pub at: Cursor,
+    pub first: [u32; HAND],
+    pub second: [u32; HAND],
+    pub form: [u32; MOST_TOKENS],
 }
 
 // The next answer of the second that matches the one in hand: the answer behind it, and the tokens of the joined

@@ -1,5 +1,5 @@
 -- The cells of terms, counted by their tokens.
-use Prim.Native.Nat.{ℕ, suc, ◌+◌, ◌-◌, ◌≤◌, ◌<◌}
+use Prim.Native.Nat.{ℕ, suc, ◌+◌, ◌<◌}
 use mathlib.Core.Bool.{Bool, true, false}
 use mathlib.Core.List.{List, [], ◌∷◌, ◌++◌}
 use mathlib.Core.Path.{◌≡◌, refl, ap, ◌∙◌}
@@ -17,7 +17,7 @@ use Rattle.forms.specs.Terms.{Term, cell, arg, pair, pairs, every}
 use Rattle.forms.specs.Compact.{compact, elements}
 use Rattle.forms.proofs.ReadLaws.{WellFormed, AllWellFormed}
 use Rattle.convert.proofs.CopyLaws.{take-grow}
-use Rattle.parts.specs.Segments.{takes, solid, weight, weights, all_take, Countable, CountsTo}
+use Rattle.parts.specs.Segments.{takes, solid, weight, weights, all_take}
 
 module _ (arity : ℕ → ℕ) where
   -- ---- tokens one behind another
@@ -136,13 +136,3 @@ module _ (arity : ℕ → ℕ) where
         one t h.0,
         every-counted tokens one ts h.1,
       )
-
-  -- both sums over all tokens
-  pub sums-end : (form : List ℕ) (n k at cells due : ℕ) → Countable arity form n k → at ≤ n → n ≤ at
-      → cells ≡ weights arity (take at form) → due ≡ all_take arity (take at form) + k
-      → (due ≤ cells) × CountsTo arity (take n form) k (cells - due)
-  sums-end form n k at cells due h low high p q =
-      let e : at ≡ n = omega arith in
-      let a : cells ≡ weights arity (take n form) = p ∙ ap (λ (i : ℕ). weights arity (take i form)) e in
-      let b : due ≡ all_take arity (take n form) + k = q ∙ ap (λ (i : ℕ). all_take arity (take i form) + k) e in
-      (omega (arith, h.taken), omega (arith, h.taken))

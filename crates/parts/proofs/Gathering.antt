@@ -66,13 +66,12 @@ module _ (rule : Rule) (copies : List ℕ) (w : Word) (t : Whole rule copies w) 
   whole-short h = omega (arith, every-below rule t.these, ap length t.tokens, ap length t.cells)
 
   -- the cells by the tokens
-  pub whole-countable : (form : List ℕ) (n k : ℕ) → w ≡ take n form → n ≤ length form → n ≤ 383 → length copies ≡ 2 * k → Countable rule.arity form n k
+  pub whole-countable : (form : List ℕ) (n k : ℕ) → w ≡ take n form → n ≤ length form → n ≤ 383 → length copies ≡ 2 * k → Countable rule.arity (take n form) k
   whole-countable form n k e l s z =
       let a : length w ≡ n = ap length e ∙ length-take-le n form l in
       let b : length w ≡ length (every rule.stored.tokens t.these) = ap length t.tokens in
       record {
-        inside = l;
-        short = s;
+        short = omega (arith, length-take-le n form l);
         few = omega (arith, every-least rule t.these, t.count);
         taken = rw (sym e ∙ t.tokens) (omega (arith, every-counts rule t.these t.well, t.count));
       }
@@ -204,22 +203,22 @@ module _ (e : ℕ) (copies outer inner form : List ℕ) (i to : ℕ) (g : Gather
       size = z;
     }
 
-    half : (k : ℕ) → length copies ≡ 2 * k → k ≡ i / 2
+    half : (k : ℕ) → length copies ≡ 2 * k → k ≡ length copies / 2
     half k y = omega (arith, g.low)
 
-    pub gathered-countable : Copyable e copies outer inner form₀ → Countable (arity_of e) form to (i / 2)
+    pub gathered-countable : Copyable e copies outer inner form₀ → Countable (arity_of e) (take to form) (length copies / 2)
     gathered-countable c =
         let w : Word = copied copies (parts (stored_of e) c.u) (parts (stored_of e) c.v) in
         let t = whole (rule_of e) c.m c.n c.u c.v copies outer inner c.first c.second c.named in
-        whole-countable (rule_of e) copies w t form to (i / 2) (gathered c.m c.n c.u c.v c.first c.second c.named)
+        whole-countable (rule_of e) copies w t form to (length copies / 2) (gathered c.m c.n c.u c.v c.first c.second c.named)
         (omega (arith, g.small, g.room)) g.small (omega (arith, half (length t.these) t.count, t.count))
 
-    module _ (r : ℕ) (counts : CountsTo (arity_of e) (take to form) (i / 2) r) where
+    module _ (r : ℕ) (counts : CountsTo (arity_of e) (take to form) (length copies / 2) r) where
       cells : (m n : ℕ) (u v : Word) → InHand (stored_of e) m u outer → InHand (stored_of e) n v inner → copies_named m n copies ≡ true
           → length ((stored_of e).cells (copied copies (parts (stored_of e) u) (parts (stored_of e) v))) ≡ r
       cells m n u v f k y =
           let t = whole (rule_of e) m n u v copies outer inner f k y in
-          whole_cells (rule_of e) copies (copied copies (parts (stored_of e) u) (parts (stored_of e) v)) t form to (i / 2) r (gathered m n u v f k y)
+          whole_cells (rule_of e) copies (copied copies (parts (stored_of e) u) (parts (stored_of e) v)) t form to (length copies / 2) r (gathered m n u v f k y)
           (omega (arith, half (length t.these) t.count, t.count)) counts
 
       pub gathered-long : 256 < r → Copies e copies outer inner form₀ form TooLong
@@ -233,3 +232,10 @@ module _ (e : ℕ) (copies outer inner form : List ℕ) (i to : ℕ) (g : Gather
             (sym (size_of w q), sym q, omega (arith, cells m n u v f k y));
         size = z;
       }
+
+-- all copies are passed
+pub record AllGathered (e : ℕ) (copies outer inner form₀ form : List ℕ) (to : ℕ) : Type 0 where
+  pub at : ℕ
+  pub gathered : Gathered e copies outer inner form at to
+  pub ends : length copies ≤ at
+  pub size : length form ≡ length form₀

@@ -6,7 +6,6 @@ pub mod Passing
 pub mod JoinedForms
 pub mod SegmentLaws
 pub mod EqualTokens
-pub mod CopyTokens
 pub mod NamedTerms
 pub mod Matching
 pub mod Gathering

@@ -55,12 +55,11 @@ unfoldable pub all_take : (ℕ → ℕ) → List ℕ → ℕ
 all_take arity [] = 0
 all_take arity (c ∷ cs) = takes arity c + all_take arity cs
 
--- n tokens of k terms, in which no more is taken than they weigh
-pub record Countable (arity : ℕ → ℕ) (form : List ℕ) (n k : ℕ) : Type 0 where
-  pub inside : n ≤ length form
-  pub short : n ≤ 383
+-- the tokens of k terms, in which no more is taken than they weigh
+pub record Countable (arity : ℕ → ℕ) (form : List ℕ) (k : ℕ) : Type 0 where
+  pub short : length form ≤ 383
   pub few : k ≤ 383
-  pub taken : all_take arity (take n form) + k ≤ weights arity (take n form)
+  pub taken : all_take arity form + k ≤ weights arity form
 
 -- the cells of k terms by their tokens
 abbrev pub CountsTo : (ℕ → ℕ) → List ℕ → ℕ → ℕ → Type 0

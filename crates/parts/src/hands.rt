@@ -7,25 +7,20 @@ ghost use Rattle.parts.specs.Segments.{Spans, segment, Room, Extends};
 use basis::limits::MOST_TOKENS;
 use basis::wide;
 
+// The tokens of term x of an answer.
+fn tokens_of(held: &[u32], x: usize) -> &[u32]
+    requires { Spans held.now x }
+    ensures { result.now ≡ segment held.now x }
+{
+    &held[wide(held[x])..wide(held[x + 1])]
+}
+
 // Whether term x of the first answer and term y of the second have the same tokens.
 pub fn are_equal(outer: &[u32], x: usize, inner: &[u32], y: usize) -> bool
     requires { Spans outer.now x × Spans inner.now y }
     ensures { result ≡ same (segment outer.now x) (segment inner.now y) }
 {
-    let end = wide(outer[x + 1]);
-    let mut at = wide(outer[x]);
-    let mut other = wide(inner[y]);
-    if end - at != wide(inner[y + 1]) - other {
-        return false;
-    }
-    while at < end {
-        if outer[at] != inner[other] {
-            return false;
-        }
-        at += 1;
-        other += 1;
-    }
-    true
+    tokens_of(outer, x) == tokens_of(inner, y)
 }
 
 // Copies term x of an answer to place `to` of a form, where it ends within 383 tokens, and gives the place behind it.
@@ -33,17 +28,10 @@ fn copy_term(held: &[u32], x: usize, form: &mut [u32], to: usize) -> usize
     requires { Room held.now x form.old to }
     ensures { Extends form.old to (segment held.now x) form.new result }
 {
-    let mut from = wide(held[x]);
-    let end = wide(held[x + 1]);
-    let behind = to + (end - from);
-    if MOST_TOKENS < behind {
-        return behind;
-    }
-    let mut at = to;
-    while at < behind {
-        form[at] = held[from];
-        at += 1;
-        from += 1;
+    let tokens = tokens_of(held, x);
+    let behind = to + tokens.len();
+    if behind <= MOST_TOKENS {
+        form[to..behind].copy_from_slice(tokens);
     }
     behind
 }

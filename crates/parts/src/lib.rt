@@ -29,20 +29,16 @@ pub fn take_in_hand(form: &[u32], m: usize, held: &mut [u32], edition: u32)
     requires { Takeable edition m form.now held.old }
     ensures { Taken edition m form.now held.old held.new }
 {
-    let mut at = 0;
     let mut begun = 0;
     let mut due = 0;
     let mut depth: usize = 0;
-    while at < form.len() {
+    for (at, &c) in form.iter().enumerate() {
         if due == 0 {
             held[begun] = (HANDED + at) as u32;
             begun += 1;
             due = 1;
-            continue;
         }
-        let c = form[at];
         held[HANDED + at] = c;
-        at += 1;
         if c == forms::BLIST {
             depth += 1;
             continue;
@@ -51,12 +47,11 @@ pub fn take_in_hand(form: &[u32], m: usize, held: &mut [u32], edition: u32)
             depth -= 1;
             continue;
         }
-        if 0 < depth {
-            continue;
+        if depth == 0 {
+            due = forms::due_after(due, forms::arguments_of(c, edition));
         }
-        due = forms::due_after(due, forms::arguments_of(c, edition));
     }
-    held[m] = (HANDED + at) as u32;
+    held[m] = (HANDED + form.len()) as u32;
 }
 
 // Whether the terms that each pair names, of the first answer in hand and of the second, are equal.
@@ -64,14 +59,12 @@ pub fn matches(pairs: &[u32], outer: &[u32], inner: &[u32]) -> bool
     requires { Comparable pairs.now outer.now inner.now }
     ensures { Compares pairs.now outer.now inner.now result }
 {
-    let mut i = 0;
-    while i < pairs.len() {
+    for i in (0..pairs.len()).step_by(2) {
         let x = basis::wide(pairs[i]);
         let y = basis::wide(pairs[i + 1]);
         if !hands::are_equal(outer, x, inner, y) {
             return false;
         }
-        i += 2;
     }
     true
 }
@@ -88,20 +81,17 @@ pub fn put_together(
     requires { Copyable edition copies.now outer.now inner.now form.old }
     ensures { Copies edition copies.now outer.now inner.now form.old form.new result }
 {
-    let mut i = 0;
     let mut to = 0;
-    while i < copies.len() {
+    for i in (0..copies.len()).step_by(2) {
         let x = basis::wide(copies[i + 1]);
         to = hands::copy_from(copies[i], x, outer, inner, form, to);
         if MOST_TOKENS < to {
             return Together::TooLong;
         }
-        i += 2;
     }
-    if 2 * to <= MOST_CELLS {
-        return Together::Form(to);
-    }
-    if MOST_CELLS < tokens::cells_of(form, to, i / 2, edition) {
+    if MOST_CELLS < 2 * to
+        && MOST_CELLS < tokens::cells_of(&form[..to], copies.len() / 2, edition)
+    {
         return Together::TooLong;
     }
     Together::Form(to)

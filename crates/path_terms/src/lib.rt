@@ -9,7 +9,7 @@ ghost use Rattle.convert.specs.Holds.{RoomForTerms};
 ghost use Rattle.plain.specs.Coding.{predicate};
 ghost use Rattle.trie.specs.Runs.{Ends, path_to};
 ghost use Rattle.path_terms.specs.AlongPaths.{form_worth, worth, LoadsOf, LoadsTo, InstancesTo};
-ghost use Rattle.path_terms.specs.Tasks.{BothBegun, DoneTo};
+ghost use Rattle.path_terms.specs.Tasks.{BothBegun, Done, DoneTo};
 
 use convert::buffers::{
     FEW_TOKENS, SOME_TOKENS, TERMS_OF_FEW, TERMS_OF_MOST, TERMS_OF_SOME, tokens_rung,
@@ -47,10 +47,7 @@ pub struct Paths {
 fn begins(form: &[u32]) -> bool
     ensures { result ≡ predicate form.now }
 {
-    if form.len() == 0 {
-        return false;
-    }
-    is_callable(form[0])
+    form.len() != 0 && is_callable(form[0])
 }
 
 // What a gathered path is worth as the form of m legal terms: one more than its variables, or 0 where it is none, or
@@ -63,10 +60,7 @@ fn form_worth_with(form: &[u32], m: usize, called: bool, cells: &mut [u32], edit
     let Loaded::Counted(_, variables) = load_counted(form, m, cells, edition) else {
         return 0;
     };
-    if called {
-        if begins(form) {
-            return variables + 1;
-        }
+    if called && !begins(form) {
         return 0;
     }
     variables + 1
@@ -94,10 +88,8 @@ fn form_worth(form: &[u32], m: usize, called: bool, edition: u32) -> usize
 fn load_form(form: &[u32], m: usize, out: &mut [u32], edition: u32) -> usize
     ensures { LoadsOf form.now m edition out.old result out.new }
 {
-    let expanded = expand_terms(&form[..], m, out, edition);
-    match expanded {
-        Answer::Cells(n) => n + 1,
-        Answer::Short(n) => n + 1,
+    match expand_terms(&form[..], m, out, edition) {
+        Answer::Cells(n) | Answer::Short(n) => n + 1,
         Answer::Refused(_) => 0,
     }
 }
@@ -168,26 +160,34 @@ fn use_begun(
     instance_path(&above[j..], &path[k..], x.m, out, x.edition)
 }
 
+// A task with one path, from its leaf up.
+fn use_one(task: u32, space: &[u32], end: End, m: usize, out: &mut [u32], edition: u32) -> usize
+    requires { Ends space.now end }
+    ensures { Done task edition (path_to space.now end) (path_to space.now end) m out.old result out.new }
+{
+    let mut few = [0u32; LEVELS];
+    let begun = few_path(space, end, &mut few);
+    let x = Paths {
+        end,
+        begun,
+        subgoal: end,
+        above: begun,
+        m,
+        edition,
+    };
+    use_begun(task, space, x, &few, &few, out)
+}
+
 // What a path is worth, from its leaf up; a damaged one is worth 0.
 pub fn path_worth(space: &[u32], end: End, m: usize, called: bool, edition: u32) -> usize
     requires { Ends space.now end }
     ensures { result ≡ worth edition m called (path_to space.now end) }
 {
-    let mut few = [0u32; LEVELS];
-    let begun = few_path(space, end, &mut few);
-    let x = Paths {
-        end: end,
-        begun: begun,
-        subgoal: end,
-        above: begun,
-        m: m,
-        edition: edition,
-    };
     let mut none: [u32; 0] = [];
     if called {
-        return use_begun(CALLED, space, x, &few, &few, &mut none);
+        return use_one(CALLED, space, end, m, &mut none, edition);
     }
-    use_begun(JUDGE, space, x, &few, &few, &mut none)
+    use_one(JUDGE, space, end, m, &mut none, edition)
 }
 
 // The terms of an answer, by its path from the leaf up.
@@ -195,17 +195,7 @@ pub fn load_path(space: &[u32], end: End, m: usize, out: &mut [u32], edition: u3
     requires { Ends space.now end }
     ensures { LoadsTo space.now end m edition out.old result out.new }
 {
-    let mut few = [0u32; LEVELS];
-    let begun = few_path(space, end, &mut few);
-    let x = Paths {
-        end: end,
-        begun: begun,
-        subgoal: end,
-        above: begun,
-        m: m,
-        edition: edition,
-    };
-    use_begun(LOAD, space, x, &few, &few, out)
+    use_one(LOAD, space, end, m, out, edition)
 }
 
 // The instance of an answer, by its path and its subgoal's from the leaves up.
@@ -225,12 +215,12 @@ pub fn instance_paths(
     let mut called = [0u32; LEVELS];
     let above = few_path(space, subgoal, &mut called);
     let x = Paths {
-        end: end,
-        begun: begun,
-        subgoal: subgoal,
-        above: above,
-        m: m,
-        edition: edition,
+        end,
+        begun,
+        subgoal,
+        above,
+        m,
+        edition,
     };
     use_begun(INSTANCE, space, x, &few, &called, out)
 }

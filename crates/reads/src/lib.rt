@@ -1,32 +1,32 @@
 // Next, load, instance and counts: the calls that only read the space.
 #![tactic(auto)]
 
-ghost use Rattle.std.specs.Prelude.{◌≡◌, true, [], ◌≤◌, ◌<◌};
+ghost use Rattle.std.specs.Prelude.{◌≡◌, [], ◌≤◌};
 ghost use Rattle.plain.specs.Requests.{next, load, instance, counts, lacks_next};
 ghost use Rattle.space.specs.Sound.{Bounds};
-ghost use Rattle.store.specs.Decisions.{says, state_of, sound_pair, starting, handed, onward};
+ghost use Rattle.store.specs.Decisions.{says, state_of, starting, handed, onward};
 ghost use Rattle.store.specs.Calls.{Answers};
 ghost use Rattle.store.specs.Clauses.{view_in};
 ghost use Rattle.store.specs.Replies.{said_next, said_cells, said_counts};
 ghost use Rattle.instances.specs.Leaving.{sized};
-ghost use Rattle.reads.specs.Reading.{decided, loaded_answer, instanced_answer, Fills, HasAnswer};
+ghost use Rattle.reads.specs.Reading.{decided, Fills};
+ghost use Rattle.reads.specs.Pairs.{PairRead};
 
 use basis::refusals::{NUMBER, RECORDS};
 use basis::wide;
 use forms::Answer;
 use path_terms::{instance_paths, load_path};
 use space::heading::read_header;
-use space::records::{answer_in, read_answer, read_subgoal, subgoal_in};
-use space::{AnswerRead, Head, Header, SubgoalRead};
+use space::records::{answer_in, read_answer, read_subgoal};
+use space::{AnswerRead, Head, Header, Subgoal, SubgoalRead};
 use store::{Counts, CountsAnswer, NextAnswer, State};
-use trie::End;
+use trie::ends::{answer_end, subgoal_end};
 
 // Nodes, subgoals and answers used.
 pub fn counts(space: &[u32]) -> CountsAnswer
     ensures { Answers space.now counts (said_counts result) [] space.now }
 {
-    let header = read_header(space);
-    match header {
+    match read_header(space) {
         Header::Sound(h) => CountsAnswer::Used(Counts {
             nodes: h.nodes as u32,
             subgoals: h.subgoals as u32,
@@ -86,14 +86,7 @@ fn starts(space: &[u32], h: Head, s: usize, a: usize) -> bool
     requires { Bounds space.now h }
     ensures { result ≡ starting (view_in space.now h) s a }
 {
-    if a == 0 {
-        return true;
-    }
-    if h.answers < a {
-        return false;
-    }
-    let y = answer_in(space, h, a);
-    y.subgoal == s
+    a == 0 || a <= h.answers && answer_in(space, h, a).subgoal == s
 }
 
 // Next, under a sound header.
@@ -101,41 +94,37 @@ fn next_in(space: &[u32], h: Head, s: usize, a: usize) -> NextAnswer
     requires { Bounds space.now h }
     ensures { says (said_next result) ≡ decided (next s a) space.now h }
 {
-    if s == 0 {
+    if s == 0 || h.subgoals < s || !starts(space, h, s, a) {
         return NextAnswer::Refused(NUMBER);
     }
-    if h.subgoals < s {
-        return NextAnswer::Refused(NUMBER);
-    }
-    if starts(space, h, s, a) {
-        return go_on(space, h, s, a);
-    }
-    NextAnswer::Refused(NUMBER)
+    go_on(space, h, s, a)
 }
 
 // The subgoal's first answer after a given one, or after none.
 pub fn next(space: &[u32], subgoal: u32, after: u32) -> NextAnswer
     ensures { Answers space.now (next subgoal after) (said_next result) [] space.now }
 {
-    let header = read_header(space);
-    match header {
+    match read_header(space) {
         Header::Sound(h) => next_in(space, h, wide(subgoal), wide(after)),
         Header::Refused(r) => NextAnswer::Refused(r),
     }
 }
 
-// Are answer a and the subgoal that it names sound?
-fn pair_sound(space: &[u32], h: Head, a: usize) -> bool
-    requires { HasAnswer space.now h a }
-    ensures { result ≡ sound_pair (view_in space.now h) a }
+// Answer a and the subgoal that it names, or the refusal.
+fn read_pair(space: &[u32], h: Head, a: usize) -> Result<(space::Answer, Subgoal), u32>
+    requires { Bounds space.now h }
+    ensures { PairRead space.now h a result }
 {
+    if a == 0 || h.answers < a {
+        return Err(NUMBER);
+    }
     let AnswerRead::Sound(y) = read_answer(space, h, a) else {
-        return false;
+        return Err(RECORDS);
     };
-    let SubgoalRead::Sound(_) = read_subgoal(space, h, y.subgoal) else {
-        return false;
+    let SubgoalRead::Sound(g) = read_subgoal(space, h, y.subgoal) else {
+        return Err(RECORDS);
     };
-    true
+    Ok((y, g))
 }
 
 // The answer to a number of cells that were to be written to so much room: 0 is damage, any other one more than they
@@ -153,76 +142,30 @@ fn cells_answer(room: usize, n: usize) -> Answer
     Answer::Cells(cells)
 }
 
-// Load of an answer whose records are sound.
-fn load_with(space: &[u32], h: Head, a: usize, out: &mut [u32]) -> Answer
-    requires has_answer { HasAnswer space.now h a }
-    requires a_value { sound_pair (view_in space.now h) a ≡ true }
-    ensures { Fills (loaded_answer a) space.now h out.old result out.new }
-{
-    let y = answer_in(space, h, a);
-    let g = subgoal_in(space, h, y.subgoal);
-    let end = End {
-        nodes: h.nodes,
-        links: h.answers,
-        root: g.root,
-        leaf: y.leaf,
-    };
-    let room = out.len();
-    let n = load_path(space, end, g.variables, out, h.edition);
-    cells_answer(room, n)
-}
-
 // Load, under a sound header.
 fn load_in(space: &[u32], h: Head, a: usize, out: &mut [u32]) -> Answer
     requires { Bounds space.now h }
     ensures { Fills (decided (load a out.old)) space.now h out.old result out.new }
 {
-    if a == 0 {
-        return Answer::Refused(NUMBER);
+    match read_pair(space, h, a) {
+        Ok((y, g)) => {
+            let end = answer_end(h, g, y);
+            let room = out.len();
+            let n = load_path(space, end, g.variables, out, h.edition);
+            cells_answer(room, n)
+        }
+        Err(r) => Answer::Refused(r),
     }
-    if h.answers < a {
-        return Answer::Refused(NUMBER);
-    }
-    if pair_sound(space, h, a) {
-        return load_with(space, h, a, out);
-    }
-    Answer::Refused(RECORDS)
 }
 
 // The terms of an answer in pair form.
 pub fn load(space: &[u32], answer: u32, out: &mut [u32]) -> Answer
     ensures { Answers space.now (load answer out.old) (said_cells result) out.new space.now }
 {
-    let header = read_header(space);
-    match header {
+    match read_header(space) {
         Header::Sound(h) => load_in(space, h, wide(answer), out),
         Header::Refused(r) => Answer::Refused(r),
     }
-}
-
-// Instance of an answer whose records are sound.
-fn instance_with(space: &[u32], h: Head, a: usize, out: &mut [u32]) -> Answer
-    requires has_answer { HasAnswer space.now h a }
-    requires a_value { sound_pair (view_in space.now h) a ≡ true }
-    ensures { Fills (instanced_answer a) space.now h out.old result out.new }
-{
-    let y = answer_in(space, h, a);
-    let g = subgoal_in(space, h, y.subgoal);
-    let end = End {
-        nodes: h.nodes,
-        links: h.answers,
-        root: g.root,
-        leaf: y.leaf,
-    };
-    let subgoal = End {
-        nodes: h.nodes,
-        links: h.subgoals,
-        root: 0,
-        leaf: g.leaf,
-    };
-    let room = out.len();
-    let n = instance_paths(space, end, subgoal, g.variables, out, h.edition);
-    cells_answer(room, n)
 }
 
 // Instance, under a sound header.
@@ -230,24 +173,22 @@ fn instance_in(space: &[u32], h: Head, a: usize, out: &mut [u32]) -> Answer
     requires { Bounds space.now h }
     ensures { Fills (decided (instance a out.old)) space.now h out.old result out.new }
 {
-    if a == 0 {
-        return Answer::Refused(NUMBER);
+    match read_pair(space, h, a) {
+        Ok((y, g)) => {
+            let end = answer_end(h, g, y);
+            let room = out.len();
+            let n = instance_paths(space, end, subgoal_end(h, g), g.variables, out, h.edition);
+            cells_answer(room, n)
+        }
+        Err(r) => Answer::Refused(r),
     }
-    if h.answers < a {
-        return Answer::Refused(NUMBER);
-    }
-    if pair_sound(space, h, a) {
-        return instance_with(space, h, a, out);
-    }
-    Answer::Refused(RECORDS)
 }
 
 // The subgoal of an answer with variable i replaced by the answer's term i, in pair form.
 pub fn instance(space: &[u32], answer: u32, out: &mut [u32]) -> Answer
     ensures { Answers space.now (instance answer out.old) (said_cells result) out.new space.now }
 {
-    let header = read_header(space);
-    match header {
+    match read_header(space) {
         Header::Sound(h) => instance_in(space, h, wide(answer), out),
         Header::Refused(r) => Answer::Refused(r),
     }

@@ -59,11 +59,10 @@ fn subgoal_of(space: &[u32], h: Head, leaf: usize) -> u32
     ensures { NamesLeaf space.now h leaf result }
 {
     let y = node_in(space, h.nodes, leaf);
-    let found = call_old(space, h, leaf, y.link);
-    match found {
-        CallAnswer::Old(s, _) => return s,
-        CallAnswer::New(_) => return 0,
-        CallAnswer::Refused(_) => return 0,
+    match call_old(space, h, leaf, y.link) {
+        CallAnswer::Old(s, _) => s,
+        CallAnswer::New(_) => 0,
+        CallAnswer::Refused(_) => 0,
     }
 }
 
@@ -102,11 +101,10 @@ fn why_at(space: &[u32], h: Head, tokens: &[u32], m: usize, index: &[u32]) -> Re
     requires { Bounds space.now h × (length tokens.now < 2 ^ 32) }
     ensures { Reasons m (reasoned_from (search_indexed index.now h.nodes) (view_in space.now h) tokens.now m) result }
 {
-    let walked = walk_tokens(space, h.nodes, h.subgoals, 0, tokens, index, h.nodes);
-    match walked {
-        Walked::Whole(leaf) => return why_old(space, h, leaf, m),
-        Walked::Stopped(parent, _, left) => return why_new(space, h, parent, tokens.len() - left),
-        Walked::Damaged => return Reason::Refused(RECORDS),
+    match walk_tokens(space, h.nodes, h.subgoals, 0, tokens, index, h.nodes) {
+        Walked::Whole(leaf) => why_old(space, h, leaf, m),
+        Walked::Stopped(parent, _, left) => why_new(space, h, parent, tokens.len() - left),
+        Walked::Damaged => Reason::Refused(RECORDS),
     }
 }
 
@@ -144,10 +142,10 @@ fn with_variables(reason: Reason, vars: &[u32]) -> WhyAnswer
     match reason {
         Reason::Old(_, m) => {
             copy(vars, m, &mut variables);
-            return WhyAnswer { reason, variables };
+            WhyAnswer { reason, variables }
         }
-        Reason::New(_, _) => return WhyAnswer { reason, variables },
-        Reason::Refused(_) => return WhyAnswer { reason, variables },
+        Reason::New(_, _) => WhyAnswer { reason, variables },
+        Reason::Refused(_) => WhyAnswer { reason, variables },
     }
 }
 
@@ -156,9 +154,8 @@ pub fn why_indexed(space: &[u32], term: &[u32], index: &[u32]) -> WhyAnswer
     ensures answers_indexed { AnswersIndexed index.now space.now (request.why term.now) (said_why result) [] space.now }
     ensures names_held { NamesHeld result }
 {
-    let read = read_header(space);
-    match read {
-        Header::Refused(r) => return with_variables(Reason::Refused(r), &term[..0]),
+    match read_header(space) {
+        Header::Refused(r) => with_variables(Reason::Refused(r), &term[..0]),
         Header::Sound(h) => {
             if cells_rung(term.len()) <= FEW_CELLS {
                 let mut vars = [0u32; FEW_CELLS];
@@ -169,7 +166,7 @@ pub fn why_indexed(space: &[u32], term: &[u32], index: &[u32]) -> WhyAnswer
             let mut vars = [0u32; MOST_CELLS];
             let mut form = [0u32; FORM_OF_MOST];
             let reason = why_with(space, h, term, &mut vars, &mut form, index);
-            return with_variables(reason, &vars);
+            with_variables(reason, &vars)
         }
     }
 }

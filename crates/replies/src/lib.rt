@@ -49,8 +49,8 @@ fn put_state(state: State, text: &mut [u8], at: usize) -> usize
     ensures { Puts at (space ∷ state_text (said_state state)) text.old result text.new }
 {
     match state {
-        State::Open => return put(b" open", text, at),
-        State::Finished => return put(b" finished", text, at),
+        State::Open => put(b" open", text, at),
+        State::Finished => put(b" finished", text, at),
     }
 }
 
@@ -60,12 +60,12 @@ pub fn print_call(answer: CallAnswer, text: &mut [u8]) -> usize
     ensures { PrintsReply (said_call answer) text.old result text.new }
 {
     match answer {
-        CallAnswer::New(n) => return put_numbered(b"new", n, text, 0),
+        CallAnswer::New(n) => put_numbered(b"new", n, text, 0),
         CallAnswer::Old(n, state) => {
             let end = put_numbered(b"old", n, text, 0);
-            return put_state(state, text, end);
+            put_state(state, text, end)
         }
-        CallAnswer::Refused(r) => return print_refused(r, text),
+        CallAnswer::Refused(r) => print_refused(r, text),
     }
 }
 
@@ -75,9 +75,9 @@ pub fn print_answer(answer: AnswerAnswer, text: &mut [u8]) -> usize
     ensures { PrintsReply (said_answer answer) text.old result text.new }
 {
     match answer {
-        AnswerAnswer::New(n) => return put_numbered(b"new", n, text, 0),
-        AnswerAnswer::Old(n) => return put_numbered(b"old", n, text, 0),
-        AnswerAnswer::Refused(r) => return print_refused(r, text),
+        AnswerAnswer::New(n) => put_numbered(b"new", n, text, 0),
+        AnswerAnswer::Old(n) => put_numbered(b"old", n, text, 0),
+        AnswerAnswer::Refused(r) => print_refused(r, text),
     }
 }
 
@@ -87,8 +87,8 @@ pub fn print_finish(answer: FinishAnswer, text: &mut [u8]) -> usize
     ensures { PrintsReply (said_finish answer) text.old result text.new }
 {
     match answer {
-        FinishAnswer::Done => return put(b"done", text, 0),
-        FinishAnswer::Refused(r) => return print_refused(r, text),
+        FinishAnswer::Done => put(b"done", text, 0),
+        FinishAnswer::Refused(r) => print_refused(r, text),
     }
 }
 
@@ -98,8 +98,8 @@ fn print_lacking(state: State, text: &mut [u8]) -> usize
     ensures { PrintsReply (lacks_next (said_state state)) text.old result text.new }
 {
     match state {
-        State::Open => return put(b"none yet", text, 0),
-        State::Finished => return put(b"no more", text, 0),
+        State::Open => put(b"none yet", text, 0),
+        State::Finished => put(b"no more", text, 0),
     }
 }
 
@@ -109,9 +109,9 @@ pub fn print_next(answer: NextAnswer, text: &mut [u8]) -> usize
     ensures { PrintsReply (said_next answer) text.old result text.new }
 {
     match answer {
-        NextAnswer::At(n) => return put_numbered(b"at", n, text, 0),
-        NextAnswer::Lacking(state) => return print_lacking(state, text),
-        NextAnswer::Refused(r) => return print_refused(r, text),
+        NextAnswer::At(n) => put_numbered(b"at", n, text, 0),
+        NextAnswer::Lacking(state) => print_lacking(state, text),
+        NextAnswer::Refused(r) => print_refused(r, text),
     }
 }
 
@@ -131,8 +131,8 @@ pub fn print_counts(answer: CountsAnswer, text: &mut [u8]) -> usize
     ensures { PrintsReply (said_counts answer) text.old result text.new }
 {
     match answer {
-        CountsAnswer::Used(used) => return print_used(used, text),
-        CountsAnswer::Refused(r) => return print_refused(r, text),
+        CountsAnswer::Used(used) => print_used(used, text),
+        CountsAnswer::Refused(r) => print_refused(r, text),
     }
 }
 
@@ -141,17 +141,16 @@ pub fn print_why(answer: WhyAnswer, text: &mut [u8]) -> usize
     requires { NamesHeld answer × (reply_bytes ≤ length text.old) }
     ensures { PrintsReply (said_why answer) text.old result text.new }
 {
-    let reason = answer.reason;
-    match reason {
+    match answer.reason {
         Reason::Old(n, m) => {
             let end = put_numbered(b"old", n, text, 0);
-            return put_cells(&answer.variables, m, text, end);
+            put_cells(&answer.variables[..m], text, end)
         }
         Reason::New(k, s) => {
             let end = put_numbered(b"new", k, text, 0);
-            return put_field(s, DECIMAL, 1, text, end);
+            put_field(s, DECIMAL, 1, text, end)
         }
-        Reason::Refused(r) => return print_refused(r, text),
+        Reason::Refused(r) => print_refused(r, text),
     }
 }
 
@@ -165,9 +164,9 @@ pub fn print_cells(answer: Answer, out: &[u32], text: &mut [u8]) -> usize
     match answer {
         Answer::Cells(n) => {
             let end = put(b"cells", text, 0);
-            return put_cells(out, n, text, end);
+            put_cells(&out[..n], text, end)
         }
-        Answer::Refused(r) => return print_refused(r, text),
-        Answer::Short(_) => return print_refused(OUT, text),
+        Answer::Refused(r) => print_refused(r, text),
+        Answer::Short(_) => print_refused(OUT, text),
     }
 }

@@ -34,31 +34,26 @@ pub enum Keyword {
 fn keyword_of(word: &[u8]) -> Keyword
     ensures { result ≡ keyword_of word.now }
 {
+    // A match on byte strings tests byte by byte: over thirty goals, which did not close.
     if is_word(word, b"call") {
-        return Keyword::Call;
+        Keyword::Call
+    } else if is_word(word, b"answer") {
+        Keyword::Answer
+    } else if is_word(word, b"finish") {
+        Keyword::Finish
+    } else if is_word(word, b"next") {
+        Keyword::Next
+    } else if is_word(word, b"load") {
+        Keyword::Load
+    } else if is_word(word, b"instance") {
+        Keyword::Instance
+    } else if is_word(word, b"counts") {
+        Keyword::Counts
+    } else if is_word(word, b"why") {
+        Keyword::Why
+    } else {
+        Keyword::Other
     }
-    if is_word(word, b"answer") {
-        return Keyword::Answer;
-    }
-    if is_word(word, b"finish") {
-        return Keyword::Finish;
-    }
-    if is_word(word, b"next") {
-        return Keyword::Next;
-    }
-    if is_word(word, b"load") {
-        return Keyword::Load;
-    }
-    if is_word(word, b"instance") {
-        return Keyword::Instance;
-    }
-    if is_word(word, b"counts") {
-        return Keyword::Counts;
-    }
-    if is_word(word, b"why") {
-        return Keyword::Why;
-    }
-    Keyword::Other
 }
 
 // The reply to a line that is not too long, by its first word; without the newline.
@@ -69,8 +64,7 @@ fn reply(line: &[u8], space: &mut [u32], out: &mut [u32], text: &mut [u8]) -> us
     ensures out_value { out.new ≡ (word_said line.now space.old out.old).out }
 {
     let at = first_end(line);
-    let keyword = keyword_of(&line[..at]);
-    match keyword {
+    match keyword_of(&line[..at]) {
         Keyword::Call => ask_call(line, at, space, text),
         Keyword::Answer => ask_answer(line, at, space, text),
         Keyword::Finish => ask_finish(line, at, space, text),
@@ -91,19 +85,17 @@ fn reply_or_bad(line: &[u8], space: &mut [u32], out: &mut [u32], text: &mut [u8]
     ensures out_value { out.new ≡ (line_said line.now space.old out.old).out }
 {
     if line.len() <= LONGEST_LINE {
-        return reply(line, space, out, text);
+        reply(line, space, out, text)
+    } else {
+        print_bad(text)
     }
-    print_bad(text)
 }
 
 // Has the text room for any reply? Divided, since the bytes for so many cells could overflow.
 fn has_room(out: &[u32], text: &[u8]) -> bool
     ensures { result ≡ leb (text_room (length out.now)) (length text.now) }
 {
-    if text.len() < REPLY_BYTES {
-        return false;
-    }
-    out.len() <= (text.len() - REPLY_BYTES) / CELL_BYTES
+    REPLY_BYTES <= text.len() && out.len() <= (text.len() - REPLY_BYTES) / CELL_BYTES
 }
 
 // Answers a line: what is to be printed stands at the start of text, with its newline, and its length
@@ -118,7 +110,8 @@ pub fn respond(line: &[u8], space: &mut [u32], out: &mut [u32], text: &mut [u8])
     if has_room(out, text) {
         let end = reply_or_bad(line, space, out, text);
         text[end] = b'\n';
-        return end + 1;
+        end + 1
+    } else {
+        0
     }
-    0
 }

@@ -38,6 +38,7 @@ pub fn start(space: &mut [u32]) -> FreshAnswer
     fresh(space, NODES, SUBGOALS, ANSWERS, EDITION)
 }
 
+// One of each, since the contract of each holds a constant to the specs' number: with `[0; N]` alone nothing would.
 pub fn new_space() -> [u32; SPACE_CELLS]
     ensures { space_cells ≡ length result }
 {

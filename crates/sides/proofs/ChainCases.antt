@@ -20,8 +20,8 @@ use Rattle.space.specs.declared.Answer.{Answer}
 use Rattle.space.specs.declared.AnswerRead.TheVariants as answer
 use Rattle.space.proofs.JudgingLaws.{answer-bounds, read-answer-sound, follows-rises, follows-within}
 use Rattle.trie.specs.Paths.{Path, none, tokens}
+use Rattle.trie.specs.Ends.{answer_end}
 use Rattle.trie.specs.Runs.{path_to}
-use Rattle.trie.specs.declared.End.{End}
 use Rattle.store.specs.Clauses.{view_in}
 use Rattle.store.specs.Decisions.{Chain, broken, unbroken, headed, chain_from, chain_of}
 use Rattle.path_terms.specs.AlongPaths.{worth}
@@ -64,9 +64,6 @@ unfolding headed prepended
 headed-legal test w t broken = refl
 headed-legal test w t (unbroken ws) = rw t refl
 
-abbrev pub end_of : Head → Subgoal → Answer → End
-end_of h g y = record { nodes = h.nodes; links = h.answers; root = g.root; leaf = y.leaf }
-
 module _ (cs : List ℕ) (h : Head) (s a : ℕ) (z : a ≡ 0 → ⊥) where
   pub answer-damaged : answer.Damaged ≡ reads-answer (view_in cs h) a → AnswerJudged cs h s a member.Damaged
   unfolding chain_from
@@ -89,16 +86,16 @@ module _ (cs : List ℕ) (h : Head) (s a : ℕ) (z : a ≡ 0 → ⊥) where
     module _ (o : y.subgoal ≡ s) (g : Subgoal) (f : g ≡ subgoal_under cs h s) where
       -- the chain from a on: its path before what follows
       from-here : (steps : ℕ) → chain_in cs h s (suc steps) a
-          ≡ headed ((stored_of h.edition).legal g.variables) (path_to cs (end_of h g y)) (chain_in cs h s steps y.next)
+          ≡ headed ((stored_of h.edition).legal g.variables) (path_to cs (answer_end h g y)) (chain_in cs h s steps y.next)
       unfolding chain_from
       from-here steps =
           rw (f, read.0)
           (simp (ne_eqb _ _ z, read.1, eq-eqb _ _ (ap (λ (w : Answer). w.subgoal) (sym read.0) ∙ o)))
 
-      pub answer-broken : PathBroken h.edition (path_to cs (end_of h g y)) g.variables → AnswerJudged cs h s a member.Damaged
+      pub answer-broken : PathBroken h.edition (path_to cs (answer_end h g y)) g.variables → AnswerJudged cs h s a member.Damaged
       answer-broken p steps = from-here steps ∙ p (chain_in cs h s steps y.next)
 
-      pub answer-held : (b : Bool) → PathHeld h.edition (path_to cs (end_of h g y)) g.variables b → AnswerJudged cs h s a (member.Sound y.next b)
+      pub answer-held : (b : Bool) → PathHeld h.edition (path_to cs (answer_end h g y)) g.variables b → AnswerJudged cs h s a (member.Sound y.next b)
       answer-held b p = (
         onward,
         (

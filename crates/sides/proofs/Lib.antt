@@ -1,5 +1,4 @@
 pub mod CountLaws
-mod Places
 mod NameCases
 mod ChainCases
 mod SearchCases

@@ -4,9 +4,13 @@ use mathlib.Core.Path.{◌≡◌, refl, ap, ◌∙◌}
 use mathlib.Core.Bool.{Bool, true, false}
 use mathlib.Core.List.{List, ◌∷◌}
 use native.Mathlib.Omega.{arith}
-use lib.Dec.{eqb}
+use lib.Dec.{eqb, ltb}
 use lib.ListN.{length, get_or, drop, drop_of_length-le}
-use borrow.Author.Tests.{eq-eqb, ne_eqb}
+use lib.Seq.{drop-cons}
+use native.Mathlib.Numerals.{add-one}
+use borrow.Author.Tests.{eq-eqb, ne_eqb, ltb-true, ltb-false}
+use Rattle.basis.proofs.Cases.{by_cases}
+use Rattle.basis.proofs.Tests.{at_most}
 use Rattle.basis.specs.Choice.{pick}
 use Rattle.plain.specs.Words.{Word, common}
 use Rattle.space.specs.Layout.{sizes, node_in}
@@ -24,7 +28,6 @@ use Rattle.store.specs.Clauses.{view_in}
 use Rattle.store.specs.Decisions.{met_sound, lacking, missing}
 use Rattle.store.proofs.CallsWalks.{shown-whole, shown-stopped, shown-damaged}
 use Rattle.store.proofs.CallsRecords.{reads-answer, read-answer-damaged}
-use Rattle.sides.proofs.Places.{drop-next}
 use Rattle.sides.specs.Searches.{whole_sound, Searched}
 
 -- ---- a form found whole
@@ -76,16 +79,19 @@ module _ (find : Finding) (cs : List ℕ) (h : Head) (root : ℕ) (w : Word) whe
 
 -- ---- what two forms share
 
+drop-next : (xs : List ℕ) (i : ℕ) → i < length xs → drop i xs ≡ get_or xs i 0 ∷ drop (i + 1) xs
+drop-next xs i h = rw add-one (drop-cons xs i 0 h)
+
 module _ (xs ys : List ℕ) (i : ℕ) where
   module _ (e : i + common (drop i xs) (drop i ys) ≡ common xs ys) where
-    pub common-first : length xs ≤ i → i ≡ common xs ys
+    common-first : length xs ≤ i → i ≡ common xs ys
     unfolding common
     common-first l =
         let f : common (drop i xs) (drop i ys) ≡ 0 = ap (λ (u : List ℕ). common u (drop i ys)) (drop_of_length-le xs {i = i} l) in
         omega arith
 
     module _ (h : i < length xs) where
-      pub common-second : length ys ≤ i → i ≡ common xs ys
+      common-second : length ys ≤ i → i ≡ common xs ys
       unfolding common
       common-second l =
           let f : common (drop i xs) (drop i ys) ≡ 0 =
@@ -104,3 +110,8 @@ module _ (xs ys : List ℕ) (i : ℕ) where
         common-next o =
             let f : common (drop i xs) (drop i ys) ≡ suc (common (drop (i + 1) xs) (drop (i + 1) ys)) = both ∙ simp (eq-eqb _ _ o) in
             omega arith
+
+    pub common-ended : (i < length xs → i < length ys → ⊥) → i ≡ common xs ys
+    common-ended o = by_cases (ltb i (length xs))
+        (λ t. common-second (ltb-true _ _ t) (at_most _ _ (o (ltb-true _ _ t))))
+        (λ t. common-first (ltb-false _ _ t))

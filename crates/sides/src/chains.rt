@@ -1,6 +1,6 @@
 // The answers of a source, judged one after another: each record as next judges it, each path as load does, and whether
 // a form holds a variable.
-ghost use Rattle.std.specs.Prelude.{◌≡◌, ◌&&◌, ◌≤◌};
+ghost use Rattle.std.specs.Prelude.{◌≡◌, ◌≤◌};
 ghost use Rattle.trie.specs.Runs.{Ends, path_to};
 ghost use Rattle.store.specs.Clauses.{Held};
 ghost use Rattle.sides.specs.Chains.{PathJudged, AnswerJudged, ChainJudged};
@@ -10,29 +10,18 @@ use path_terms::path_worth;
 use space::records::read_answer;
 use space::{AnswerRead, Head, Subgoal};
 use trie::End;
-
-fn both(a: bool, b: bool) -> bool
-    ensures { result ≡ (a && b) }
-{
-    if a {
-        return b;
-    }
-    false
-}
+use trie::ends::answer_end;
 
 // The path of an answer, from its leaf up.
 fn judge_path(space: &[u32], end: End, m: usize, edition: u32) -> Judged
     requires { Ends space.now end }
     ensures { PathJudged edition (path_to space.now end) m result }
 {
-    let n = path_worth(space, end, m, false, edition);
-    if n == 0 {
-        return Judged::Damaged;
+    match path_worth(space, end, m, false, edition) {
+        0 => Judged::Damaged,
+        1 => Judged::Ground,
+        _ => Judged::Variable,
     }
-    if n == 1 {
-        return Judged::Ground;
-    }
-    Judged::Variable
 }
 
 // Answer a, which is to be the subgoal's. What follows it is judged also where its form holds a variable.
@@ -46,17 +35,11 @@ fn judge_answer(space: &[u32], h: Head, s: usize, g: Subgoal, a: usize) -> Membe
     if y.subgoal != s {
         return Member::Damaged;
     }
-    let end = End {
-        nodes: h.nodes,
-        links: h.answers,
-        root: g.root,
-        leaf: y.leaf,
-    };
-    let judged = judge_path(space, end, g.variables, h.edition);
-    match judged {
-        Judged::Damaged => return Member::Damaged,
-        Judged::Ground => return Member::Sound(y.next, true),
-        Judged::Variable => return Member::Sound(y.next, false),
+    let end = answer_end(h, g, y);
+    match judge_path(space, end, g.variables, h.edition) {
+        Judged::Damaged => Member::Damaged,
+        Judged::Ground => Member::Sound(y.next, true),
+        Judged::Variable => Member::Sound(y.next, false),
     }
 }
 
@@ -69,14 +52,11 @@ pub fn judge(space: &[u32], h: Head, s: usize, g: Subgoal) -> Judged
     let mut a = g.first;
     let mut ground = true;
     while a != 0 {
-        let member = judge_answer(space, h, s, g, a);
-        match member {
-            Member::Sound(next, free) => {
-                ground = both(ground, free);
-                a = next;
-            }
-            Member::Damaged => return Judged::Damaged,
-        }
+        let Member::Sound(next, free) = judge_answer(space, h, s, g, a) else {
+            return Judged::Damaged;
+        };
+        ground &= free;
+        a = next;
     }
     if ground {
         return Judged::Ground;

@@ -13,44 +13,39 @@ const PAIR_CELLS: usize = 2 * MOST_PAIRS;
 fn variables_of(side: u32, m: usize, n: usize) -> usize
     ensures { result ≡ variables_of m n side }
 {
-    if side == 0 {
-        return m;
+    match side {
+        0 => m,
+        1 => n,
+        _ => 0,
     }
-    if side == 1 {
-        return n;
-    }
-    0
 }
 
 // Are both variables of each pair below their source's number of variables?
 fn pairs_named(pairs: &[u32], m: usize, n: usize) -> bool
     ensures { result ≡ pairs_named m n pairs.now }
 {
-    let mut i = 0;
-    while i + 1 < pairs.len() {
-        if m <= wide(pairs[i]) {
+    let mut rest = pairs;
+    while let [first, second, after @ ..] = rest {
+        if m <= wide(*first) || n <= wide(*second) {
             return false;
         }
-        if n <= wide(pairs[i + 1]) {
-            return false;
-        }
-        i += 2;
+        rest = after;
     }
-    i == pairs.len()
+    rest.is_empty()
 }
 
 // Is the variable of each copy below the number of variables of the source on its side?
 fn copies_named(copies: &[u32], m: usize, n: usize) -> bool
     ensures { result ≡ copies_named m n copies.now }
 {
-    let mut i = 0;
-    while i + 1 < copies.len() {
-        if variables_of(copies[i], m, n) <= wide(copies[i + 1]) {
+    let mut rest = copies;
+    while let [side, variable, after @ ..] = rest {
+        if variables_of(*side, m, n) <= wide(*variable) {
             return false;
         }
-        i += 2;
+        rest = after;
     }
-    i == copies.len()
+    rest.is_empty()
 }
 
 // Do pairs and copies name variables of two sources with m and n variables, a copy for each of k variables?
@@ -58,13 +53,8 @@ pub fn named(pairs: &[u32], copies: &[u32], m: usize, n: usize, k: usize) -> boo
     requires { k ≤ 32 }
     ensures { result ≡ named m n pairs.now k copies.now }
 {
-    if PAIR_CELLS < pairs.len() {
-        return false;
-    }
-    if copies.len() == 2 * k {
-        if pairs_named(pairs, m, n) {
-            return copies_named(copies, m, n);
-        }
-    }
-    false
+    pairs.len() <= PAIR_CELLS
+        && copies.len() == 2 * k
+        && pairs_named(pairs, m, n)
+        && copies_named(copies, m, n)
 }

@@ -1,5 +1,5 @@
 // The search of one form among the answers to a subgoal, and what two forms share.
-ghost use Rattle.std.specs.Prelude.{◌≡◌, ◌||◌, ◌<◌, ◌≤◌, max};
+ghost use Rattle.std.specs.Prelude.{◌≡◌, ◌≤◌};
 ghost use Rattle.plain.specs.Words.{common};
 ghost use Rattle.space.specs.Sound.{Bounds};
 ghost use Rattle.trie.specs.Index.{search_indexed};
@@ -31,30 +31,25 @@ pub fn search(space: &[u32], h: Head, root: usize, tokens: &[u32], index: &[u32]
     requires { RootIn space.now h root }
     ensures { Searched (search_indexed index.now h.nodes) space.now h root tokens.now result }
 {
-    let walked = walk_tokens(space, h.nodes, h.answers, root, tokens, index, h.nodes);
-    match walked {
+    match walk_tokens(space, h.nodes, h.answers, root, tokens, index, h.nodes) {
         Walked::Whole(leaf) => {
             let y = node_in(space, h.nodes, leaf);
-            return Met {
+            Met {
                 sound: whole_sound(space, h, tokens.len(), leaf, y.link),
                 lacking: y.link == 0,
                 missing: 0,
-            };
+            }
         }
-        Walked::Stopped(_, _, left) => {
-            return Met {
-                sound: true,
-                lacking: true,
-                missing: left,
-            };
-        }
-        Walked::Damaged => {
-            return Met {
-                sound: false,
-                lacking: true,
-                missing: 0,
-            };
-        }
+        Walked::Stopped(_, _, left) => Met {
+            sound: true,
+            lacking: true,
+            missing: left,
+        },
+        Walked::Damaged => Met {
+            sound: false,
+            lacking: true,
+            missing: 0,
+        },
     }
 }
 
@@ -62,45 +57,20 @@ pub fn search(space: &[u32], h: Head, root: usize, tokens: &[u32], index: &[u32]
 pub fn common(a: &[u32], b: &[u32]) -> usize
     ensures { result ≡ common a.now b.now }
 {
-    let mut i = 0;
-    while i < a.len() {
-        if b.len() <= i {
-            return i;
-        }
+    let n = a.len().min(b.len());
+    for i in 0..n {
         if a[i] != b[i] {
             return i;
         }
-        i += 1;
     }
-    i
-}
-
-fn either(a: bool, b: bool) -> bool
-    ensures { result ≡ (a || b) }
-{
-    if a {
-        return true;
-    }
-    b
-}
-
-fn larger(a: usize, b: usize) -> usize
-    ensures { result ≡ max a b }
-{
-    if a <= b {
-        return b;
-    }
-    a
+    n
 }
 
 // Are k tokens all of n, and all of m?
 fn all_shared(k: usize, n: usize, m: usize) -> bool
     ensures { result ≡ all_shared k n m }
 {
-    if k == n {
-        return n == m;
-    }
-    false
+    k == n && n == m
 }
 
 // What the form shares with those before it, with one of them more.
@@ -108,10 +78,8 @@ pub fn meet(e: Earlier, other: &[u32], form: &[u32]) -> Earlier
     ensures { MeetsOneMore e other.now form.now result }
 {
     let k = common(other, form);
-    let shared = larger(k, e.shared);
-    let held = either(all_shared(k, other.len(), form.len()), e.held);
     Earlier {
-        shared: shared,
-        held: held,
+        shared: k.max(e.shared),
+        held: all_shared(k, other.len(), form.len()) || e.held,
     }
 }

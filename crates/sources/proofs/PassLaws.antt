@@ -1,5 +1,5 @@
 -- A pass over records by number: those up to one pass, or one fails.
-use Prim.Native.Nat.{ℕ, zero, suc, ◌+◌, ◌≤◌, ◌<◌}
+use Prim.Native.Nat.{ℕ, zero, suc, ◌+◌, ◌<◌}
 use mathlib.Core.Path.{◌≡◌, refl, sym, ap, ◌∙◌}
 use mathlib.Core.Bool.{Bool, true, false}
 use native.Mathlib.Omega.{arith}
@@ -26,5 +26,5 @@ pass-fails test (suc n) i h e = by_cases (eqb i n)
 pub pass-failed : (test : ℕ → Bool) (n i : ℕ) → i < n → test i ≡ false → false ≡ every_below test n
 pass-failed test n i h e = sym (pass-fails test n i h e)
 
-pub pass-ended : (test : ℕ → Bool) (n i : ℕ) → i ≤ n → n ≤ i → every_below test i ≡ true → true ≡ every_below test n
-pass-ended test n i l m e = let z : i ≡ n = omega arith in sym (rw z at e)
+pub passed : (test : ℕ → Bool) (n i : ℕ) → i ≡ n → every_below test i ≡ true → true ≡ every_below test n
+passed test n i z e = sym (rw z at e)

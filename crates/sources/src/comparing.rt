@@ -29,10 +29,8 @@ fn meet_record(
     if other.owner != owner {
         return e;
     }
-    let end = other.end;
-    let k = gather(source, end, path);
-    let cells = &path[..];
-    meet(e, &cells[k..], form)
+    let k = gather(source, other.end, path);
+    meet(e, &path[k..], form)
 }
 
 // What it shares with the first i records.
@@ -45,10 +43,8 @@ fn earlier(source: &[u32], x: Records, i: usize, owner: usize, form: &[u32]) -> 
         shared: 0,
         held: false,
     };
-    let mut j = 0;
-    while j < i {
+    for j in 0..i {
         e = meet_record(source, x, j, owner, form, &mut path, e);
-        j += 1;
     }
     e
 }
@@ -59,9 +55,8 @@ fn compare(source: &[u32], x: Records, i: usize) -> Compared
     ensures { ComparesTo source.now x i result }
 {
     let own = find_record(source, x, i);
-    let end = own.end;
     let mut path = [0u32; CELLS];
-    let k = gather(source, end, &mut path);
+    let k = gather(source, own.end, &mut path);
     let e = earlier(source, x, i, own.owner, &path[k..]);
     Compared {
         tokens: CELLS - k - e.shared,
@@ -74,14 +69,10 @@ pub fn all_differ(source: &[u32], x: Records) -> bool
     requires { AllLoad source.now x }
     ensures { result ≡ every_below (differs_at source.now x) (count_of x) }
 {
-    let n = count_of(x);
-    let mut i = 0;
-    while i < n {
-        let c = compare(source, x, i);
-        if c.held {
+    for i in 0..count_of(x) {
+        if compare(source, x, i).held {
             return false;
         }
-        i += 1;
     }
     true
 }
@@ -91,13 +82,9 @@ pub fn brought(source: &[u32], x: Records) -> u64
     requires { AllLoad source.now x }
     ensures { Brings source.now x (count_of x) result }
 {
-    let n = count_of(x);
-    let mut sum = 0u64;
-    let mut i = 0;
-    while i < n {
-        let c = compare(source, x, i);
-        sum += c.tokens as u64;
-        i += 1;
+    let mut sum = 0;
+    for i in 0..count_of(x) {
+        sum += compare(source, x, i).tokens as u64;
     }
     sum
 }

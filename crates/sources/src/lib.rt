@@ -6,7 +6,7 @@
 #![tactic(auto)]
 
 mod comparing;
-mod loading;
+pub mod loading;
 mod names;
 pub mod tokens;
 
@@ -18,7 +18,7 @@ ghost use Rattle.carrying.specs.Recoding.{widening};
 ghost use Rattle.carrying.specs.Carrying.{takes_table};
 ghost use Rattle.carrying.specs.Copying.{source_loads};
 ghost use Rattle.carrying.specs.Clauses.{slow_fits};
-ghost use Rattle.sources.specs.Records.{FirstEdition, Loads};
+ghost use Rattle.sources.specs.Records.{FirstEdition, Loads, subgoals_of, answers_of};
 
 use basis::wide;
 use comparing::{all_differ, brought};
@@ -32,6 +32,20 @@ use trie::End;
 pub struct Records {
     pub h: Head,
     pub answers: bool,
+}
+
+impl Records {
+    pub fn subgoals(h: Head) -> Records
+        ensures { result ≡ subgoals_of h }
+    {
+        Records { h, answers: false }
+    }
+
+    pub fn answers(h: Head) -> Records
+        ensures { result ≡ answers_of h }
+    {
+        Records { h, answers: true }
+    }
 }
 
 // Where the form of a record stands: under which subgoal, 0 for a subgoal's own, and the end of its path.
@@ -54,24 +68,12 @@ pub fn loads(source: &[u32], h: Head) -> bool
     requires { FirstEdition source.now h }
     ensures { result ≡ source_loads (coding_of 1) (view_in source.now h) }
 {
-    let subgoals = Records {
-        h: h,
-        answers: false,
-    };
-    let answers = Records {
-        h: h,
-        answers: true,
-    };
-    if !all_load(source, subgoals) {
+    let subgoals = Records::subgoals(h);
+    let answers = Records::answers(h);
+    if !all_load(source, subgoals) || !all_load(source, answers) {
         return false;
     }
-    if !all_load(source, answers) {
-        return false;
-    }
-    if !all_differ(source, subgoals) {
-        return false;
-    }
-    all_differ(source, answers)
+    all_differ(source, subgoals) && all_differ(source, answers)
 }
 
 // Has edition 2 room for the names in all forms of a source that loads?
@@ -79,18 +81,7 @@ pub fn forms_named(source: &[u32], h: Head) -> bool
     requires { Loads source.now h }
     ensures { result ≡ takes_table widening (table_read (view_in source.now h)) }
 {
-    let subgoals = Records {
-        h: h,
-        answers: false,
-    };
-    let answers = Records {
-        h: h,
-        answers: true,
-    };
-    if !all_named(source, subgoals) {
-        return false;
-    }
-    all_named(source, answers)
+    all_named(source, Records::subgoals(h)) && all_named(source, Records::answers(h))
 }
 
 // Are n nodes, f subgoals and a answers enough for a source that loads? Its nodes: a root for the subgoals, one for the
@@ -99,22 +90,10 @@ pub fn forms_fit(source: &[u32], h: Head, n: u32, f: u32, a: u32) -> bool
     requires { Loads source.now h }
     ensures { result ≡ slow_fits n f a (view_in source.now h) }
 {
-    if wide(f) < h.subgoals {
+    if wide(f) < h.subgoals || wide(a) < h.answers {
         return false;
     }
-    if wide(a) < h.answers {
-        return false;
-    }
-    let subgoals = Records {
-        h: h,
-        answers: false,
-    };
-    let answers = Records {
-        h: h,
-        answers: true,
-    };
-    let called = brought(source, subgoals);
-    let given = brought(source, answers);
-    let nodes = 1 + called + h.subgoals as u64 + given;
-    nodes <= n as u64
+    let called = brought(source, Records::subgoals(h));
+    let given = brought(source, Records::answers(h));
+    1 + called + h.subgoals as u64 + given <= u64::from(n)
 }

@@ -79,13 +79,10 @@ pub fn all_load(source: &[u32], x: Records) -> bool
     requires { Bounds source.now x.h }
     ensures { result ≡ every_below (loads_at source.now x) (count_of x) }
 {
-    let n = count_of(x);
-    let mut i = 0;
-    while i < n {
+    for i in 0..count_of(x) {
         if !record_loads(source, x, i) {
             return false;
         }
-        i += 1;
     }
     true
 }
@@ -107,7 +104,7 @@ pub fn find_record(source: &[u32], x: Records, i: usize) -> Place
         };
         return Place {
             owner: y.subgoal,
-            end: end,
+            end,
         };
     }
     let g = subgoal_in(source, h, i + 1);
@@ -117,7 +114,7 @@ pub fn find_record(source: &[u32], x: Records, i: usize) -> Place
         root: 0,
         leaf: g.leaf,
     };
-    Place { owner: 0, end: end }
+    Place { owner: 0, end }
 }
 
 // The path that ends here, in the cells of a whole one: where it starts.

@@ -14,12 +14,10 @@ use trie::paths::CELLS;
 fn form_named(form: &[u32]) -> bool
     ensures { result ≡ takes_word widening form.now }
 {
-    let mut i = 0;
-    while i < form.len() {
-        if !is_named(form[i]) {
+    for &x in form {
+        if !is_named(x) {
             return false;
         }
-        i += 1;
     }
     true
 }
@@ -30,10 +28,8 @@ fn record_named(source: &[u32], x: Records, i: usize, path: &mut [u32; CELLS]) -
     ensures { (result ≡ named_at source.now x i) × (length path.new ≡ path_cells) }
 {
     let own = find_record(source, x, i);
-    let end = own.end;
-    let k = gather(source, end, path);
-    let cells = &path[..];
-    form_named(&cells[k..])
+    let k = gather(source, own.end, path);
+    form_named(&path[k..])
 }
 
 // Those of all.
@@ -41,14 +37,11 @@ pub fn all_named(source: &[u32], x: Records) -> bool
     requires { AllLoad source.now x }
     ensures { result ≡ every_below (named_at source.now x) (count_of x) }
 {
-    let n = count_of(x);
     let mut path = [0u32; CELLS];
-    let mut i = 0;
-    while i < n {
+    for i in 0..count_of(x) {
         if !record_named(source, x, i, &mut path) {
             return false;
         }
-        i += 1;
     }
     true
 }

@@ -10,8 +10,5 @@ const NAMES: u32 = 1048576;
 pub fn is_named(x: u32) -> bool
     ensures { result ≡ name_fits x }
 {
-    if x / PAYLOADS == 4 {
-        return x % PAYLOADS / 16 < NAMES;
-    }
-    true
+    x / PAYLOADS != 4 || x % PAYLOADS / 16 < NAMES
 }

@@ -39,10 +39,7 @@ fn say_failed(rt: &HostRuntime, stream: &[u8], error: io::Error) {
     say(rt, b": ");
     if let Ok(reason) = format!(in rt.alloc(); "{error}") {
         let bytes = reason.as_bytes();
-        let end = match reason.find(" (os error ") {
-            Some(at) => at,
-            None => bytes.len(),
-        };
+        let end = reason.find(" (os error ").unwrap_or(bytes.len());
         say(rt, &bytes[..end]);
     }
     say(rt, b"\n");
@@ -132,8 +129,8 @@ fn read_some(
     take_chunk(rt, &read[..n], line, kept, space, out, text)
 }
 
-// Reads to the end. A proved loop has to end, and nothing says that the input does, so the loop counts
-// down from a number that no run uses up.
+// Reads to the end. A proved loop has to end, and nothing says that the input does, so the loop has more
+// turns than any run uses up.
 fn run(
     rt: &HostRuntime,
     read: &mut [u8],
@@ -146,14 +143,12 @@ fn run(
         out.new }
 {
     let mut kept = 0;
-    let mut turns = u64::MAX;
-    while turns > 0 {
+    for _ in 0..u64::MAX {
         let progress = read_some(rt, read, line, kept, space, out, text);
         let Progress::Kept(n) = progress else {
             return progress;
         };
         kept = n;
-        turns -= 1;
     }
     Progress::Kept(kept)
 }
@@ -176,10 +171,7 @@ fn serve(rt: &HostRuntime) {
 // Is there an argument after the program's own name?
 fn has_argument(rt: &HostRuntime) -> bool {
     let mut first = [0u8; 1];
-    match rt.arg(1, &mut first) {
-        Err(FillError::NotPresent) => false,
-        _ => true,
-    }
+    !matches!(rt.arg(1, &mut first), Err(FillError::NotPresent))
 }
 
 fn main(rt: HostRuntime) {

@@ -1,15 +1,15 @@
 -- Laws of digits, their number, and bytes put one behind another.
 use Prim.Native.Nat.{ℕ, suc, zero, ◌+◌, ◌*◌, ◌-◌, ◌^◌, ◌/◌, ◌%◌, ◌≤◌, ◌<◌}
 use mathlib.Core.List.{List, [], ◌∷◌, ◌++◌, append-nil, append_assoc}
-use mathlib.Core.Bool.{Bool, true, false, not, ◌&&◌}
+use mathlib.Core.Bool.{Bool, true, false, ◌&&◌}
 use mathlib.Core.Path.{◌≡◌, refl, sym, ap, ◌∙◌}
 use native.Mathlib.Omega.{arith}
 use native.Mathlib.Nat.{pow-zero, pow-suc, div-lt_iff_lt-mul, mul-le-mul_left, lt_of_lt_of_le}
 use native.Mathlib.Numerals.{add-one}
-use lib.Dec.{eqb, leb}
+use lib.Dec.{eqb}
 use lib.ListN.{length, take, drop, get_or, set, length-append, length-set, length-take, length-drop, drop_of_length-le}
-use lib.Seq.{sets, length-sets, take-suc, take_all, take-length, length-take-le}
-use borrow.Author.Tests.{eq-eqb, ne_eqb, not-true, leb-true, leb-false}
+use lib.Seq.{length-sets, take-suc, take_all}
+use borrow.Author.Tests.{ne_eqb}
 use Rattle.basis.proofs.SetsLaws.{drop-written}
 use Rattle.basis.proofs.Cases.{by_cases}
 use Rattle.basis.proofs.SetsLaws.{sets-append}
@@ -21,14 +21,6 @@ use Rattle.text.specs.Digits.{digit_text, digits_before, digits, cell_text, cell
 pub puts-append : (xs ys t u v : List ℕ) (i j k : ℕ) → Puts i xs t j u → Puts j ys u k v → Puts i (xs ++ ys) t k v
 puts-append xs ys t u v i j k p q =
     (omega (arith, length-append xs ys, p.0, q.0), q.1 ∙ rw (p.1, p.0) (sym (sets-append xs ys t i)), omega (arith, q.2, ap length p.1 ∙ length-sets t i xs))
-
--- the bytes before place i, and the byte at i
-pub puts-next : (bs t u : List ℕ) (at i : ℕ) → i < length bs → u ≡ sets t at (take i bs) → set u (at + i) (get_or bs i 0) ≡ sets t at (take (i + 1) bs)
-puts-next bs t u at i h e =
-    rw (add-one, take-suc bs i 0 h, sets-append (take i bs) (get_or bs i 0 ∷ []) t at, length-take-le i bs (omega arith), e)
-
-pub puts-all : (bs t u : List ℕ) (at i : ℕ) → i ≡ length bs → at + i < length t → u ≡ sets t at (take i bs) → Puts at bs t (at + i) u
-puts-all bs t u at i e h q = (rw e, q ∙ rw (e, take-length), h)
 
 -- ---- digits
 
@@ -81,15 +73,6 @@ cell-length c h = digits-width 16 10 8 c [] (omega arith) (omega arith) (omega a
 -- what all_made tests, at place i of the buffer
 abbrev pub all_made : ℕ → ℕ → ℕ → Bool
 all_made left i width = eqb left 0 && eqb (width - (10 - i)) 0
-
-pub leb-minus : (a b : ℕ) → leb a b ≡ eqb (a - b) 0
-leb-minus a b =
-    by_cases (leb a b)
-    (λ e. e ∙ sym (eq-eqb (a - b) 0 (omega (arith, leb-true a b e))))
-    (λ e. e ∙ sym (ne_eqb (a - b) 0 (λ z. omega (arith, leb-false a b e))))
-
-pub not_made : {r t : Bool} → r ≡ t → not r ≡ true → t ≡ false
-not_made {r} e f = sym e ∙ not-true r f
 
 -- where a digit is to be made there is a place for it
 pub place-left : (left width i : ℕ) → left < 10 ^ i → width ≤ 10 → all_made left i width ≡ false → 0 < i

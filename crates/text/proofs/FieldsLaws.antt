@@ -1,20 +1,24 @@
 -- Laws of fields at places of a line, and of numerals read digit by digit.
 use Prim.Native.Nat.{ℕ, zero, suc, ◌+◌, ◌*◌, ◌-◌, ◌^◌, ◌≤◌, ◌<◌}
-use mathlib.Core.Bool.{Bool, true, false, not, ◌&&◌}
+use mathlib.Core.Bool.{Bool, true, false, not, ◌&&◌, cond}
 use mathlib.Core.List.{List, [], ◌∷◌, ◌++◌, append-nil}
-use mathlib.Core.Path.{◌≡◌, refl, sym, ap, ◌∙◌}
+use mathlib.Core.Path.{◌≡◌, refl, sym, ap, subst, ◌∙◌}
 use native.Mathlib.Omega.{arith}
 use native.Mathlib.Nat.{mul-le-mul_left, mul_comm}
 use lib.Pow.{pow-add}
 use lib.Dec.{eqb, leb, ltb}
-use lib.ListN.{length, take, drop, get_or, set}
-use lib.Seq.{drop-cons, drop-length, take-suc, append_snoc, take-suc-set}
-use borrow.Author.Tests.{ltb-true, ltb-false, not-true, not-false, lt-ltb, le-ltb, le-leb, lt-leb, ne_eqb, eq-eqb}
+use lib.ListN.{length, take, drop, get_or, set, length-drop}
+use lib.Pointwise.{pointwise}
+use lib.Seq.{drop-drop, drop-cons, drop-length, append_snoc, take-suc-set}
+use borrow.Author.Tests.{ltb-false, lt-ltb, le-ltb, le-leb, lt-leb, ne_eqb}
+use Rattle.std.specs.Prelude.{Option, Some, None, ◌==◌, nat_lt}
+use Rattle.std.specs.List.{position, position_or_len}
+use Rattle.std.specs.Option.{unwrap_or}
 use Rattle.basis.specs.Choice.{pick}
 use Rattle.basis.proofs.Cases.{by_cases}
 use Rattle.forms.specs.Compact.{same}
 use Rattle.text.specs.Fields.{space, digit_of, fields, Number, no_number, some_number, Cells, no_cells, some_cells, value_from, numeral, numeral_first, behind, first_number, only_number, cell_before, hex_cells}
-use Rattle.text.specs.Places.{field_at, rest_at, in_field, FieldEnds}
+use Rattle.text.specs.Places.{field_at, rest_at, FieldEnds, EndsFirst}
 
 -- ---- fields
 
@@ -34,34 +38,14 @@ unfolding fields
 fields-none = (refl, refl)
 
 module _ (line : List ℕ) (i : ℕ) where
-  in-field-parts : in_field line i ≡ true → (ltb i (length line) ≡ true) × (eqb (get_or line i 0) space ≡ false)
-  in-field-parts e = by_cases (ltb i (length line)) (λ t. (t, not-true _ (sym (ap (λ (b : Bool). b && not (eqb (get_or line i 0) space)) t) ∙ e))) (λ t. absurd (let z : ◌≡◌ {A = Bool} false true = sym (ap (λ (b : Bool). b && not (eqb (get_or line i 0) space)) t) ∙ e in let y : ◌≡◌ {A = ℕ} 0 1 = cc in omega arith))
-
   dropped : i < length line → drop i line ≡ get_or line i 0 ∷ drop (i + 1) line
   dropped h = drop-cons line i 0 h ∙ ap (λ (j : ℕ). get_or line i 0 ∷ drop j line) (let e : suc i ≡ i + 1 = omega arith in e)
-
-  -- a field goes on: its first byte, and what is behind it
-  pub field-more : in_field line i ≡ true → (i < length line) × (field_at line i ≡ get_or line i 0 ∷ field_at line (i + 1)) × (rest_at line i ≡ rest_at line (i + 1))
-  field-more e =
-      let p = in-field-parts e in
-      let h = ltb-true i (length line) p.0 in
-      let q = fields-goes-on (get_or line i 0) (drop (i + 1) line) p.1 in
-      (h, ap (λ (w : List ℕ). (fields w).first) (dropped h) ∙ q.0, ap (λ (w : List ℕ). (fields w).others) (dropped h) ∙ q.1)
 
   -- no field at the line's end
   pub place_end : length line ≡ i → (field_at line i ≡ []) × (rest_at line i ≡ [])
   place_end e =
       let d : drop i line ≡ [] = ap (λ (j : ℕ). drop j line) (sym e) ∙ drop-length line in
       (ap (λ (w : List ℕ). (fields w).first) d ∙ fields-none.0, ap (λ (w : List ℕ). (fields w).others) d ∙ fields-none.1)
-
-  -- a field is over
-  pub field-over : in_field line i ≡ false → i ≤ length line → field_at line i ≡ []
-  field-over e h =
-      by_cases (ltb i (length line))
-      (λ t. let l = ltb-true i (length line) t in
-      ap (λ (w : List ℕ). (fields w).first) (dropped l)
-      ∙ (fields-ends (get_or line i 0) (drop (i + 1) line) (not-false _ (sym (ap (λ (b : Bool). b && not (eqb (get_or line i 0) space)) t) ∙ e))).0)
-      (λ t. let g = ltb-false i (length line) t in (place_end (omega arith)).0)
 
   -- behind a field that is over there is a space, and then the next field
   pub rest-next : field_at line i ≡ [] → i < length line → rest_at line i ≡ field_at line (i + 1) ∷ rest_at line (i + 1)
@@ -91,19 +75,19 @@ pick-alike true x = refl
 pick-alike false x = refl
 
 module _ (base least most : ℕ) (f : List ℕ) where
-  numeral-bad : value_from base 0 f ≡ no_number → numeral base least most f ≡ no_number
+  pub numeral-bad : value_from base 0 f ≡ no_number → numeral base least most f ≡ no_number
   unfolding numeral
   numeral-bad e = rw e (pick-alike (leb least (length f) && leb (length f) most) no_number)
 
-  numeral-long : most < length f → numeral base least most f ≡ no_number
+  pub numeral-long : most < length f → numeral base least most f ≡ no_number
   unfolding numeral
   numeral-long h = by_cases (leb least (length f)) (λ t. rw (t, lt-leb _ _ h)) (λ t. rw t)
 
-  numeral-short : length f < least → numeral base least most f ≡ no_number
+  pub numeral-short : length f < least → numeral base least most f ≡ no_number
   unfolding numeral
   numeral-short h = rw (lt-leb _ _ h)
 
-  numeral-right : (n : ℕ) → least ≤ length f → length f ≤ most → value_from base 0 f ≡ some_number n → numeral base least most f ≡ some_number n
+  pub numeral-right : (n : ℕ) → least ≤ length f → length f ≤ most → value_from base 0 f ≡ some_number n → numeral base least most f ≡ some_number n
   unfolding numeral
   numeral-right n h k e = rw (le-leb _ _ h, le-leb _ _ k, e)
 
@@ -128,88 +112,89 @@ hex-room-seven k h = omega (arith, hex-room-grows k (7 - k), ap (λ (j : ℕ). 1
 pub product-most : (base v : ℕ) → base ≤ 16 → base * v ≤ 16 * v
 product-most base v h = rw (mul_comm base v, mul_comm 16 v) (mul-le-mul_left v h)
 
--- reading a field that starts at a place, as far as place i, where the digits so far have a value
-pub record Reading (line : List ℕ) (start base most value i : ℕ) : Type 0 where
-  pub begun : start ≤ i
-  pub inside : i ≤ length line
-  pub few : i - start ≤ most
-  pub small : value < hex_room (i - start)
-  pub sized : length (field_at line start) ≡ (i - start) + length (field_at line i)
-  pub valued : value_from base 0 (field_at line start) ≡ value_from base value (field_at line i)
-  pub rest : rest_at line i ≡ rest_at line start
+-- the digits behind place i, where those before it have a value
+module _ (base v : ℕ) (ds : List ℕ) (i : ℕ) where
+  module _ (h : i < length ds) where
+    pub digit-next : (d : ℕ) → d ≡ digit_of (get_or ds i 0) → d < base → value_from base v (drop i ds) ≡ value_from base (base * v + d) (drop (i + 1) ds)
+    digit-next d q b =
+        ap (value_from base v) (dropped ds i h) ∙ value-digit base v (get_or ds i 0) (drop (i + 1) ds) (omega arith)
+        ∙ ap (λ (x : ℕ). value_from base (base * v + x) (drop (i + 1) ds)) (sym q)
 
-module _ (line : List ℕ) (start base most : ℕ) where
-  pub reading-starts : start ≤ length line → Reading line start base most 0 start
-  reading-starts h =
-      let none : start - start ≡ 0 = omega arith in
-      record { begun = omega arith; inside = h; few = omega arith; small = omega (arith, ap (λ (j : ℕ). 16 ^ j) none); sized = omega arith; valued = refl; rest = refl }
+    pub digit-bad : base ≤ digit_of (get_or ds i 0) → value_from base v (drop i ds) ≡ no_number
+    digit-bad b = ap (value_from base v) (dropped ds i h) ∙ value-bad base v (get_or ds i 0) (drop (i + 1) ds) b
 
-  module _ (value i : ℕ) (r : Reading line start base most value i) where
-    -- the field behind the digits read
-    pub reading-field : (g : List ℕ) → field_at line i ≡ g → (length (field_at line start) ≡ (i - start) + length g) × (value_from base 0 (field_at line start) ≡ value_from base value g)
-    reading-field g e = (r.sized ∙ ap (λ (w : List ℕ). (i - start) + length w) e, r.valued ∙ ap (λ (w : List ℕ). value_from base value w) e)
+  pub digits_over : length ds ≡ i → value_from base v (drop i ds) ≡ some_number v
+  digits_over e = ap (value_from base v) (ap (λ (j : ℕ). drop j ds) (sym e) ∙ drop-length ds) ∙ value-end base v
 
-    module _ (t : in_field line i ≡ true) where
-      -- a digit more
-      pub reading-digit : (d : ℕ) → d ≡ digit_of (get_or line i 0) → base ≤ 16 → d < base → i - start < most → Reading line start base most (base * value + d) (i + 1)
-      reading-digit d q b h k =
-          let m = field-more line i t in
-          let f = reading-field (get_or line i 0 ∷ field_at line (i + 1)) m.1 in
-          let s : i + 1 - start ≡ suc (i - start) = omega (arith, r.begun) in
-          record {
-            begun = omega (arith, r.begun);
-            inside = omega (arith, m.0);
-            few = omega arith;
-            small = omega (arith, r.small, product-most base value b, ap (λ (j : ℕ). 16 ^ j) s, hex-room-more (i - start));
-            sized = omega (arith, f.0);
-            valued = f.1 ∙ value-digit base value (get_or line i 0) (field_at line (i + 1)) (omega arith) ∙ ap (λ (v : ℕ). value_from base (base * value + v) (field_at line (i + 1))) (sym q);
-            rest = sym m.2 ∙ r.rest;
-          }
-
-      module _ (least : ℕ) where
-        pub reading-bad : base ≤ digit_of (get_or line i 0) → numeral base least most (field_at line start) ≡ no_number
-        reading-bad h =
-            numeral-bad base least most (field_at line start)
-            ((reading-field (get_or line i 0 ∷ field_at line (i + 1)) (field-more line i t).1).1 ∙ value-bad base value (get_or line i 0) (field_at line (i + 1)) h)
-
-        pub reading-long : most ≤ i - start → numeral base least most (field_at line start) ≡ no_number
-        reading-long h = numeral-long base least most (field_at line start) (omega (arith, (reading-field (get_or line i 0 ∷ field_at line (i + 1)) (field-more line i t).1).0))
-
-    module _ (t : in_field line i ≡ false) (least : ℕ) where
-      pub reading-short : i - start < least → numeral base least most (field_at line start) ≡ no_number
-      reading-short h = numeral-short base least most (field_at line start) (omega (arith, (reading-field [] (field-over line i t r.inside)).0))
-
-      pub reading-done : least ≤ i - start → numeral base least most (field_at line start) ≡ some_number value
-      reading-done h =
-          let f = reading-field [] (field-over line i t r.inside) in
-          numeral-right base least most (field_at line start) value (omega (arith, f.0)) (omega (arith, f.0, r.few)) (f.1 ∙ value-end base value)
+pub digit-small : (base v i d : ℕ) → base ≤ 16 → d < base → v < 16 ^ i → base * v + d < 16 ^ (i + 1)
+digit-small base v i d b l s =
+    let e : i + 1 ≡ suc i = omega arith in
+    omega (arith, product-most base v b, ap (λ (j : ℕ). 16 ^ j) e, hex-room-more i)
 
 -- ---- the field behind a place
 
 module _ (line : List ℕ) (i : ℕ) (e : FieldEnds line i) where
-  module _ (h : i < length line) where
-    pub first-behind : behind (rest_at line i) ≡ rest_at line (i + 1)
-    first-behind = ap behind (rest-next line i e.1 h)
+  -- the field that ends n bytes behind the space, and the fields behind it
+  module _ (h : i < length line) (rest : List ℕ) (r : rest ≡ drop (i + 1) line) (n : ℕ) (d : EndsFirst rest n) where
+    ends : EndsFirst (drop (i + 1) line) n
+    ends = subst (λ (w : List ℕ). EndsFirst w n) r d
+
+    after : drop n (drop (i + 1) line) ≡ drop (i + 1 + n) line
+    after = drop-drop n (i + 1) line
+
+    next-field : rest_at line i ≡ take n rest ∷ rest_at line (i + 1 + n)
+    next-field =
+        rest-next line i e.1 h ∙ ap (λ (w : List ℕ). w ∷ rest_at line (i + 1)) (ends.1 ∙ ap (take n) (sym r))
+        ∙ ap (λ (fs : List (List ℕ)). take n rest ∷ fs) (sym ends.2 ∙ ap (λ (w : List ℕ). (fields w).others) after)
+
+    pub next-ends : FieldEnds line (i + 1 + n)
+    next-ends = (omega (arith, ends.0.0, length-drop (i + 1) line), ap (λ (w : List ℕ). (fields w).first) (sym after) ∙ ends.0.1)
+
+    pub first-behind : behind (rest_at line i) ≡ rest_at line (i + 1 + n)
+    first-behind = ap behind next-field
 
     module _ (base least most : ℕ) where
-      pub first-numeral : {n : Number} → numeral base least most (field_at line (i + 1)) ≡ n → numeral_first base least most (rest_at line i) ≡ n
-      first-numeral t = ap (numeral_first base least most) (rest-next line i e.1 h) ∙ t
+      pub first-numeral : {m : Number} → numeral base least most (take n rest) ≡ m → numeral_first base least most (rest_at line i) ≡ m
+      first-numeral t = ap (numeral_first base least most) next-field ∙ t
 
   pub first-none : (base least most : ℕ) → length line ≤ i → numeral_first base least most (rest_at line i) ≡ no_number
   first-none base least most h = ap (numeral_first base least most) (place_end line i (omega (arith, e.0))).1
 
 -- ---- the first field
 
-module _ (line : List ℕ) (i : ℕ) where
-  pub first_step : in_field line i ≡ true → (fields line).first ≡ take i line ++ field_at line i → (fields line).first ≡ take (i + 1) line ++ field_at line (i + 1)
-  first_step t e =
-      let m = field-more line i t in
-      e ∙ ap (λ (w : List ℕ). take i line ++ w) m.1
-      ∙ sym (append_snoc (take i line) (get_or line i 0) (field_at line (i + 1)))
-      ∙ ap (λ (w : List ℕ). w ++ field_at line (i + 1)) (sym (take-suc line i 0 m.0) ∙ ap (λ (j : ℕ). take j line) (let s : suc i ≡ i + 1 = omega arith in s))
+-- the first space ends it, or the line does
+abbrev first_space : List ℕ → ℕ
+first_space line = position_or_len (λ b. b == 32) line
 
-  pub first-whole : field_at line i ≡ [] → (fields line).first ≡ take i line ++ field_at line i → (fields line).first ≡ take i line
-  first-whole o e = e ∙ ap (λ (w : List ℕ). take i line ++ w) o ∙ append-nil (take i line)
+module _ (b : ℕ) (bs : List ℕ) where
+  ends-here : eqb b space ≡ true → EndsFirst (b ∷ bs) 0
+  ends-here t = let e = fields-ends b bs t in ((omega arith, e.0), e.0, refl)
+
+  ends-later : (i : ℕ) → eqb b space ≡ false → EndsFirst bs i → EndsFirst (b ∷ bs) (suc i)
+  ends-later i t e = let g = fields-goes-on b bs t in ((omega (arith, e.0.0), e.0.1), g.0 ∙ ap (λ (w : List ℕ). b ∷ w) e.1, e.2 ∙ sym g.1)
+
+  space-here : eqb b space ≡ true → first_space (b ∷ bs) ≡ 0
+  space-here t = ap (λ (x : Bool). cond (not x) (1 + first_space bs) 0) t
+
+  space-later : eqb b space ≡ false → first_space (b ∷ bs) ≡ suc (first_space bs)
+  space-later t = let e : first_space (b ∷ bs) ≡ 1 + first_space bs = ap (λ (x : Bool). cond (not x) (1 + first_space bs) 0) t in omega arith
+
+ends-first : (line : List ℕ) → EndsFirst line (first_space line)
+ends-first [] = ((omega arith, fields-none.0), fields-none.0, refl)
+ends-first (b ∷ bs) =
+    by_cases (eqb b space)
+    (λ t. subst (EndsFirst (b ∷ bs)) (sym (space-here b bs t)) (ends-here b bs t))
+    (λ t. subst (EndsFirst (b ∷ bs)) (sym (space-later b bs t)) (ends-later b bs (first_space bs) t (ends-first bs)))
+
+space-first : (line : List ℕ) → unwrap_or (position (λ b. b == 32) line) (length line) ≡ first_space line
+space-first line =
+    by_cases (nat_lt (first_space line) (length line))
+    (λ t. ap (λ (x : Bool). unwrap_or (cond x (Some (first_space line)) None) (length line)) t)
+    (λ t. ap (λ (x : Bool). unwrap_or (cond x (Some (first_space line)) None) (length line)) t
+    ∙ (let g = ltb-false (first_space line) (length line) t in omega (arith, (ends-first line).0.0)))
+
+pub first_end : (line : List ℕ) (r : Option ℕ) (n : ℕ) → r ≡ position (λ b. b == 32) line → n ≡ unwrap_or r (length line) → EndsFirst line n
+first_end line r n p q = subst (EndsFirst line) (sym (q ∙ ap (λ (x : Option ℕ). unwrap_or x (length line)) p ∙ space-first line)) (ends-first line)
 
 -- ---- exactly one number
 
@@ -278,60 +263,11 @@ module _ (line front : List ℕ) (i k : ℕ) (said : Cells) (s : said ≡ prepen
       s ∙ ap (λ (fs : List (List ℕ)). prepend (take k front) (hex_cells fs)) r
       ∙ ap (prepend (take k front)) (cells-bad (field_at line (i + 1)) (rest_at line (i + 1)) (sym (ap (numeral_first 16 8 8) r) ∙ t))
 
--- ---- tests of bytes
-
-pub and-holds : (a c : Bool) → a ≡ true → c ≡ a && c
-and-holds a c e = sym (ap (λ (b : Bool). b && c) e)
-
-pub and-fails : (a c : Bool) → a ≡ false → false ≡ a && c
-and-fails a c e = sym (ap (λ (b : Bool). b && c) e)
-
-pub and_first : (a c : Bool) → a && c ≡ true → a ≡ true
-and_first true c e = refl
-and_first false c e = e
-
-pub digit_low : (b : ℕ) → leb 48 b && leb b 57 ≡ true → b - 48 ≡ digit_of b
-digit_low b t = rw t
-
-pub digit-high : (b : ℕ) → leb 48 b && leb b 57 ≡ false → leb 97 b && leb b 102 ≡ true → b - 87 ≡ digit_of b
-digit-high b f t = rw (f, t)
-
-pub digit-none : (b : ℕ) → leb 48 b && leb b 57 ≡ false → leb 97 b && leb b 102 ≡ false → 16 ≡ digit_of b
-digit-none b f g = rw (f, g)
-
 -- ---- words
 
-pub same-longer : (xs ys : List ℕ) → (length xs ≡ length ys → ⊥) → false ≡ same xs ys
+pub same-pointwise : (xs ys : List ℕ) → pointwise eqb xs ys ≡ same xs ys
 unfolding same
-same-longer [] [] h = absurd (h refl)
-same-longer [] (y ∷ ys) h = refl
-same-longer (x ∷ xs) [] h = refl
-same-longer (x ∷ xs) (y ∷ ys) h = by_cases (eqb x y) (λ t. rw t (same-longer xs ys (λ e. h (ap suc e)))) (λ t. rw t)
-
-same-equal : (x y : ℕ) (xs ys : List ℕ) → x ≡ y → same (x ∷ xs) (y ∷ ys) ≡ same xs ys
-unfolding same
-same-equal x y xs ys e = rw (eq-eqb x y e)
-
-same-other : (x y : ℕ) (xs ys : List ℕ) → (x ≡ y → ⊥) → same (x ∷ xs) (y ∷ ys) ≡ false
-unfolding same
-same-other x y xs ys h = rw (ne_eqb x y h)
-
-same_none : same [] [] ≡ true
-unfolding same
-same_none = refl
-
-module _ (xs ys : List ℕ) (i : ℕ) where
-  module _ (h : i < length xs) (k : i < length ys) where
-    same_at : same (drop i xs) (drop i ys) ≡ same (get_or xs i 0 ∷ drop (i + 1) xs) (get_or ys i 0 ∷ drop (i + 1) ys)
-    same_at = ap (λ (w : List ℕ). same w (drop i ys)) (dropped xs i h) ∙ ap (same (get_or xs i 0 ∷ drop (i + 1) xs)) (dropped ys i k)
-
-    pub same_step : same xs ys ≡ same (drop i xs) (drop i ys) → get_or xs i 0 ≡ get_or ys i 0 → same xs ys ≡ same (drop (i + 1) xs) (drop (i + 1) ys)
-    same_step s e = s ∙ same_at ∙ same-equal (get_or xs i 0) (get_or ys i 0) (drop (i + 1) xs) (drop (i + 1) ys) e
-
-    pub same-apart : same xs ys ≡ same (drop i xs) (drop i ys) → (get_or xs i 0 ≡ get_or ys i 0 → ⊥) → false ≡ same xs ys
-    same-apart s n = sym (s ∙ same_at ∙ same-other (get_or xs i 0) (get_or ys i 0) (drop (i + 1) xs) (drop (i + 1) ys) n)
-
-  pub same_over : same xs ys ≡ same (drop i xs) (drop i ys) → length xs ≡ i → length ys ≡ i → true ≡ same xs ys
-  same_over s e f =
-      sym (s ∙ ap (λ (w : List ℕ). same w (drop i ys)) (ap (λ (j : ℕ). drop j xs) (sym e) ∙ drop-length xs)
-      ∙ ap (same []) (ap (λ (j : ℕ). drop j ys) (sym f) ∙ drop-length ys) ∙ same_none)
+same-pointwise [] [] = refl
+same-pointwise [] (y ∷ ys) = refl
+same-pointwise (x ∷ xs) [] = refl
+same-pointwise (x ∷ xs) (y ∷ ys) = by_cases (eqb x y) (λ t. rw t (same-pointwise xs ys)) (λ t. rw t)

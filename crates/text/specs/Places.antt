@@ -1,6 +1,6 @@
 -- Places of a line, and what is read from them.
-use Rattle.std.specs.Prelude.{ℕ, ◌+◌, ◌≤◌, ◌<◌, Bool, not, ◌&&◌, List, [], ◌≡◌, eqb, ltb, length, take, drop, get_or}
-use Rattle.text.specs.Fields.{space, fields, Number, no_number, some_number, Cells, no_cells, some_cells, behind}
+use Rattle.std.specs.Prelude.{ℕ, ◌+◌, ◌≤◌, ◌<◌, List, [], ◌≡◌, length, take, drop}
+use Rattle.text.specs.Fields.{fields, Number, no_number, some_number, Cells, no_cells, some_cells, behind}
 use Rattle.text.specs.declared.Numeral.{Numeral}
 use Rattle.text.specs.declared.Numeral.TheVariants.{Value, Bad}
 use Rattle.text.specs.declared.CellsRead.{CellsRead}
@@ -12,10 +12,6 @@ field_at line i = (fields (drop i line)).first
 
 abbrev pub rest_at : List ℕ → ℕ → List (List ℕ)
 rest_at line i = (fields (drop i line)).others
-
--- neither a space nor the line's end
-abbrev pub in_field : List ℕ → ℕ → Bool
-in_field line i = ltb i (length line) && not (eqb (get_or line i 0) space)
 
 -- a field ends at the place
 abbrev pub FieldEnds : List ℕ → ℕ → Type 0

@@ -10,12 +10,9 @@ pub fn put(bytes: &[u8], text: &mut [u8], at: usize) -> usize
     requires { at + length bytes.now < length text.old }
     ensures { Puts at bytes.now text.old result text.new }
 {
-    let mut i = 0;
-    while i < bytes.len() {
-        text[at + i] = bytes[i];
-        i += 1;
-    }
-    at + i
+    let end = at + bytes.len();
+    text[at..end].copy_from_slice(bytes);
+    end
 }
 
 // The same as numbers.
@@ -32,28 +29,27 @@ fn digit_text(d: u32) -> u8
     ensures { result ≡ digit_text d }
 {
     if d < DECIMAL {
-        return (ZERO + d) as u8;
+        (ZERO + d) as u8
+    } else {
+        (LETTER + d) as u8
     }
-    (LETTER + d) as u8
 }
 
 // Nothing is left of the number, and as many digits are made as the width asks for.
 fn all_made(left: u32, made: usize, width: usize) -> bool
     ensures { result ≡ (eqb left 0 && eqb (width - made) 0) }
 {
-    if left == 0 {
-        return width <= made;
-    }
-    false
+    left == 0 && width <= made
 }
 
 // The number's digits, from the lowest on, fill the buffer from its end; the answer is where they start.
-fn fill(n: u32, base: u32, width: usize, buffer: &mut [u8]) -> usize
-    requires { (10 ≤ base) × (base ≤ 16) × (width ≤ 10) × (length buffer.old ≡ 10) }
+fn fill(n: u32, base: u32, width: usize, buffer: &mut [u8; MOST_DIGITS]) -> usize
+    requires { (10 ≤ base) × (base ≤ 16) × (width ≤ 10) }
     ensures { (result ≤ 10) × (drop result buffer.new ≡ digits base width n) }
 {
     let mut left = n;
-    let mut i: usize = MOST_DIGITS;
+    // No `for`: the place is the answer, and both ends of the count may end it.
+    let mut i = MOST_DIGITS;
     while !all_made(left, MOST_DIGITS - i, width) {
         i -= 1;
         buffer[i] = digit_text(left % base);
@@ -82,17 +78,15 @@ pub fn put_numbered(word: &[u8], n: u32, text: &mut [u8], at: usize) -> usize
     put_field(n, DECIMAL, 1, text, end)
 }
 
-// Puts the first n cells, each as 8 hexadecimal digits behind a space. Two bytes of room are over,
+// Puts cells, each as 8 hexadecimal digits behind a space. Two bytes of room are over,
 // since put_field asks for room for ten digits.
-pub fn put_cells(cells: &[u32], n: usize, text: &mut [u8], at: usize) -> usize
-    requires { (n ≤ length cells.now) × (at + 9 * n + 2 < length text.old) }
-    ensures { Puts at (cell_texts (take n cells.now)) text.old result text.new }
+pub fn put_cells(cells: &[u32], text: &mut [u8], at: usize) -> usize
+    requires { at + 9 * length cells.now + 2 < length text.old }
+    ensures { Puts at (cell_texts cells.now) text.old result text.new }
 {
     let mut end = at;
-    let mut i = 0;
-    while i < n {
-        end = put_field(cells[i], HEXADECIMAL, CELL_DIGITS, text, end);
-        i += 1;
+    for &cell in cells {
+        end = put_field(cell, HEXADECIMAL, CELL_DIGITS, text, end);
     }
     end
 }

@@ -1,55 +1,36 @@
 // Fields of a line, read from left to right.
-ghost use Rattle.std.specs.Prelude.{◌≡◌, ◌&&◌, ◌*◌, ◌≤◌, leb, length};
+ghost use Rattle.std.specs.Prelude.{◌≡◌, ◌*◌, ◌≤◌, ◌==◌, length, position};
 ghost use Rattle.text.specs.Fields.{digit_of, numeral_first, first_number, only_number, hex_cells};
 ghost use Rattle.forms.specs.Compact.{same};
-ghost use Rattle.text.specs.Places.{rest_at, in_field, FieldEnds, EndsFirst, ReadsNumeral, ReadsCells};
+ghost use Rattle.text.specs.Places.{rest_at, FieldEnds, EndsFirst, ReadsNumeral, ReadsCells};
 
 use super::{
     CELL_DIGITS, CellsRead, DECIMAL, FROM_LETTER, FROM_ZERO, HEXADECIMAL, NUMBER_DIGITS, Numeral,
 };
 
-// Is the byte between two others, or one of them?
-fn is_between(b: u8, low: u8, high: u8) -> bool
-    ensures { result ≡ (leb low b && leb b high) }
-{
-    if low <= b {
-        return b <= high;
-    }
-    false
-}
-
 // The value of a digit, 16 for a byte that is none.
 fn digit_of(b: u8) -> u32
     ensures { result ≡ digit_of b }
 {
-    if is_between(b, b'0', b'9') {
-        return (b - FROM_ZERO) as u32;
+    match b {
+        b'0'..=b'9' => u32::from(b - FROM_ZERO),
+        b'a'..=b'f' => u32::from(b - FROM_LETTER),
+        _ => HEXADECIMAL,
     }
-    if is_between(b, b'a', b'f') {
-        return (b - FROM_LETTER) as u32;
-    }
-    HEXADECIMAL
 }
 
-// Does a field go on at the place?
-fn in_field(line: &[u8], i: usize) -> bool
-    ensures { result ≡ in_field line.now i }
+// Where the first space is.
+fn first_space(line: &[u8]) -> Option<usize>
+    ensures { result ≡ position (λ b. b == 32) line.now }
 {
-    if i < line.len() {
-        return line[i] != b' ';
-    }
-    false
+    line.iter().position(|b| *b == b' ')
 }
 
 // Where the line's first field ends.
 pub fn first_end(line: &[u8]) -> usize
     ensures { EndsFirst line.now result }
 {
-    let mut i = 0;
-    while in_field(line, i) {
-        i += 1;
-    }
-    i
+    first_space(line).unwrap_or(line.len())
 }
 
 // The numeral in the field behind a place that ends one. A value of at most 8 digits fits a cell.
@@ -60,24 +41,21 @@ fn read_numeral(line: &[u8], at: usize, base: u32, least: usize, most: usize) ->
     if line.len() <= at {
         return Numeral::Bad;
     }
-    let start = at + 1;
+    let rest = &line[at + 1..];
+    let n = first_end(rest);
+    let digits = &rest[..n];
+    if n < least || most < n {
+        return Numeral::Bad;
+    }
     let mut value = 0;
-    let mut i = start;
-    while in_field(line, i) {
-        let d = digit_of(line[i]);
+    for &b in digits {
+        let d = digit_of(b);
         if base <= d {
             return Numeral::Bad;
         }
-        if most <= i - start {
-            return Numeral::Bad;
-        }
         value = base * value + d;
-        i += 1;
     }
-    if i - start < least {
-        return Numeral::Bad;
-    }
-    Numeral::Value(value, i)
+    Numeral::Value(value, at + 1 + n)
 }
 
 // The number in the first field behind a place.
@@ -107,6 +85,7 @@ pub fn read_cells(line: &[u8], at: usize, cells: &mut [u32]) -> CellsRead
     requires { FieldEnds line.now at × (length line.now ≤ 9 * length cells.old) }
     ensures { ReadsCells (hex_cells (rest_at line.now at)) result cells.new }
 {
+    // No `for`: each turn steps over a whole field.
     let mut n = 0;
     let mut i = at;
     while i < line.len() {
@@ -125,15 +104,5 @@ pub fn read_cells(line: &[u8], at: usize, cells: &mut [u32]) -> CellsRead
 pub fn is_word(bytes: &[u8], word: &[u8]) -> bool
     ensures { result ≡ same bytes.now word.now }
 {
-    if bytes.len() != word.len() {
-        return false;
-    }
-    let mut i = 0;
-    while i < bytes.len() {
-        if bytes[i] != word[i] {
-            return false;
-        }
-        i += 1;
-    }
-    true
+    bytes == word
 }

@@ -10,9 +10,10 @@ fn keep(b: u8, line: &mut [u8], kept: usize) -> usize
 {
     if kept < line.len() {
         line[kept] = b;
-        return kept + 1;
+        kept + 1
+    } else {
+        kept
     }
-    kept
 }
 
 // Takes the bytes of a chunk from a place on, up to the next newline, behind those of their line that are kept
@@ -22,13 +23,11 @@ pub fn take_line(chunk: &[u8], at: usize, line: &mut [u8], kept: usize) -> Takin
     ensures in_range { InRange chunk.now at line.old kept result }
 {
     let mut n = kept;
-    let mut i = at;
-    while i < chunk.len() {
+    for i in at..chunk.len() {
         if chunk[i] == b'\n' {
             return Taking::Line(i + 1, n);
         }
         n = keep(chunk[i], line, n);
-        i += 1;
     }
     Taking::More(n)
 }

@@ -1,5 +1,5 @@
 -- What a climb and a gathered path return and leave, case by case.
-use Rattle.std.proofs.Common.{◌≡◌, ℕ, suc, ◌+◌, ◌-◌, ◌*◌, ◌<◌, ◌≤◌, true, leb, List, [], ◌∷◌, ◌++◌, length, get_or, drop, set, sym, refl, ap, ◌∙◌, append_assoc, append-nil, arith, length-append, length-set, drop_of_length-le, drop-cons, drop-drop, leb-false, leb-true}
+use Rattle.std.proofs.Common.{◌≡◌, ℕ, suc, ◌+◌, ◌-◌, ◌*◌, ◌<◌, ◌≤◌, true, leb, List, [], ◌∷◌, ◌++◌, length, drop, set, sym, refl, ap, ◌∙◌, append_assoc, append-nil, arith, length-append, length-set, drop_of_length-le, drop-drop, leb-false, leb-true}
 use Rattle.basis.proofs.SetsLaws.{drop-written}
 use Rattle.basis.proofs.Cases.{by_cases}
 use lib.Seq.{drop-append-le}
@@ -82,20 +82,6 @@ module _ (left : ℕ) (t : Trie) (root n : ℕ) (a : List ℕ) (o : 1 ≤ left) 
       climb-cut z = climb-more (set a (left - 1) y.token) (on_code + y.parent) (rw z (refl, refl, refl))
 
 -- ---- a run of a path
-
--- a step of copying a run, the last cell first
-pub copied-step : (run path rest : List ℕ) (from i j : ℕ) → j ≡ i + 1 → i < length run → from + i < length path → drop (from + j) path ≡ drop j run ++ rest
-    → drop (from + i) (set path (from + i) (get_or run i 0)) ≡ drop i run ++ rest
-copied-step run path rest from i j s h k e =
-    let f : suc (from + i) ≡ from + j = omega arith in
-    let g : j ≡ suc i = omega arith in
-    drop-written path (from + i) (get_or run i 0) k
-    ∙ ap (λ (m : ℕ). get_or run i 0 ∷ drop m path) f
-    ∙ ap (λ (ys : List ℕ). get_or run i 0 ∷ ys) (e ∙ ap (λ (m : ℕ). drop m run ++ rest) g)
-    ∙ ap (λ (ys : List ℕ). ys ++ rest) (sym (drop-cons run i 0 h))
-
-pub copied_none : (run path : List ℕ) (from : ℕ) → length run ≡ levels → drop (from + levels) path ≡ drop levels run ++ drop (from + levels) path
-copied_none run path from l = ap (λ (ys : List ℕ). ys ++ drop (from + levels) path) (sym (drop_of_length-le run {i = levels} (omega arith)))
 
 -- a run as it was climbed, at its end
 tokens-of : (xs before sub : List ℕ) → length before ≡ levels → drop (levels - length xs) sub ≡ xs ++ drop levels before → drop (levels - length xs) sub ≡ xs

@@ -4,19 +4,9 @@ use Rattle.space.specs.Judging.{read_node}
 use Rattle.space.specs.declared.Node.{Node}
 use Rattle.space.specs.declared.NodeRead.TheVariants as node
 use Rattle.space.proofs.JudgingLaws.{node-bounds, follows-rises, follows-within, read-node-sound, read-node-damaged}
-use Rattle.trie.specs.Siblings.{Trie, sound, parent_is, at_sibling, search_siblings, search_children}
+use Rattle.trie.specs.Siblings.{Trie, sound, at_sibling, search_siblings, search_children}
 use Rattle.trie.specs.declared.Search.{Search}
 use Rattle.trie.specs.declared.Search.TheVariants.{Found, Last, Damaged}
-
--- the parent of a node that is named, or of none
-module _ (at : ℕ → Node) (n p : ℕ) where
-  pub parent-none : n ≡ 0 → true ≡ parent_is at n p
-  unfolding parent_is
-  parent-none z = simp (eq-eqb _ _ z)
-
-  pub parent_of : (n ≡ 0 → ⊥) → (y : Node) → y ≡ at n → eqb y.parent p ≡ parent_is at n p
-  unfolding parent_is
-  parent_of z y e = ap (λ (x : Node). eqb x.parent p) e ∙ simp (ne_eqb _ _ z)
 
 -- one step of the search at node n
 module _ (steps : ℕ) (t : Trie) (parent token n : ℕ) where

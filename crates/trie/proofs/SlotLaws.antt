@@ -1,11 +1,11 @@
--- A power of two has one binary digit that is set, and its remainder is a mask.
-use Rattle.std.proofs.Common.{◌≡◌, ℕ, zero, suc, ◌+◌, ◌-◌, ◌*◌, ◌/◌, ◌%◌, ◌^◌, ◌<◌, ◌≤◌, Bool, true, false, eqb, sym, refl, ap, ◌∙◌, mod-lt, mod-eq_of_lt, pow-suc, div-add-mod', arith, eqb-true}
-use native.Mathlib.Nat.{mod_self}
+-- A power of two has one binary digit that is set, and its remainder is a mask; how a number comes into a slot.
+use Rattle.std.proofs.Common.{◌≡◌, ℕ, zero, suc, ◌+◌, ◌-◌, ◌*◌, ◌/◌, ◌%◌, ◌^◌, ◌<◌, ◌≤◌, Bool, true, false, eqb, List, length, get_or, set, sym, refl, ap, ◌∙◌, mod-lt, pow-suc, div-add-mod', arith, eqb-true, eq-eqb, ne_eqb}
 use lib.Bits.{bit_and, and_mask}
 use lib.Count.{ones, ones_step, ones_cat}
 use borrow.Author.Tests.{eqb-false}
 use Rattle.basis.proofs.Cases.{by_cases}
-use Rattle.trie.specs.Index.{power_below, power_of_two, used_slots, slot_of, slot_after}
+use Rattle.basis.specs.Choice.{pick}
+use Rattle.trie.specs.Index.{power_below, power_of_two, slot_of, slot_after, insert_from}
 
 -- n is a power of two
 abbrev pub Power : ℕ → Type 0
@@ -114,27 +114,49 @@ module _ (size parent token : ℕ) (p : power_of_two size ≡ true) where
   pub slot-masked : (x : ℕ) → x ≡ (parent + token) % 2 ^ 32 → (bit_and x (size - 1) ≡ slot_of size parent token) × (bit_and x (size - 1) < size)
   slot-masked x e = let m = ap (λ (y : ℕ). bit_and y (size - 1)) e ∙ masked in (m, rw m slot-within)
 
--- the next slot is a remainder too
-pub after-masked : (size slot : ℕ) → power_of_two size ≡ true → slot < size → (bit_and (slot + 1) (size - 1) ≡ slot_after size slot) × (bit_and (slot + 1) (size - 1) < size)
-unfolding slot_after
-after-masked size slot p h =
-    let k = power-is size p in
-    let m : bit_and (slot + 1) (size - 1) ≡ (slot + 1) % size = rw k.1 (and_mask (slot + 1) k.0) in
-    by_cases (eqb (suc slot) size)
-    (λ e. let z : slot + 1 ≡ size = let y : suc slot ≡ size = eqb-true _ _ e in omega arith in
-    let r : (slot + 1) % size ≡ 0 = ap (λ (x : ℕ). x % size) z ∙ mod_self size in
-    rw e (m ∙ r, rw (m ∙ r) (omega arith)))
-    (λ e. let y : suc slot ≡ size → ⊥ = eqb-false _ _ e in
-    let l : slot + 1 < size = omega arith in
-    let r : (slot + 1) % size ≡ suc slot = mod-eq_of_lt l ∙ omega arith in
-    rw e (m ∙ r, rw (m ∙ r) (omega arith)))
+-- ---- a number put in the first free slot
 
--- ---- the slots that are looked in
+-- nothing is put yet; so many slots were looked at, and the next is `slot`
+pub record Probing (before : List ℕ) (first x : ℕ) (index : List ℕ) (slot looked : ℕ) : Type 0 where
+  pub same : index ≡ before
+  pub inside : slot < length before
+  pub rest : insert_from (length before) before first x ≡ insert_from (length before - looked) before slot x
 
-pub used_all : (size : ℕ) → power_of_two size ≡ true → (size ≡ used_slots size) × (size ≤ size)
-unfolding used_slots
-used_all size p = (rw p, omega arith)
+module _ (before : List ℕ) (first x : ℕ) where
+  step_is : (k slot : ℕ) → insert_from (suc k) before slot x ≡ pick (eqb (get_or before slot 0) 0) (set before slot x) (insert_from k before (slot_after (length before) slot) x)
+  unfolding insert_from
+  step_is k slot = refl
 
-pub used-none : (size : ℕ) → power_of_two size ≡ false → (0 ≡ used_slots size) × (0 ≤ size)
-unfolding used_slots
-used-none size p = (rw p, omega arith)
+  end_is : (slot : ℕ) → insert_from 0 before slot x ≡ before
+  unfolding insert_from
+  end_is slot = refl
+
+  pub probing-begin : first < length before → Probing before first x before first 0
+  probing-begin l = record { same = refl; inside = l; rest = ap (λ (k : ℕ). insert_from k before first x) none_looked }
+    where
+      none_looked : length before ≡ length before - 0
+      none_looked = omega arith
+
+  module _ {index : List ℕ} {slot looked : ℕ} (p : Probing before first x index slot looked) where
+    pub probing-ended : length before ≤ looked → index ≡ insert_from (length before) before first x
+    probing-ended l =
+        let z : length before - looked ≡ 0 = omega arith in
+        p.same ∙ sym (p.rest ∙ ap (λ (k : ℕ). insert_from k before slot x) z ∙ end_is slot)
+
+    module _ (l : looked < length before) where
+      here : insert_from (length before) before first x
+          ≡ pick (eqb (get_or index slot 0) 0) (set index slot x) (insert_from (length before - (looked + 1)) before (slot_after (length before) slot) x)
+      here =
+          let one : length before - looked ≡ suc (length before - (looked + 1)) = omega arith in
+          p.rest ∙ ap (λ (k : ℕ). insert_from k before slot x) one ∙ step_is (length before - (looked + 1)) slot ∙ rw p.same
+
+      pub probing-free : get_or index slot 0 ≡ 0 → set index slot x ≡ insert_from (length before) before first x
+      probing-free z = sym (here ∙ rw (eq-eqb (get_or index slot 0) 0 z))
+
+      pub probing-on : (get_or index slot 0 ≡ 0 → ⊥) → (next : ℕ) → (next ≡ slot_after (length before) slot) × (next < length before)
+          → Probing before first x index next (looked + 1)
+      probing-on z next e = record {
+        same = p.same;
+        inside = e.1;
+        rest = here ∙ rw (ne_eqb (get_or index slot 0) 0 z, ← e.0);
+      }

@@ -1,5 +1,5 @@
 -- A law for each case of the search with an index, over what stands in the slot and the record that was read.
-use Rattle.std.proofs.Common.{◌≡◌, ℕ, zero, suc, ◌+◌, ◌<◌, ◌≤◌, Bool, true, false, eqb, ◌⊎◌, List, [], length, get_or, take, sym, refl, ap, ◌∙◌, inl, inr, arith, length-take, take_all, le-ltb, lt-ltb, eq-eqb, ne_eqb}
+use Rattle.std.proofs.Common.{◌≡◌, ℕ, zero, suc, ◌+◌, ◌<◌, ◌≤◌, Bool, true, false, ◌⊎◌, List, [], length, take, sym, refl, ap, ◌∙◌, inl, inr, arith, length-take, take_all, eq-eqb, ne_eqb}
 use Rattle.basis.specs.Choice.{pick}
 use Rattle.basis.proofs.Cases.{by_cases}
 use Rattle.space.specs.Layout.{sizes, node_in}
@@ -8,7 +8,7 @@ use Rattle.space.specs.declared.Node.{Node}
 use Rattle.space.specs.declared.NodeRead.TheVariants as node
 use Rattle.space.proofs.JudgingLaws.{read-node-sound, read-node-damaged}
 use Rattle.trie.specs.Siblings.{Trie, trie_in, sound, search_siblings, search_children}
-use Rattle.trie.specs.Walks.{walk_from_by}
+use Rattle.trie.specs.Walks.{walk_from_by, walk_by, shown}
 use Rattle.trie.specs.Index.{power_of_two, power_below, slot_of, slot_after, used_slots, confirmed, confirmed_in, judged_in, entry_beside, search_in_turn, search_indexed, Slotted}
 use Rattle.trie.specs.declared.Search.{Search}
 use Rattle.trie.specs.declared.Search.TheVariants.{Found, Last, Damaged}
@@ -17,39 +17,6 @@ use Rattle.trie.proofs.SearchLaws.{sibling-within, sibling-rises, first-within}
 use Rattle.trie.proofs.IndexLaws.{at-alike, unpowered, walk-unpowered, confirmed-is}
 
 -- ---- an entry
-
--- the record of node x, within the nodes used and above the parent
-module _ (cs : List ℕ) (nodes parent token x : ℕ) where
-  pub confirms-low : x ≤ parent → false ≡ confirmed_in cs nodes parent token x
-  unfolding confirmed_in confirmed
-  confirms-low h = simp (le-ltb parent x h)
-
-  module _ (h : parent < x) where
-    pub confirms-high : nodes ≤ x → false ≡ confirmed_in cs nodes parent token x
-    unfolding confirmed_in confirmed
-    confirms-high k = simp (lt-ltb parent x h, le-ltb x nodes k)
-
-    module _ (k : x < nodes) (y : Node) (e : y ≡ node_in sizes cs x) where
-      pub confirms-stray : (y.parent ≡ parent → ⊥) → false ≡ confirmed_in cs nodes parent token x
-      unfolding confirmed_in confirmed
-      confirms-stray p = simp (lt-ltb parent x h, lt-ltb x nodes k, ne_eqb _ _ (λ (z : (node_in sizes cs x).parent ≡ parent). p (ap (λ (n : Node). n.parent) e ∙ z)))
-
-      pub confirms-own : y.parent ≡ parent → eqb y.token token ≡ confirmed_in cs nodes parent token x
-      unfolding confirmed_in confirmed
-      confirms-own p =
-          let q = eq-eqb _ _ (sym (ap (λ (n : Node). n.parent) e) ∙ p) in
-          let s = ap (λ (n : Node). eqb n.token token) e in
-          s ∙ simp (lt-ltb parent x h, lt-ltb x nodes k, q)
-
--- what stands in the slot beside sibling n
-module _ (index : List ℕ) (stood slot n : ℕ) where
-  pub beside-old : n < stood → get_or index slot 0 ≡ entry_beside index stood slot n
-  unfolding entry_beside
-  beside-old h = simp (lt-ltb n stood h)
-
-  pub beside-new : stood ≤ n → 0 ≡ entry_beside index stood slot n
-  unfolding entry_beside
-  beside-new h = simp (le-ltb n stood h)
 
 module _ (cs : List ℕ) (nodes links x : ℕ) where
   pub judge-damaged : node.Damaged ≡ read_node nodes links (node_in sizes cs) x → Damaged ≡ judged_in cs nodes links x
@@ -218,13 +185,17 @@ module _ (index : List ℕ) (k : ℕ) (used : k ≡ used_slots (length index)) w
       go (inl a) z = rw a.1 a.0
       go (inr a) z = absurd (z (ap length a.1))
 
-  pub used-walks : (stood : ℕ) (t : Trie) (n : ℕ) (xs : List ℕ) → walk_from_by (search_indexed (take k index) stood) t n xs ≡ walk_from_by (search_indexed index stood) t n xs
-  used-walks stood t n xs = go used-either
+  used-descends : (stood : ℕ) (t : Trie) (n : ℕ) (xs : List ℕ) → walk_from_by (search_indexed (take k index) stood) t n xs ≡ walk_from_by (search_indexed index stood) t n xs
+  used-descends stood t n xs = go used-either
     where
       go : ((power_of_two (length index) ≡ true) × (take k index ≡ index)) ⊎ ((power_of_two (length index) ≡ false) × (take k index ≡ []))
           → walk_from_by (search_indexed (take k index) stood) t n xs ≡ walk_from_by (search_indexed index stood) t n xs
       go (inl a) = ap (λ (i : List ℕ). walk_from_by (search_indexed i stood) t n xs) a.1
       go (inr a) = ap (λ (i : List ℕ). walk_from_by (search_indexed i stood) t n xs) a.1 ∙ walk-unpowered [] index stood t n xs (none-powered [] refl) a.0
+
+  pub used-walks : (stood : ℕ) (t : Trie) (root : ℕ) (xs : List ℕ) → shown (walk_by (search_indexed (take k index) stood) t root xs) ≡ shown (walk_by (search_indexed index stood) t root xs)
+  unfolding walk_by
+  used-walks stood t root xs = rw (used-descends stood t root xs) refl
 
   pub used-length : k ≤ length index → k ≡ length (take k index)
   used-length h = let l = length-take k index in omega arith

@@ -9,7 +9,6 @@ use Rattle.trie.specs.Siblings.{Trie, sound}
 use Rattle.trie.specs.Walks.{Walk, stopped, damaged, Finding, walk_from_by, walk_by, shown}
 use Rattle.trie.specs.declared.Search.TheVariants.{Found, Last, Damaged}
 use Rattle.trie.specs.declared.Walked.TheVariants as walked
-use Rattle.trie.proofs.SearchLaws.{Finds}
 
 -- one token of the walk
 module _ (find : Finding) (t : Trie) (n x : ℕ) (xs : List ℕ) where
@@ -28,12 +27,10 @@ module _ (find : Finding) (t : Trie) (n x : ℕ) (xs : List ℕ) where
 -- the walk has come to n with the tokens from i on left, and gives w
 pub record Descent (find : Finding) (t : Trie) (tokens : List ℕ) (n i : ℕ) (w : Walk) : Type 0 where
   pub passed : i ≤ length tokens
-  pub within : n < t.nodes
-  pub judged : sound t n ≡ true
   pub same : w ≡ walk_from_by find t n (drop i tokens)
 
-pub descent-begin : (find : Finding) (t : Trie) (tokens : List ℕ) (n : ℕ) → n < t.nodes → sound t n ≡ true → Descent find t tokens n 0 (walk_from_by find t n tokens)
-descent-begin find t tokens n h s = record { passed = omega arith; within = h; judged = s; same = refl }
+pub descent-begin : (find : Finding) (t : Trie) (tokens : List ℕ) (n : ℕ) → Descent find t tokens n 0 (walk_from_by find t n tokens)
+descent-begin find t tokens n = record { passed = omega arith; same = refl }
 
 module _ {find : Finding} {t : Trie} {tokens : List ℕ} {n i : ℕ} {w : Walk} (d : Descent find t tokens n i w) where
   pub descent-whole : length tokens ≤ i → walked.Whole n ≡ shown w
@@ -58,33 +55,30 @@ module _ {find : Finding} {t : Trie} {tokens : List ℕ} {n i : ℕ} {w : Walk} 
     pub descent-damaged : Damaged ≡ find t n (get_or tokens i 0) → walked.Damaged ≡ shown w
     descent-damaged e = sym (ap shown (left ∙ walk-damaged find t n (get_or tokens i 0) (drop (i + 1) tokens) (sym e)))
 
-    pub descent-found : Finds find → (child : ℕ) → Found child ≡ find t n (get_or tokens i 0) → Descent find t tokens child (i + 1) w
-    descent-found finds child e =
-        let f = finds.found t n (get_or tokens i 0) child d.within d.judged (sym e) in
+    pub descent-found : (child : ℕ) → Found child ≡ find t n (get_or tokens i 0) → Descent find t tokens child (i + 1) w
+    descent-found child e =
         record {
           passed = omega arith;
-          within = f.within;
-          judged = f.judged;
           same = left ∙ walk-found find t n (get_or tokens i 0) (drop (i + 1) tokens) child (sym e);
         }
 
 -- from a root
+pub root-judged : (t : Trie) (root : ℕ) (y : Node) → node.Sound y ≡ read_node t.nodes t.links t.at root → sound t root ≡ true
+root-judged t root y e = (read-node-sound t.nodes t.links t.at root e).1
+
 module _ (find : Finding) (t : Trie) (root : ℕ) (tokens : List ℕ) where
   pub root-damaged : node.Damaged ≡ read_node t.nodes t.links t.at root → walked.Damaged ≡ shown (walk_by find t root tokens)
   unfolding walk_by
   root-damaged e = rw (read-node-damaged t.nodes t.links t.at root e)
 
   module _ (y : Node) (e : node.Sound y ≡ read_node t.nodes t.links t.at root) where
-    pub root-judged : sound t root ≡ true
-    root-judged = (read-node-sound t.nodes t.links t.at root e).1
-
     own : y.parent ≡ (t.at root).parent
     own = ap (λ (z : Node). z.parent) (read-node-sound t.nodes t.links t.at root e).0
 
     pub root-other : (y.parent ≡ root → ⊥) → walked.Damaged ≡ shown (walk_by find t root tokens)
     unfolding walk_by
-    root-other p = rw (root-judged, ne_eqb _ _ (λ (x : (t.at root).parent ≡ root). p (own ∙ x)))
+    root-other p = rw (root-judged t root y e, ne_eqb _ _ (λ (x : (t.at root).parent ≡ root). p (own ∙ x)))
 
     pub root-walked : y.parent ≡ root → shown (walk_from_by find t root tokens) ≡ shown (walk_by find t root tokens)
     unfolding walk_by
-    root-walked p = rw (root-judged, eq-eqb _ _ (sym own ∙ p))
+    root-walked p = rw (root-judged t root y e, eq-eqb _ _ (sym own ∙ p))

@@ -8,7 +8,7 @@ use Rattle.std.specs.Prelude.{◌++◌, length, ◌==◌, ◌≢◌, nat_le, nat
 use Rattle.basis.specs.Choice.{pick}
 use Rattle.space.specs.Layout.{sizes}
 use Rattle.trie.specs.Siblings.{Trie, trie_in, sound, at_sibling, search_siblings, search_children}
-use Rattle.trie.specs.Walks.{Finding, walk_from_by, walk_by, shown}
+use Rattle.trie.specs.Walks.{Finding, walk_by, shown}
 use Rattle.trie.specs.declared.Search.{Search}
 use Rattle.trie.specs.declared.Search.TheVariants.{Found, Last, Damaged}
 use Rattle.trie.specs.declared.Walked.{Walked}
@@ -109,10 +109,6 @@ judged_in cs nodes links x = pick (sound (trie_in sizes cs nodes links) x) (Foun
 abbrev pub walked_in : List ℕ → (nodes links root : ℕ) → (tokens index : List ℕ) → ℕ → Walked
 walked_in cs nodes links root tokens index stood =
     shown (walk_by (search_indexed index stood) (trie_in sizes cs nodes links) root tokens)
-
-abbrev pub walked_below : List ℕ → (nodes links start : ℕ) → (tokens index : List ℕ) → ℕ → Walked
-walked_below cs nodes links start tokens index stood =
-    shown (walk_from_by (search_indexed index stood) (trie_in sizes cs nodes links) start tokens)
 
 -- ---- build
 

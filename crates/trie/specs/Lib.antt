@@ -11,3 +11,4 @@ pub mod Examples
 pub mod IndexExamples
 pub mod TurnsExamples
 pub mod LedgerExamples
+pub mod Ends

@@ -1,6 +1,6 @@
 -- The walk of a list of tokens from a root. The way of finding a child is a parameter: the walk is defined once for
 -- all of them, and without an index it goes by the sibling chains.
-use Rattle.std.specs.Prelude.{ℕ, Bool, ◌&&◌, List, [], ◌∷◌, length, ◌==◌}
+use Rattle.std.specs.Prelude.{◌≡◌, ℕ, ◌^◌, ◌<◌, Bool, true, ◌&&◌, List, [], ◌∷◌, length, ◌==◌}
 use Rattle.basis.specs.Choice.{pick}
 use Rattle.trie.specs.Siblings.{Trie, sound, search_children}
 use Rattle.trie.specs.declared.Search.{Search}
@@ -47,3 +47,19 @@ abbrev pub shown : Walk → Walked
 shown (whole n) = walked.Whole n
 shown (stopped n last left) = walked.Stopped n last (length left)
 shown damaged = walked.Damaged
+
+-- ---- by a closure that searches, as the code takes it
+
+-- it may be called at a node that was judged sound, and what it finds there is another
+pub record Searches (pre : ℕ → ℕ → Type 0) (post : ℕ → ℕ → Search → Type 0) (t : Trie) : Type 0 where
+  pub callable : (n x : ℕ) → n < t.nodes → sound t n ≡ true → x < 2 ^ 32 → pre n x
+  pub within : (n x c : ℕ) → n < t.nodes → sound t n ≡ true → x < 2 ^ 32 → post n x (Found c) → c < t.nodes
+  pub judged : (n x c : ℕ) → n < t.nodes → sound t n ≡ true → x < 2 ^ 32 → post n x (Found c) → sound t c ≡ true
+
+-- it answers what this way of finding a child does
+abbrev pub AnswersAs : (ℕ → ℕ → Search → Type 0) → Finding → Trie → Type 0
+AnswersAs post find t = (n x : ℕ) (r : Search) → n < t.nodes → sound t n ≡ true → x < 2 ^ 32 → post n x r → r ≡ find t n x
+
+-- the walk by a closure is the one by what it answers as
+abbrev pub WalksBy : (ℕ → ℕ → Search → Type 0) → Trie → ℕ → List ℕ → Walked → Type 0
+WalksBy post t root xs w = (find : Finding) → AnswersAs post find t → w ≡ shown (walk_by find t root xs)

@@ -13,9 +13,9 @@ fn lead_to(space: &mut [u32], capacity: usize, n: usize, parent: usize, last: us
 {
     if last == 0 {
         write_child(space, capacity, parent, n as u32);
-        return;
+    } else {
+        write_sibling(space, capacity, last, n as u32);
     }
-    write_sibling(space, capacity, last, n as u32);
 }
 
 // Node n, the next one, below `parent`.
@@ -25,10 +25,10 @@ fn append_node(space: &mut [u32], capacity: usize, n: usize, parent: usize, last
 {
     lead_to(space, capacity, n, parent, last);
     let y = Node {
-        token: token,
+        token,
         child: 0,
         sibling: 0,
-        parent: parent,
+        parent,
         link: 0,
     };
     write_node(space, capacity, n, y);
@@ -48,12 +48,10 @@ pub fn append_path(
 {
     let mut above = parent;
     let mut after = last;
-    let mut i = 0;
-    while i < tokens.len() {
+    for (i, &token) in tokens.iter().enumerate() {
         let n = nodes + i;
-        append_node(space, capacity, n, above, after, tokens[i]);
+        append_node(space, capacity, n, above, after, token);
         above = n;
         after = 0;
-        i += 1;
     }
 }

@@ -2,6 +2,7 @@
 #![tactic(auto)]
 
 pub mod appends;
+pub mod ends;
 pub mod lookups;
 pub mod paths;
 pub mod siblings;

@@ -13,21 +13,16 @@ use space::NodeRead;
 use space::records::{node_in, read_node};
 
 // Is node x a child of `parent` with the token, by its own record?
+#[tactic(auto, unfolding(crate::specs::Index::confirmed_in, crate::specs::Index::confirmed))]
 pub fn confirms(space: &[u32], nodes: usize, parent: usize, token: u32, x: usize) -> bool
     requires { NodesIn space.now nodes }
     ensures { result ≡ confirmed_in space.now nodes parent token x }
 {
-    if x <= parent {
-        return false;
-    }
-    if nodes <= x {
+    if x <= parent || nodes <= x {
         return false;
     }
     let y = node_in(space, nodes, x);
-    if y.parent != parent {
-        return false;
-    }
-    y.token == token
+    y.parent == parent && y.token == token
 }
 
 // The entry x was confirmed: it is judged whole, as a node compared is.
@@ -35,21 +30,19 @@ pub fn judge(space: &[u32], nodes: usize, links: usize, x: usize) -> Search
     requires { NodesIn space.now nodes × (x < nodes) }
     ensures { result ≡ judged_in space.now nodes links x }
 {
-    let NodeRead::Sound(_) = read_node(space, nodes, links, x) else {
-        return Search::Damaged;
-    };
-    Search::Found(x)
+    match read_node(space, nodes, links, x) {
+        NodeRead::Sound(_) => Search::Found(x),
+        NodeRead::Damaged => Search::Damaged,
+    }
 }
 
 // What stands in the slot, beside sibling n: nothing where n did not stand when the call began.
+#[tactic(auto, unfolding(crate::specs::Index::entry_beside))]
 pub fn entry_beside(index: &[u32], stood: usize, slot: usize, n: usize) -> usize
     requires { slot < length index.now }
     ensures { result ≡ entry_beside index.now stood slot n }
 {
-    if n < stood {
-        return wide(index[slot]);
-    }
-    0
+    if n < stood { wide(index[slot]) } else { 0 }
 }
 
 // All children of a node that was read and found sound, from the slot of this parent and token on.
@@ -72,30 +65,29 @@ fn search_in_turn(
     }
     let mut n = p.child;
     let mut slot = slot_of(index.len(), parent, token);
-    let found = loop {
+    loop {
         let x = entry_beside(index, stood, slot, n);
         if x == 0 {
-            break search_siblings(space, nodes, links, parent, n, token);
+            return search_siblings(space, nodes, links, parent, n, token);
         }
         if confirms(space, nodes, parent, token, x) {
-            break judge(space, nodes, links, x);
+            return judge(space, nodes, links, x);
         }
         let NodeRead::Sound(y) = read_node(space, nodes, links, n) else {
-            break Search::Damaged;
+            return Search::Damaged;
         };
         if y.parent != parent {
-            break Search::Damaged;
+            return Search::Damaged;
         }
         if y.token == token {
-            break Search::Found(n);
+            return Search::Found(n);
         }
         if y.sibling == 0 {
-            break Search::Last(n);
+            return Search::Last(n);
         }
         n = y.sibling;
         slot = slot_after(index.len(), slot);
-    };
-    found
+    }
 }
 
 // The same; along the siblings alone where there is no slot.
@@ -112,7 +104,7 @@ pub fn search_indexed(
     requires parent_value { sound (trie_in sizes space.now nodes links) parent ≡ true }
     ensures { result ≡ search_indexed index.now stood (trie_in sizes space.now nodes links) parent token }
 {
-    if index.len() == 0 {
+    if index.is_empty() {
         return search_children(space, nodes, links, parent, token);
     }
     search_in_turn(space, nodes, links, parent, token, index, stood)

@@ -47,10 +47,7 @@ fn climb(
         return LOST;
     };
     if y.parent == n {
-        if n == root {
-            return left;
-        }
-        return LOST;
+        return if n == root { left } else { LOST };
     }
     let at = left - 1;
     run[at] = y.token;
@@ -76,11 +73,7 @@ fn copy_run(run: &[u32; LEVELS], from: usize, path: &mut [u32])
     requires { (length run.now ≡ levels) × (from + levels ≤ length path.old) }
     ensures { RunCopied run.now from path.old path.new }
 {
-    let mut i = LEVELS;
-    while 0 < i {
-        i -= 1;
-        path[from + i] = run[i];
-    }
+    path[from..from + LEVELS].copy_from_slice(run);
 }
 
 // A path whose last run was climbed, in the cells of so many runs, from behind: the run is copied, and where it was
@@ -102,10 +95,7 @@ fn climb_runs(
     if begun < LOST {
         return from + begun;
     }
-    if begun == LOST {
-        return 0;
-    }
-    if runs == 1 {
+    if begun == LOST || runs == 1 {
         return 0;
     }
     let mut next = [0u32; LEVELS];

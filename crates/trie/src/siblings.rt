@@ -9,15 +9,12 @@ use space::NodeRead;
 use space::records::{node_in, read_node};
 
 // Is there no node n, or one with this parent?
+#[tactic(auto, unfolding(crate::specs::Siblings::parent_is))]
 pub fn parent_is(space: &[u32], nodes: usize, n: usize, parent: usize) -> bool
     requires { NodeOf space.now nodes n }
     ensures { result ≡ parent_is (node_in sizes space.now) n parent }
 {
-    if n == 0 {
-        return true;
-    }
-    let y = node_in(space, nodes, n);
-    y.parent == parent
+    n == 0 || node_in(space, nodes, n).parent == parent
 }
 
 // The siblings from `first` on, children of `parent`.
@@ -33,22 +30,21 @@ pub fn search_siblings(
     ensures { result ≡ search_siblings nodes (trie_in sizes space.now nodes links) parent token first }
 {
     let mut n = first;
-    let found = loop {
+    loop {
         let NodeRead::Sound(y) = read_node(space, nodes, links, n) else {
-            break Search::Damaged;
+            return Search::Damaged;
         };
         if y.parent != parent {
-            break Search::Damaged;
+            return Search::Damaged;
         }
         if y.token == token {
-            break Search::Found(n);
+            return Search::Found(n);
         }
         if y.sibling == 0 {
-            break Search::Last(n);
+            return Search::Last(n);
         }
         n = y.sibling;
-    };
-    found
+    }
 }
 
 // All children of a node that was read and found sound.

@@ -1,10 +1,11 @@
-// The walk of a list of tokens from a root, with an index; one of no cells is none. `stood` is the number of nodes that
-// were there when the call began.
-ghost use Rattle.std.specs.Prelude.{◌≡◌, ◌<◌, true};
+// The walk of a list of tokens from a root, by any search for a child; and by an index, where one of no cells is none.
+// `stood` is the number of nodes that were there when the call began.
+ghost use Rattle.std.specs.Prelude.{◌≡◌, ◌<◌};
 ghost use Rattle.space.specs.Layout.{sizes};
 ghost use Rattle.space.specs.Sound.{NodesIn};
-ghost use Rattle.trie.specs.Siblings.{trie_in, sound};
-ghost use Rattle.trie.specs.Index.{Slotted, walked_below, walked_in};
+ghost use Rattle.trie.specs.Siblings.{trie_in};
+ghost use Rattle.trie.specs.Walks.{Searches, WalksBy};
+ghost use Rattle.trie.specs.Index.{walked_in};
 
 use super::lookups::search_indexed;
 use super::slots::used_slots;
@@ -12,29 +13,29 @@ use super::{Search, Walked};
 use space::NodeRead;
 use space::records::read_node;
 
-// The walk below a node that was read and found sound.
-fn walk_from(
+// The walk from a root, by a search among the children of a node that was read and found sound.
+pub fn walk_by<F: Fn(usize, u32) -> Search>(
     space: &[u32],
     nodes: usize,
     links: usize,
-    start: usize,
+    root: usize,
     tokens: &[u32],
-    index: &[u32],
-    stood: usize,
+    search: F,
 ) -> Walked
-    requires nodes_in { NodesIn space.now nodes × (start < nodes) × Slotted index.now }
-    requires start_value { sound (trie_in sizes space.now nodes links) start ≡ true }
-    ensures { result ≡ walked_below space.now nodes links start tokens.now index.now stood }
+    requires nodes_in { NodesIn space.now nodes × (root < nodes) }
+    requires searches { Searches (F.pre search) (F.post search) (trie_in sizes space.now nodes links) }
+    ensures { WalksBy (F.post search) (trie_in sizes space.now nodes links) root tokens.now result }
 {
-    let mut n = start;
-    let mut i = 0;
-    while i < tokens.len() {
-        let found = search_indexed(space, nodes, links, n, tokens[i], index, stood);
-        match found {
-            Search::Found(child) => {
-                n = child;
-                i += 1;
-            }
+    let NodeRead::Sound(y) = read_node(space, nodes, links, root) else {
+        return Walked::Damaged;
+    };
+    if y.parent != root {
+        return Walked::Damaged;
+    }
+    let mut n = root;
+    for (i, &token) in tokens.iter().enumerate() {
+        match search(n, token) {
+            Search::Found(child) => n = child,
             Search::Last(last) => return Walked::Stopped(n, last, tokens.len() - i),
             Search::Damaged => return Walked::Damaged,
         }
@@ -42,7 +43,7 @@ fn walk_from(
     Walked::Whole(n)
 }
 
-// The walk from a root. Slots whose number is no power of two are left aside.
+// By an index. Slots whose number is no power of two are left aside.
 pub fn walk_tokens(
     space: &[u32],
     nodes: usize,
@@ -55,12 +56,7 @@ pub fn walk_tokens(
     requires { NodesIn space.now nodes × (root < nodes) }
     ensures { result ≡ walked_in space.now nodes links root tokens.now index.now stood }
 {
-    let NodeRead::Sound(y) = read_node(space, nodes, links, root) else {
-        return Walked::Damaged;
-    };
-    if y.parent != root {
-        return Walked::Damaged;
-    }
-    let used = used_slots(index.len());
-    walk_from(space, nodes, links, root, tokens, &index[..used], stood)
+    let slots = &index[..used_slots(index.len())];
+    let search = |n, token| search_indexed(space, nodes, links, n, token, slots, stood);
+    walk_by(space, nodes, links, root, tokens, search)
 }

@@ -8,7 +8,7 @@ use trials::{back, both};
 fn variables_and_functors(rt: &impl Print) -> io::Result<()> {
     both(
         rt,
-        b"000 f(g(Y,Z),X,Z)",
+        "000 f(g(Y,Z),X,Z)",
         &[
             0x40000013, 0x40000022, 0x10000009, 0x10000008, 0x10000007, 0x10000008,
         ],
@@ -17,7 +17,7 @@ fn variables_and_functors(rt: &impl Print) -> io::Result<()> {
     )?;
     both(
         rt,
-        b"000 rt(a,f(a,b),a)",
+        "000 rt(a,f(a,b),a)",
         &[
             0x40000033, 0x20000001, 0x40000012, 0x20000001, 0x20000002, 0x20000001,
         ],
@@ -30,7 +30,7 @@ fn variables_and_functors(rt: &impl Print) -> io::Result<()> {
 fn repeated_arguments(rt: &impl Print) -> io::Result<()> {
     both(
         rt,
-        b"000 rt(a,g(b,c),c)",
+        "000 rt(a,g(b,c),c)",
         &[
             0x40000033, 0x20000001, 0x40000022, 0x20000002, 0x20000003, 0x20000003,
         ],
@@ -39,7 +39,7 @@ fn repeated_arguments(rt: &impl Print) -> io::Result<()> {
     )?;
     both(
         rt,
-        b"000 rt(a,f(b,X),X)",
+        "000 rt(a,f(b,X),X)",
         &[
             0x40000033, 0x20000001, 0x40000012, 0x20000002, 0x10000007, 0x10000007,
         ],
@@ -52,7 +52,7 @@ fn repeated_arguments(rt: &impl Print) -> io::Result<()> {
 fn tries(rt: &impl Print) -> io::Result<()> {
     both(
         rt,
-        b"001 f(X,g(Y,X),Z)",
+        "001 f(X,g(Y,X),Z)",
         &[
             0x40000013, 0x10000007, 0x40000022, 0x10000009, 0x10000007, 0x10000008,
         ],
@@ -61,28 +61,28 @@ fn tries(rt: &impl Print) -> io::Result<()> {
     )?;
     both(
         rt,
-        b"001 fig 1 f(X,a)",
+        "001 fig 1 f(X,a)",
         &[0x40000012, 0x10000007, 0x20000001],
         1,
         1,
     )?;
     both(
         rt,
-        b"001 fig 1 g(X,Y)",
+        "001 fig 1 g(X,Y)",
         &[0x40000022, 0x10000007, 0x10000009],
         1,
         1,
     )?;
     both(
         rt,
-        b"001 fig 1 f(Y,1)",
+        "001 fig 1 f(Y,1)",
         &[0x40000012, 0x10000009, 0x30000001],
         1,
         1,
     )?;
     both(
         rt,
-        b"001 fig 2 t(X,f(1))",
+        "001 fig 2 t(X,f(1))",
         &[0x40000042, 0x10000007, 0x40000011, 0x30000001],
         1,
         1,
@@ -93,7 +93,7 @@ fn tries(rt: &impl Print) -> io::Result<()> {
 fn lists(rt: &impl Print) -> io::Result<()> {
     both(
         rt,
-        b"001 fig 7 [1,2,3]",
+        "001 fig 7 [1,2,3]",
         &[
             0x50000000, 0x30000001, 0x50000000, 0x30000002, 0x50000000, 0x30000003, 0x20000000,
         ],
@@ -102,7 +102,7 @@ fn lists(rt: &impl Print) -> io::Result<()> {
     )?;
     both(
         rt,
-        b"001 fig 7 [1,2|3]",
+        "001 fig 7 [1,2|3]",
         &[0x50000000, 0x30000001, 0x50000000, 0x30000002, 0x30000003],
         1,
         1,
@@ -113,7 +113,7 @@ fn lists(rt: &impl Print) -> io::Result<()> {
 fn nested_lists(rt: &impl Print) -> io::Result<()> {
     both(
         rt,
-        b"001 fig 9 [f(1,2),[],g(a)]",
+        "001 fig 9 [f(1,2),[],g(a)]",
         &[
             0x50000000, 0x40000012, 0x30000001, 0x30000002, 0x50000000, 0x20000000, 0x50000000,
             0x40000021, 0x20000001, 0x20000000,
@@ -123,7 +123,7 @@ fn nested_lists(rt: &impl Print) -> io::Result<()> {
     )?;
     both(
         rt,
-        b"001 fig 9 [1,[2,3],[]]",
+        "001 fig 9 [1,[2,3],[]]",
         &[
             0x50000000, 0x30000001, 0x50000000, 0x50000000, 0x30000002, 0x50000000, 0x30000003,
             0x20000000, 0x50000000, 0x20000000, 0x20000000,
@@ -135,44 +135,44 @@ fn nested_lists(rt: &impl Print) -> io::Result<()> {
 
 // A list without an end; several terms together, and none.
 fn terms_together(rt: &impl Print) -> io::Result<()> {
-    both(rt, b"M6 [1|2]", &[0x50000000, 0x30000001, 0x30000002], 1, 1)?;
+    both(rt, "M6 [1|2]", &[0x50000000, 0x30000001, 0x30000002], 1, 1)?;
     both(
         rt,
-        b"two terms numbered together: X, f(Y,X)",
+        "two terms numbered together: X, f(Y,X)",
         &[0x10000007, 0x40000012, 0x10000009, 0x10000007],
         2,
         1,
     )?;
-    both(rt, b"no terms", &[0u32; 0], 0, 1)
+    both(rt, "no terms", &[0u32; 0], 0, 1)
 }
 
 // What is not m terms.
 fn malformed_terms(rt: &impl Print) -> io::Result<()> {
     both(
         rt,
-        b"a pair without its tail",
+        "a pair without its tail",
         &[0x50000000, 0x30000001],
         1,
         1,
     )?;
-    both(rt, b"a cell left over", &[0x30000001, 0x30000002], 1, 1)?;
+    both(rt, "a cell left over", &[0x30000001, 0x30000002], 1, 1)?;
     both(
         rt,
-        b"a mark in pair form",
+        "a mark in pair form",
         &[0x60000000, 0x30000001, 0x70000000, 0x30000002],
         1,
         1,
     )?;
-    both(rt, b"a functor of arity 0", &[0x40000010], 1, 1)?;
-    both(rt, b"no cells for one term", &[0u32; 0], 1, 1)?;
-    both(rt, b"cells for no terms", &[0x30000001], 0, 1)
+    both(rt, "a functor of arity 0", &[0x40000010], 1, 1)?;
+    both(rt, "no cells for one term", &[0u32; 0], 1, 1)?;
+    both(rt, "cells for no terms", &[0x30000001], 0, 1)
 }
 
 // The forms of other approaches, which are no compact form: figures 4 and 5 of source 001.
 fn other_approaches(rt: &impl Print) -> io::Result<()> {
     back(
         rt,
-        b"001 fig 4 standard list",
+        "001 fig 4 standard list",
         &[
             0x50000000, 0x30000001, 0x50000000, 0x30000002, 0x50000000, 0x30000003, 0x20000000,
         ],
@@ -181,7 +181,7 @@ fn other_approaches(rt: &impl Print) -> io::Result<()> {
     )?;
     back(
         rt,
-        b"001 fig 5 initial approach [1,2,3]",
+        "001 fig 5 initial approach [1,2,3]",
         &[
             0x60000000, 0x30000001, 0x30000002, 0x30000003, 0x20000000, 0x70000000,
         ],
@@ -190,7 +190,7 @@ fn other_approaches(rt: &impl Print) -> io::Result<()> {
     )?;
     back(
         rt,
-        b"001 fig 5 initial approach [1,2|3]",
+        "001 fig 5 initial approach [1,2|3]",
         &[0x60000000, 0x30000001, 0x30000002, 0x30000003, 0x70000000],
         1,
         1,
@@ -201,7 +201,7 @@ fn other_approaches(rt: &impl Print) -> io::Result<()> {
 fn second_approach(rt: &impl Print) -> io::Result<()> {
     back(
         rt,
-        b"001 fig 6 second approach [1,2,3]",
+        "001 fig 6 second approach [1,2,3]",
         &[
             0x60000000, 0x30000001, 0x30000002, 0x70000000, 0x30000003, 0x20000000,
         ],
@@ -210,7 +210,7 @@ fn second_approach(rt: &impl Print) -> io::Result<()> {
     )?;
     back(
         rt,
-        b"001 fig 6 second approach [1,2|3]",
+        "001 fig 6 second approach [1,2|3]",
         &[0x60000000, 0x30000001, 0x70000000, 0x30000002, 0x30000003],
         1,
         1,
@@ -221,21 +221,21 @@ fn second_approach(rt: &impl Print) -> io::Result<()> {
 fn other_forms(rt: &impl Print) -> io::Result<()> {
     back(
         rt,
-        b"M7 BLIST EPAIR 1",
+        "M7 BLIST EPAIR 1",
         &[0x60000000, 0x80000000, 0x30000001],
         1,
         1,
     )?;
     back(
         rt,
-        b"M8 BLIST 1 EPAIR []",
+        "M8 BLIST 1 EPAIR []",
         &[0x60000000, 0x30000001, 0x80000000, 0x20000000],
         1,
         1,
     )?;
     back(
         rt,
-        b"EPAIR before a list",
+        "EPAIR before a list",
         &[
             0x60000000, 0x30000001, 0x80000000, 0x60000000, 0x70000000, 0x30000002,
         ],
@@ -244,12 +244,12 @@ fn other_forms(rt: &impl Print) -> io::Result<()> {
     )?;
     back(
         rt,
-        b"variables not numbered by first meeting",
+        "variables not numbered by first meeting",
         &[0x40000012, 0x10000001, 0x10000000],
         1,
         1,
     )?;
-    back(rt, b"one term where two are asked for", &[0x30000001], 2, 1)
+    back(rt, "one term where two are asked for", &[0x30000001], 2, 1)
 }
 
 fn main(rt: HostRuntime) -> io::Result<()> {

@@ -1,9 +1,8 @@
 -- Laws of result words: an answer's word is that of the variant that it is, and what `tables_counts` gives in each case.
 use Prim.Native.Nat.{ℕ, ◌≤◌, ◌<◌}
-use mathlib.Core.List.{List, [], ◌∷◌}
+use mathlib.Core.List.{List, ◌∷◌}
 use mathlib.Core.Path.{◌≡◌, refl, sym, ap, ◌∙◌}
-use native.Mathlib.Omega.{arith}
-use lib.ListN.{length, drop, set}
+use lib.ListN.{length, drop}
 use borrow.Author.Tests.{le-leb, lt-leb}
 use Rattle.plain.specs.Requests.{Counts, Reply, used, refused, short}
 use Rattle.words.specs.Words.{word, counting, counts_reply, counts_out}
@@ -33,12 +32,6 @@ module _ {x y : Reply} (same : x ≡ y) where
 abbrev pub Counted : Reply → List ℕ → ℕ → List ℕ → Type 0
 Counted reply out w out' = (w ≡ word (counts_reply reply out)) × (out' ≡ counts_out reply out)
 
-three-set : (out : List ℕ) (x y z : ℕ) → 3 ≤ length out → set (set (set out 0 x) 1 y) 2 z ≡ x ∷ y ∷ z ∷ drop 3 out
-three-set [] x y z h = absurd (omega arith)
-three-set (a ∷ []) x y z h = absurd (omega arith)
-three-set (a ∷ b ∷ []) x y z h = absurd (omega arith)
-three-set (a ∷ b ∷ d ∷ out) x y z h = refl
-
 module _ (reply : Reply) (out : List ℕ) (w : ℕ) where
   pub counts-refused : (r : ℕ) → refused r ≡ reply → w ≡ word (refused r) → Counted reply out w out
   unfolding counts_reply counts_out counting
@@ -48,6 +41,6 @@ module _ (reply : Reply) (out : List ℕ) (w : ℕ) where
   unfolding counts_reply counts_out counting
   counts-short c e h f = rw (← e, lt-leb 3 (length out) h) (f, refl)
 
-  pub counts-given : (c : Counts) → used c ≡ reply → 3 ≤ length out → w ≡ word (used c) → Counted reply out w (set (set (set out 0 c.nodes) 1 c.subgoals) 2 c.answers)
+  pub counts-given : (c : Counts) → used c ≡ reply → 3 ≤ length out → w ≡ word (used c) → Counted reply out w (c.nodes ∷ c.subgoals ∷ c.answers ∷ drop 3 out)
   unfolding counts_reply counts_out counting
-  counts-given c e h f = rw (← e, le-leb 3 (length out) h) (f, three-set out c.nodes c.subgoals c.answers h)
+  counts-given c e h f = rw (← e, le-leb 3 (length out) h) (f, refl)

@@ -15,26 +15,9 @@ use store::{DetourAnswer, DetourOutcome};
 const DETOUR: u32 = 14;
 
 const NO_DETOUR: u32 = 15;
+
 // The choices tried, whether the search ended, and a number for each goal.
 const DETOUR_CELLS: usize = 2 + MOST_GOALS;
-
-fn flag(b: bool) -> u32
-    ensures { result ≡ pick b 1 0 }
-{
-    if b {
-        return 1;
-    }
-    0
-}
-
-fn fewer(a: usize, b: usize) -> usize
-    ensures { result ≡ min a b }
-{
-    if a < b {
-        return a;
-    }
-    b
-}
 
 // What is told of every search.
 fn write_progress(tried: u32, ended: bool, out: &mut [u32])
@@ -42,16 +25,15 @@ fn write_progress(tried: u32, ended: bool, out: &mut [u32])
     ensures { out.new ≡ tried ∷ pick ended 1 0 ∷ drop 2 out.old }
 {
     out[0] = tried;
-    out[1] = flag(ended);
+    out[1] = u32::from(ended);
 }
 
 // The first numbers, after that.
 fn write_numbers(numbers: &[u32; MOST_GOALS], count: usize, out: &mut [u32])
-    requires { (length numbers.now ≡ 6) × (8 ≤ length out.old) }
+    requires { 8 ≤ length out.old }
     ensures { NumbersStand numbers.now count out.old out.new }
 {
-    let n = fewer(count, MOST_GOALS);
-    copy(numbers, n, &mut out[2..]);
+    copy(numbers, count.min(MOST_GOALS), &mut out[2..]);
 }
 
 // The word of what detours answers; out is judged after all else.
@@ -59,24 +41,18 @@ pub fn detours_result(answer: DetourAnswer, out: &mut [u32]) -> u64
     requires { Bounded (said_detours answer) }
     ensures { SaysDetours (said_detours answer) result out.old out.new }
 {
-    let outcome = answer.outcome;
-    match outcome {
-        DetourOutcome::Found(total, tried, ended) => {
-            if out.len() < DETOUR_CELLS {
-                return result_word(REFUSED + OUT, DETOUR_CELLS as u32);
-            }
-            let numbers = answer.numbers;
+    let has_room = DETOUR_CELLS <= out.len();
+    match answer.outcome {
+        DetourOutcome::Found(total, tried, ended) if has_room => {
             write_progress(tried, ended, out);
-            write_numbers(&numbers, answer.count, out);
-            return result_word(DETOUR, total);
+            write_numbers(&answer.numbers, answer.count, out);
+            result_word(DETOUR, total)
         }
-        DetourOutcome::Nothing(tried, ended) => {
-            if out.len() < DETOUR_CELLS {
-                return result_word(REFUSED + OUT, DETOUR_CELLS as u32);
-            }
+        DetourOutcome::Nothing(tried, ended) if has_room => {
             write_progress(tried, ended, out);
-            return result_word(NO_DETOUR, 0);
+            result_word(NO_DETOUR, 0)
         }
-        DetourOutcome::Refused(r) => return refusal_word(r),
+        DetourOutcome::Refused(r) => refusal_word(r),
+        _ => result_word(REFUSED + OUT, DETOUR_CELLS as u32),
     }
 }

@@ -68,7 +68,7 @@ const UPPER: u64 = 4294967296;
 pub fn result_word(what: u32, value: u32) -> u64
     ensures { result ≡ worded what value }
 {
-    what as u64 * UPPER + value as u64
+    u64::from(what) * UPPER + u64::from(value)
 }
 
 // The word of a refusal without a value: of every one but 12. A bound keeps the sum within a cell.
@@ -85,8 +85,8 @@ pub fn fresh_word(answer: FreshAnswer) -> u64
     ensures { result ≡ word (said_fresh answer) }
 {
     match answer {
-        FreshAnswer::Done => return result_word(DONE, 0),
-        FreshAnswer::Refused(r) => return refusal_word(r),
+        FreshAnswer::Done => result_word(DONE, 0),
+        FreshAnswer::Refused(r) => refusal_word(r),
     }
 }
 
@@ -95,8 +95,8 @@ fn old_word(n: u32, state: State) -> u64
     ensures { result ≡ word (request.old_subgoal n (said_state state)) }
 {
     match state {
-        State::Open => return result_word(OLD_OPEN, n),
-        State::Finished => return result_word(OLD_FINISHED, n),
+        State::Open => result_word(OLD_OPEN, n),
+        State::Finished => result_word(OLD_FINISHED, n),
     }
 }
 
@@ -106,9 +106,9 @@ pub fn call_word(answer: CallAnswer) -> u64
     ensures { result ≡ word (said_call answer) }
 {
     match answer {
-        CallAnswer::New(n) => return result_word(NEW, n),
-        CallAnswer::Old(n, state) => return old_word(n, state),
-        CallAnswer::Refused(r) => return refusal_word(r),
+        CallAnswer::New(n) => result_word(NEW, n),
+        CallAnswer::Old(n, state) => old_word(n, state),
+        CallAnswer::Refused(r) => refusal_word(r),
     }
 }
 
@@ -118,9 +118,9 @@ pub fn answer_word(answer: AnswerAnswer) -> u64
     ensures { result ≡ word (said_answer answer) }
 {
     match answer {
-        AnswerAnswer::New(n) => return result_word(NEW, n),
-        AnswerAnswer::Old(n) => return result_word(OLD, n),
-        AnswerAnswer::Refused(r) => return refusal_word(r),
+        AnswerAnswer::New(n) => result_word(NEW, n),
+        AnswerAnswer::Old(n) => result_word(OLD, n),
+        AnswerAnswer::Refused(r) => refusal_word(r),
     }
 }
 
@@ -130,8 +130,8 @@ pub fn finish_word(answer: FinishAnswer) -> u64
     ensures { result ≡ word (said_finish answer) }
 {
     match answer {
-        FinishAnswer::Done => return result_word(DONE, 0),
-        FinishAnswer::Refused(r) => return refusal_word(r),
+        FinishAnswer::Done => result_word(DONE, 0),
+        FinishAnswer::Refused(r) => refusal_word(r),
     }
 }
 
@@ -140,8 +140,8 @@ fn lacking_word(state: State) -> u64
     ensures { result ≡ word (request.lacks_next (said_state state)) }
 {
     match state {
-        State::Open => return result_word(NONE_YET, 0),
-        State::Finished => return result_word(NO_MORE, 0),
+        State::Open => result_word(NONE_YET, 0),
+        State::Finished => result_word(NO_MORE, 0),
     }
 }
 
@@ -151,9 +151,9 @@ pub fn next_word(answer: NextAnswer) -> u64
     ensures { result ≡ word (said_next answer) }
 {
     match answer {
-        NextAnswer::At(n) => return result_word(AT, n),
-        NextAnswer::Lacking(state) => return lacking_word(state),
-        NextAnswer::Refused(r) => return refusal_word(r),
+        NextAnswer::At(n) => result_word(AT, n),
+        NextAnswer::Lacking(state) => lacking_word(state),
+        NextAnswer::Refused(r) => refusal_word(r),
     }
 }
 
@@ -163,8 +163,8 @@ pub fn join_word(answer: JoinAnswer) -> u64
     ensures { result ≡ word (said_join answer) }
 {
     match answer {
-        JoinAnswer::Joined(n) => return result_word(JOINED, n),
-        JoinAnswer::Refused(r) => return refusal_word(r),
+        JoinAnswer::Joined(n) => result_word(JOINED, n),
+        JoinAnswer::Refused(r) => refusal_word(r),
     }
 }
 
@@ -174,9 +174,9 @@ pub fn cells_word(answer: Answer) -> u64
     ensures { result ≡ word (said_cells answer) }
 {
     match answer {
-        Answer::Cells(n) => return result_word(CELLS, n as u32),
-        Answer::Short(n) => return result_word(REFUSED + OUT, n as u32),
-        Answer::Refused(r) => return refusal_word(r),
+        Answer::Cells(n) => result_word(CELLS, n as u32),
+        Answer::Short(n) => result_word(REFUSED + OUT, n as u32),
+        Answer::Refused(r) => refusal_word(r),
     }
 }
 
@@ -194,11 +194,11 @@ pub fn check_word(answer: CheckAnswer) -> u64
     ensures { result ≡ word_check (said_check answer) }
 {
     match answer {
-        CheckAnswer::Whole => return result_word(DONE, 0),
-        CheckAnswer::Header => return refusal_word(HEADER),
-        CheckAnswer::Node(n) => return broken_word(BROKEN_NODE, n),
-        CheckAnswer::Subgoal(s) => return broken_word(BROKEN_SUBGOAL, s),
-        CheckAnswer::Answer(a) => return broken_word(BROKEN_ANSWER, a),
+        CheckAnswer::Whole => result_word(DONE, 0),
+        CheckAnswer::Header => refusal_word(HEADER),
+        CheckAnswer::Node(n) => broken_word(BROKEN_NODE, n),
+        CheckAnswer::Subgoal(s) => broken_word(BROKEN_SUBGOAL, s),
+        CheckAnswer::Answer(a) => broken_word(BROKEN_ANSWER, a),
     }
 }
 
@@ -208,7 +208,7 @@ pub fn build_word(answer: BuildAnswer) -> u64
     ensures { result ≡ word_build (said_build answer) }
 {
     match answer {
-        BuildAnswer::Built(n) => return result_word(BUILT, n),
-        BuildAnswer::Refused(r) => return refusal_word(r),
+        BuildAnswer::Built(n) => result_word(BUILT, n),
+        BuildAnswer::Refused(r) => refusal_word(r),
     }
 }

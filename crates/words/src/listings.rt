@@ -15,9 +15,9 @@ pub fn listing_word(answer: Listing) -> u64
     ensures { result ≡ word_listing answer }
 {
     match answer {
-        Listing::Cells(n) => return result_word(CELLS, n as u32),
-        Listing::End => return result_word(END, 0),
-        Listing::Refused(r) => return refusal_word(r),
-        Listing::Short(n) => return result_word(REFUSED + OUT, n as u32),
+        Listing::Cells(n) => result_word(CELLS, n as u32),
+        Listing::End => result_word(END, 0),
+        Listing::Refused(r) => refusal_word(r),
+        Listing::Short(n) => result_word(REFUSED + OUT, n as u32),
     }
 }

@@ -32,22 +32,17 @@ pub fn give_reason(answer: WhyAnswer, out: &mut [u32]) -> u64
     requires { Bounded (said_why answer) × NamesHeld answer }
     ensures { GivesReason (said_why answer) out.old result out.new }
 {
-    let reason = answer.reason;
-    match reason {
-        Reason::Old(s, m) => {
-            if out.len() < WHY_CELLS {
-                return result_word(REFUSED + OUT, WHY_CELLS as u32);
-            }
+    let has_room = WHY_CELLS <= out.len();
+    match answer.reason {
+        Reason::Old(s, m) if has_room => {
             give_variables(&answer.variables, m, out);
-            return result_word(WHY_OLD, s);
+            result_word(WHY_OLD, s)
         }
-        Reason::New(n, s) => {
-            if out.len() < WHY_CELLS {
-                return result_word(REFUSED + OUT, WHY_CELLS as u32);
-            }
+        Reason::New(n, s) if has_room => {
             out[0] = n;
-            return result_word(WHY_NEW, s);
+            result_word(WHY_NEW, s)
         }
-        Reason::Refused(r) => return refusal_word(r),
+        Reason::Refused(r) => refusal_word(r),
+        _ => result_word(REFUSED + OUT, WHY_CELLS as u32),
     }
 }

@@ -11,13 +11,14 @@ use Rattle.basis.proofs.Tests.{told}
 use Rattle.trie.specs.Siblings.{search_children}
 use Rattle.store.proofs.CallsAnswers.{answer-zero, answer-above, answer-damaged, answer-root-damaged, answer-root-other, answer-judged, subgoal-is, subgoal-sound}
 use borrow.Author.Rules.{rules}
+use Rattle.answering.proofs.answer_in.Goals.{then-s-eq0-via-then-s-eq0, then-s-eq0-via-else-s-eq0+then-h-s}
 use Rattle.answering.proofs.answer_in.Goals as goal
 
 pub returns-then-s-eq0 : goal.returns-then-s-eq0
-returns-then-s-eq0 c = answer-zero _ _ _ _ _ (search rules)
-
-pub returns-then-h-s : goal.returns-then-h-s
-returns-then-h-s c = answer-above _ _ _ _ _ (search rules)
+returns-then-s-eq0 c = elim c.then-s-eq0.branch [
+  | then-s-eq0-via-then-s-eq0 w ↦ answer-zero _ _ _ _ _ w.if-s-eq0.true
+  | then-s-eq0-via-else-s-eq0+then-h-s w ↦ answer-above _ _ _ _ _ w.if-h-s.true
+]
 
 pub returns-in_default : goal.returns-in_default
 returns-in_default c = answer-damaged _ _ _ _ _ (search rules) (search rules) (told c.in_default.is c.read_subgoal.ensures)

@@ -3,6 +3,7 @@ use mathlib.Core.Path.{sym, ◌∙◌}
 use Rattle.basis.proofs.Tests.{told}
 use Rattle.store.proofs.CallsAnswers.{last_none, last-damaged, last-other, last-ends}
 use borrow.Author.Rules.{rules}
+use borrow.Author.Tests.{ne_eqb}
 use Rattle.answering.proofs.last_sound.Goals as goal
 
 pub returns-then-last-eq0 : goal.returns-then-last-eq0
@@ -14,5 +15,5 @@ returns-in_default c = last-damaged c.args.space.now c.args.h c.args.s c.args.la
 pub returns-then-y-s : goal.returns-then-y-s
 returns-then-y-s c = last-ends c.args.space.now c.args.h c.args.s c.args.last c.requires.2 (search rules) c.in-Sound.y (sym c.in-Sound.is ∙ c.read_answer.ensures) (search rules)
 
-pub returns : goal.returns
-returns c = last-other c.args.space.now c.args.h c.args.s c.args.last c.requires.2 (search rules) c.in-Sound.y (sym c.in-Sound.is ∙ c.read_answer.ensures) (search rules)
+pub returns-else-y-s : goal.returns-else-y-s
+returns-else-y-s c = ne_eqb _ _ c.if-y-s.false ∙ last-other c.args.space.now c.args.h c.args.s c.args.last c.requires.2 (search rules) c.in-Sound.y (sym c.in-Sound.is ∙ c.read_answer.ensures) (search rules)

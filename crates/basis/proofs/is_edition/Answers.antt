@@ -1,4 +1,4 @@
--- `is_edition` meets its contract, one case to each side of its test.
+-- `is_edition` meets its contract, one case to each side of its first test.
 use borrow.Author.Tests.{eq-eqb, ne_eqb}
 use Rattle.basis.specs.Editions.{known_edition}
 use Rattle.basis.proofs.is_edition.Goals as goal
@@ -7,6 +7,6 @@ pub returns-then-edition-eq1 : goal.returns-then-edition-eq1
 unfolding known_edition
 returns-then-edition-eq1 c = simp (eq-eqb _ _ c.if-edition-eq1.true)
 
-pub returns : goal.returns
+pub returns-else-edition-eq1 : goal.returns-else-edition-eq1
 unfolding known_edition
-returns c = simp (ne_eqb _ _ c.if-edition-eq1.false)
+returns-else-edition-eq1 c = simp (ne_eqb _ _ c.if-edition-eq1.false)

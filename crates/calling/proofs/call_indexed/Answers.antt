@@ -7,16 +7,16 @@ use borrow.Author.Rules.{rules}
 use Rattle.calling.proofs.call_indexed.Goals as goal
 
 pub returns-in-Refused : goal.returns-in-Refused
-returns-in-Refused c = call-answers _ _ _ _ _ (steps-refused _ _ _ _ (told c.in-Refused.is c.read_header-read.ensures))
+returns-in-Refused c = call-answers _ _ _ _ _ (steps-refused _ _ _ _ (told c.in-Refused.is c.read_header.ensures))
 
 pub call_with-requires : goal.call_with-requires
-call_with-requires c = record { bounds = header-bounds _ _ (told c.in-Sound.is c.read_header-read.ensures); room_for_form = search rules }
+call_with-requires c = record { bounds = header-bounds _ _ (told c.in-Sound.is c.read_header.ensures); room_for_form = search rules }
 
 pub returns-then-cells_rung-le-FEW_CELLS : goal.returns-then-cells_rung-le-FEW_CELLS
-returns-then-cells_rung-le-FEW_CELLS c = call-answers _ _ _ _ _ (steps-indexed _ _ _ (told c.in-Sound.is c.read_header-read.ensures) _ _ _ c.call_with.ensures)
+returns-then-cells_rung-le-FEW_CELLS c = call-answers _ _ _ _ _ (steps-indexed _ _ _ (told c.in-Sound.is c.read_header.ensures) _ _ _ c.call_with.ensures)
 
 pub call_with-requires-in-Sound : goal.call_with-requires-in-Sound
-call_with-requires-in-Sound c = record { bounds = header-bounds _ _ (told c.in-Sound.is c.read_header-read.ensures); room_for_form = search rules }
+call_with-requires-in-Sound c = record { bounds = header-bounds _ _ (told c.in-Sound.is c.read_header.ensures); room_for_form = search rules }
 
-pub returns-in-Sound : goal.returns-in-Sound
-returns-in-Sound c = call-answers _ _ _ _ _ (steps-indexed _ _ _ (told c.in-Sound.is c.read_header-read.ensures) _ _ _ c.call_with-in-Sound.ensures)
+pub returns-else-cells_rung-le-FEW_CELLS : goal.returns-else-cells_rung-le-FEW_CELLS
+returns-else-cells_rung-le-FEW_CELLS c = call-answers _ _ _ _ _ (steps-indexed _ _ _ (told c.in-Sound.is c.read_header.ensures) _ _ _ c.call_with-in-Sound.ensures)

@@ -6,25 +6,25 @@ use Rattle.detours.proofs.FindCases.{decides-number, decides-refused, decides-fo
 use borrow.Author.Rules.{rules}
 use Rattle.detours.proofs.detours_in.Goals as goal
 
-pub judge_goals-r-requires : goal.judge_goals-r-requires
-judge_goals-r-requires c = (c.requires, (told c.are_numbers.ensures c.if-are_numbers.true))
+pub returns-then-not-are_numbers : goal.returns-then-not-are_numbers
+returns-then-not-are_numbers c =
+    ap says c.without_numbers.ensures ∙ decides-number c.args.space.now c.args.h c.args.goals.now c.args.budget
+    (told c.are_numbers.ensures c.if-not-are_numbers.true)
+
+pub judge_goals-requires : goal.judge_goals-requires
+judge_goals-requires c = (c.requires, told c.are_numbers.ensures c.if-not-are_numbers.false)
 
 pub search_goals-requires : goal.search_goals-requires
-search_goals-requires c = (c.requires, c.judge_goals-r.ensures.ready (search rules))
+search_goals-requires c = (c.requires, c.judge_goals.ensures.ready (search rules))
 
-pub returns-then-r-eq0 : goal.returns-then-r-eq0
-returns-then-r-eq0 c =
+pub returns-in-0 : goal.returns-in-0
+returns-in-0 c =
     decides-found c.args.space.now c.args.h c.args.goals.now c.args.budget
-    (told c.are_numbers.ensures c.if-are_numbers.true) _
-    (c.judge_goals-r.ensures.ready (search rules)) c.search_goals.ensures
+    (told c.are_numbers.ensures c.if-not-are_numbers.false) _
+    (c.judge_goals.ensures.ready (search rules)) c.search_goals.ensures
 
-pub returns-then-are_numbers : goal.returns-then-are_numbers
-returns-then-are_numbers c =
-    ap says c.without_numbers.ensures ∙ decides-refused c.args.space.now c.args.h c.args.goals.now c.args.budget
-    (told c.are_numbers.ensures c.if-are_numbers.true) _ c.judge_goals-r.ensures
+pub returns-in_default : goal.returns-in_default
+returns-in_default c =
+    ap says c.without_numbers-in_default.ensures ∙ decides-refused c.args.space.now c.args.h c.args.goals.now c.args.budget
+    (told c.are_numbers.ensures c.if-not-are_numbers.false) _ c.judge_goals.ensures
     (search rules)
-
-pub returns : goal.returns
-returns c =
-    ap says c.without_numbers-2.ensures ∙ decides-number c.args.space.now c.args.h c.args.goals.now c.args.budget
-    (told c.are_numbers.ensures c.if-are_numbers.false)

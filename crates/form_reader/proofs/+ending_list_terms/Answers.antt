@@ -19,6 +19,7 @@ use types.Run.{OneOf}
 use Rattle.forms.specs.contracts.Shape.{the_type}
 use Prim.Native.Nat.{ℕ, ◌<◌}
 use Rattle.form_reader.proofs.+ending_list_terms.Goals as goal
+use Rattle.form_reader.proofs.+ending_list_terms.Goals.{ending-then-c-eq-NIL-via-then-c-eq-NIL, ending-then-c-eq-NIL-via-else-c-eq-NIL+then-c-eq-BLIST}
 
 -- a symbol is no other shape
 no_symbol : (k : ℕ) → OneOf (1 ∷ 2 ∷ []) (tag_of the_type (Symbol k)) → ⊥
@@ -28,10 +29,10 @@ pub ending-returns-then-s-at : goal.ending-returns-then-s-at
 ending-returns-then-s-at t c = rest-tail-end (arity_of c.args.edition) c.args.s.now c.args.limit c.args.from.at c.args.from.count c.args.out.now c.args.from.to (omega arith) c.args.out.now c.requires.1.1 c.if-s-at.true
 
 pub ending-returns-then-c-eq-NIL : goal.ending-returns-then-c-eq-NIL
-ending-returns-then-c-eq-NIL t c = rest-tail-nil (arity_of c.args.edition) c.args.s.now c.args.limit c.args.from.at c.args.from.count c.args.out.now c.args.from.to (omega arith) c.args.out.now c.requires.1.1 c.if-s-at.false c.if-c-eq-NIL.true
-
-pub ending-returns-then-c-eq-BLIST : goal.ending-returns-then-c-eq-BLIST
-ending-returns-then-c-eq-BLIST t c = rest-tail-list (arity_of c.args.edition) c.args.s.now c.args.limit c.args.from.at c.args.from.count c.args.out.now c.args.from.to (omega arith) c.args.out.now c.requires.1.1 c.if-s-at.false c.if-c-eq-BLIST.true
+ending-returns-then-c-eq-NIL t c = elim c.then-c-eq-NIL.branch [
+  | ending-then-c-eq-NIL-via-then-c-eq-NIL w ↦ rest-tail-nil (arity_of c.args.edition) c.args.s.now c.args.limit c.args.from.at c.args.from.count c.args.out.now c.args.from.to (omega arith) c.args.out.now c.requires.1.1 c.if-s-at.false w.if-c-eq-NIL.true
+  | ending-then-c-eq-NIL-via-else-c-eq-NIL+then-c-eq-BLIST w ↦ rest-tail-list (arity_of c.args.edition) c.args.s.now c.args.limit c.args.from.at c.args.from.count c.args.out.now c.args.from.to (omega arith) c.args.out.now c.requires.1.1 c.if-s-at.false w.if-c-eq-BLIST.true
+]
 
 pub ending-terms-requires : goal.ending-terms-requires
 ending-terms-requires t c = omega arith
@@ -78,11 +79,11 @@ list-loop-at-preserved-then-is_constant t c = let k : constant (get_or c.args.s.
 pub list-ending-requires : goal.list-ending-requires
 list-ending-requires t c = (omega arith, ((omega arith, omega arith, omega arith, omega arith, omega arith), (omega arith, c.if-c.true)))
 
-pub list-returns-then-some : goal.list-returns-then-some
-list-returns-then-some t c = c.loop-at.invariant.goes_on c.ending.new.out c.ending.result (subst (λ b. RestRan (arity_of c.args.edition) c.args.s.now c.args.limit c.loop-at.at b c.loop-at.count c.loop-at.out c.loop-at.to c.ending.new.out c.ending.result) (sym c.if-some.true) c.ending.ensures)
+pub list-returns-then-not-some : goal.list-returns-then-not-some
+list-returns-then-not-some t c = c.loop-at.invariant.goes_on c.loop-at.out Malformed (subst (λ b. RestRan (arity_of c.args.edition) c.args.s.now c.args.limit c.loop-at.at b c.loop-at.count c.loop-at.out c.loop-at.to c.loop-at.out Malformed) (sym c.if-not-some.true) (rest-tail-first (arity_of c.args.edition) c.args.s.now c.args.limit c.loop-at.at c.loop-at.count c.loop-at.out c.loop-at.to c.if-s-at.false c.loop-at.out c.if-c.true))
 
 pub list-returns-then-c : goal.list-returns-then-c
-list-returns-then-c t c = c.loop-at.invariant.goes_on c.loop-at.out Malformed (subst (λ b. RestRan (arity_of c.args.edition) c.args.s.now c.args.limit c.loop-at.at b c.loop-at.count c.loop-at.out c.loop-at.to c.loop-at.out Malformed) (sym c.if-some.false) (rest-tail-first (arity_of c.args.edition) c.args.s.now c.args.limit c.loop-at.at c.loop-at.count c.loop-at.out c.loop-at.to c.if-s-at.false c.loop-at.out c.if-c.true))
+list-returns-then-c t c = c.loop-at.invariant.goes_on c.ending.new.out c.ending.result (subst (λ b. RestRan (arity_of c.args.edition) c.args.s.now c.args.limit c.loop-at.at b c.loop-at.count c.loop-at.out c.loop-at.to c.ending.new.out c.ending.result) (sym c.if-not-some.false) c.ending.ensures)
 
 pub list-returns-then-limit-to-2 : goal.list-returns-then-limit-to-2
 list-returns-then-limit-to-2 t c = c.loop-at.invariant.goes_on c.loop-at.out Malformed (rest-full (arity_of c.args.edition) c.args.s.now c.args.limit c.loop-at.at c.loop-at.count c.loop-at.out c.loop-at.to c.if-s-at.false c.loop-at.some c.loop-at.out c.if-c.false c.if-limit-to-2.true)

@@ -4,16 +4,16 @@ use Rattle.growing.proofs.GrowingCases.{grow-header, fresh_at, few-at, done_at}
 use Rattle.growing.proofs.grow.Goals as goal
 
 pub returns-in-Refused : goal.returns-in-Refused
-returns-in-Refused c = grow-header _ _ _ _ _ (told c.in-Refused.is c.read_header-t.ensures)
+returns-in-Refused c = grow-header _ _ _ _ _ (told c.in-Refused.is c.read_header.ensures)
 
 pub rearrange-requires : goal.rearrange-requires
-rearrange-requires c = ((told c.in-Sound.is c.read_header-t.ensures), (told c.fits.ensures c.if-fits.true), (told c.is_enough.ensures c.if-is_enough.true))
+rearrange-requires c = ((told c.in-Sound.is c.read_header.ensures), (told c.fits.ensures c.if-not-fits.false), (told c.is_enough.ensures c.if-not-is_enough.false))
 
-pub returns-then-is_enough : goal.returns-then-is_enough
-returns-then-is_enough c = done_at _ _ _ _ _ _ _ c.wide-n.ensures.0 c.wide-f.ensures.0 c.wide-a.ensures.0 _ (told c.in-Sound.is c.read_header-t.ensures) _ ((told c.in-Sound.is c.read_header-t.ensures), (told c.fits.ensures c.if-fits.true), (told c.is_enough.ensures c.if-is_enough.true)) c.rearrange.ensures
+pub returns-else-not-is_enough : goal.returns-else-not-is_enough
+returns-else-not-is_enough c = done_at _ _ _ _ _ _ _ c.wide-n.ensures.0 c.wide-f.ensures.0 c.wide-a.ensures.0 _ (told c.in-Sound.is c.read_header.ensures) _ ((told c.in-Sound.is c.read_header.ensures), (told c.fits.ensures c.if-not-fits.false), (told c.is_enough.ensures c.if-not-is_enough.false)) c.rearrange.ensures
 
-pub returns-then-fits : goal.returns-then-fits
-returns-then-fits c = few-at _ _ _ _ _ _ _ c.wide-n.ensures.0 c.wide-f.ensures.0 c.wide-a.ensures.0 _ (told c.in-Sound.is c.read_header-t.ensures) (told c.fits.ensures c.if-fits.true) (told c.is_enough.ensures c.if-is_enough.false)
+pub returns-then-not-is_enough : goal.returns-then-not-is_enough
+returns-then-not-is_enough c = few-at _ _ _ _ _ _ _ c.wide-n.ensures.0 c.wide-f.ensures.0 c.wide-a.ensures.0 _ (told c.in-Sound.is c.read_header.ensures) (told c.fits.ensures c.if-not-fits.false) (told c.is_enough.ensures c.if-not-is_enough.true)
 
-pub returns-in-Sound : goal.returns-in-Sound
-returns-in-Sound c = fresh_at _ _ _ _ _ _ _ c.wide-n.ensures.0 c.wide-f.ensures.0 c.wide-a.ensures.0 _ (told c.in-Sound.is c.read_header-t.ensures) (told c.fits.ensures c.if-fits.false)
+pub returns-then-not-fits : goal.returns-then-not-fits
+returns-then-not-fits c = fresh_at _ _ _ _ _ _ _ c.wide-n.ensures.0 c.wide-f.ensures.0 c.wide-a.ensures.0 _ (told c.in-Sound.is c.read_header.ensures) (told c.fits.ensures c.if-not-fits.true)

@@ -25,8 +25,8 @@ pub bounds-term-at : goal.bounds-term-at
 bounds-term-at t c =
     let g = given _ _ _ c.requires.room.given in omega arith
 
-pub place_after-requires : goal.place_after-requires
-place_after-requires t c =
+pub place_after-next-requires : goal.place_after-next-requires
+place_after-next-requires t c =
     let g = given _ _ _ c.requires.room.given in
     let w = next-goes c.args.edition c.args.s c.args.symbols.now c.args.place c.args.term.now (omega (arith, c.requires.long)) (search rules) _ refl _ refl c.requires.ends in
     (omega arith, w.0, omega arith)
@@ -34,9 +34,9 @@ place_after-requires t c =
 pub advance-requires : goal.advance-requires
 advance-requires t c =
     let g = given _ _ _ c.requires.room.given in
-    let w = next-goes c.args.edition c.args.s c.args.symbols.now c.args.place c.args.term.now (omega (arith, c.requires.long)) (search rules) _ refl _ c.place_after.ensures c.requires.ends in
-    let l = next-letters c.args.edition c.args.s c.args.symbols.now c.args.place c.args.term.now (omega (arith, c.requires.long)) (search rules) _ refl _ c.place_after.ensures c.requires.letters in
-    let z = passed-at _ _ _ _ c.place_after.ensures in (
+    let w = next-goes c.args.edition c.args.s c.args.symbols.now c.args.place c.args.term.now (omega (arith, c.requires.long)) (search rules) _ refl _ c.place_after-next.ensures c.requires.ends in
+    let l = next-letters c.args.edition c.args.s c.args.symbols.now c.args.place c.args.term.now (omega (arith, c.requires.long)) (search rules) _ refl _ c.place_after-next.ensures c.requires.letters in
+    let z = passed-at _ _ _ _ c.place_after-next.ensures in (
       omega (arith, z.0, c.decreases),
       record {
         room = record { given = c.requires.room.given; table = c.requires.room.table; within = omega (arith, z.0); few = omega (arith, w.1) };
@@ -51,8 +51,8 @@ unfolding listed_result
 returns-then-advance t c =
     let g = given _ _ _ c.requires.room.given in
     let v = c.advance.ensures in
-    let z = passed-at _ _ _ _ c.place_after.ensures in (
-      advance-found c.args.edition c.args.s c.args.symbols.now c.args.place c.args.term.now (omega (arith, c.requires.long)) (search rules) _ refl _ c.place_after.ensures _ (rw c.if-advance.true at c.advance.ensures.0),
+    let z = passed-at _ _ _ _ c.place_after-next.ensures in (
+      advance-found c.args.edition c.args.s c.args.symbols.now c.args.place c.args.term.now (omega (arith, c.requires.long)) (search rules) _ refl _ c.place_after-next.ensures _ (rw c.if-advance.true at c.advance.ensures.0),
       shorter c.args.place.at c.args.term.now _ (rw z.0 at v.1),
       v.2,
     )
@@ -64,7 +64,7 @@ place_of-later-requires t c =
 pub overflow_add-later : goal.overflow_add-later
 overflow_add-later t c =
     let g = given _ _ _ c.requires.room.given in
-    let l = next-letters c.args.edition c.args.s c.args.symbols.now c.args.place c.args.term.now (omega (arith, c.requires.long)) (search rules) _ refl _ c.place_after.ensures c.requires.letters in
+    let l = next-letters c.args.edition c.args.s c.args.symbols.now c.args.place c.args.term.now (omega (arith, c.requires.long)) (search rules) _ refl _ c.place_after-next.ensures c.requires.letters in
     let j = (c.place_of-later.ensures ∙ place-rank _ _ _ g _ l.0) in
     omega (arith, rank_most _ _ _ j, alphabet-length c.args.s c.args.symbols.now)
 
@@ -75,10 +75,10 @@ pub returns-in_default : goal.returns-in_default
 unfolding listed_result
 returns-in_default t c =
     let g = given _ _ _ c.requires.room.given in
-    let l = next-letters c.args.edition c.args.s c.args.symbols.now c.args.place c.args.term.now (omega (arith, c.requires.long)) (search rules) _ refl _ c.place_after.ensures c.requires.letters in
+    let l = next-letters c.args.edition c.args.s c.args.symbols.now c.args.place c.args.term.now (omega (arith, c.requires.long)) (search rules) _ refl _ c.place_after-next.ensures c.requires.letters in
     let v = c.advance.ensures in
-    let z = passed-at _ _ _ _ c.place_after.ensures in (
-      advance-none c.args.edition c.args.s c.args.symbols.now c.args.place c.args.term.now (omega (arith, c.requires.long)) (search rules) _ refl _ c.place_after.ensures (rw c.if-advance.false at c.advance.ensures.0) _ (c.place_of-later.ensures ∙ place-rank _ _ _ g _ l.0) (sym c.in_default.is ∙ c.choose.ensures),
+    let z = passed-at _ _ _ _ c.place_after-next.ensures in (
+      advance-none c.args.edition c.args.s c.args.symbols.now c.args.place c.args.term.now (omega (arith, c.requires.long)) (search rules) _ refl _ c.place_after-next.ensures (rw c.if-advance.false at c.advance.ensures.0) _ (c.place_of-later.ensures ∙ place-rank _ _ _ g _ l.0) (sym c.in_default.is ∙ c.choose.ensures),
       shorter c.args.place.at c.args.term.now _ (rw z.0 at v.1),
       v.2,
     )
@@ -91,8 +91,8 @@ pub bounds-term-at-2 : goal.bounds-term-at-2
 bounds-term-at-2 t c =
     let g = given _ _ _ c.requires.room.given in omega arith
 
-pub place_after-requires-2 : goal.place_after-requires-2
-place_after-requires-2 t c =
+pub place_after-next-requires-2 : goal.place_after-next-requires-2
+place_after-next-requires-2 t c =
     let g = given _ _ _ c.requires.room.given in
     let h = chosen-due _ _ _ _ _ _ (sym c.in-Cell.is ∙ c.choose.ensures) in
     (omega arith, h.some-due, omega arith)
@@ -101,7 +101,7 @@ pub fill-requires : goal.fill-requires
 fill-requires t c =
     let g = given _ _ _ c.requires.room.given in
     let h = chosen-due _ _ _ _ _ _ (sym c.in-Cell.is ∙ c.choose.ensures) in
-    let z = passed-at _ _ _ _ c.place_after-2.ensures in (
+    let z = passed-at _ _ _ _ c.place_after-next-2.ensures in (
       record { given = c.requires.room.given; table = c.requires.room.table; within = omega (arith, z.0); few = omega (arith, z.1, h.few-due) },
       simp length-set (c.advance.ensures.2 ∙ c.requires.long),
     )
@@ -110,11 +110,11 @@ pub returns : goal.returns
 unfolding listed_result
 returns t c =
     let g = given _ _ _ c.requires.room.given in
-    let l = next-letters c.args.edition c.args.s c.args.symbols.now c.args.place c.args.term.now (omega (arith, c.requires.long)) (search rules) _ refl _ c.place_after.ensures c.requires.letters in
+    let l = next-letters c.args.edition c.args.s c.args.symbols.now c.args.place c.args.term.now (omega (arith, c.requires.long)) (search rules) _ refl _ c.place_after-next.ensures c.requires.letters in
     let v = c.advance.ensures in
     let f = c.fill.ensures in
-    let z = passed-at _ _ _ _ c.place_after-2.ensures in
-    let x = advance-cell c.args.edition c.args.s c.args.symbols.now c.args.place c.args.term.now (omega (arith, c.requires.long)) (search rules) _ refl _ c.place_after.ensures (rw c.if-advance.false at c.advance.ensures.0) _ (c.place_of-later.ensures ∙ place-rank _ _ _ g _ l.0) _ (sym c.in-Cell.is ∙ c.choose.ensures) _ c.place_after-2.ensures c.advance.new.term (still-room c.args.s c.args.term.now c.advance.new.term (omega (arith, c.requires.long)) v.2) v.1 in (
+    let z = passed-at _ _ _ _ c.place_after-next-2.ensures in
+    let x = advance-cell c.args.edition c.args.s c.args.symbols.now c.args.place c.args.term.now (omega (arith, c.requires.long)) (search rules) _ refl _ c.place_after-next.ensures (rw c.if-advance.false at c.advance.ensures.0) _ (c.place_of-later.ensures ∙ place-rank _ _ _ g _ l.0) _ (sym c.in-Cell.is ∙ c.choose.ensures) _ c.place_after-next-2.ensures c.advance.new.term (still-room c.args.s c.args.term.now c.advance.new.term (omega (arith, c.requires.long)) v.2) v.1 in (
       f.0 ∙ x.0,
       shorter c.args.place.at _ _ (rw z.0 at f.1) ∙ x.1,
       f.2 ∙ simp length-set v.2,

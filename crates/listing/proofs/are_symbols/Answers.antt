@@ -1,22 +1,20 @@
 -- `are_symbols` meets its contract: those that are left are symbols where all of them are.
-use native.Mathlib.Omega.{arith}
+use Prim.Native.Nat.{◌+◌}
+use Rattle.std.proofs.lemmas.List.{take_rest}
 use Rattle.listing.proofs.Tests.{refuted, confirmed}
 use mathlib.Core.Path.{refl, ◌∙◌, sym}
 use Rattle.listing.proofs.Letters.{symbols-all, symbols-not, symbols-again, symbols-later}
-use borrow.Author.Rules.{rules}
 use Rattle.listing.proofs.are_symbols.Goals as goal
-
-pub loop-i-init : goal.loop-i-init
-loop-i-init c = (omega arith, refl)
+use Rattle.listing.proofs.are_symbols.Goals.{then-not-is_symbol-via-then-not-is_symbol, then-not-is_symbol-via-else-not-is_symbol+then-find-later}
 
 pub returns-then-not-is_symbol : goal.returns-then-not-is_symbol
-returns-then-not-is_symbol c = symbols-not _ c.args.symbols.now c.loop-i.i (search rules) _ refl (search refuted) ∙ sym c.loop-i.invariant.1
-
-pub returns-then-find-symbols : goal.returns-then-find-symbols
-returns-then-find-symbols c = symbols-again _ c.args.symbols.now c.loop-i.i (search rules) _ refl (search confirmed) _ c.find.ensures.0 (search rules) ∙ sym c.loop-i.invariant.1
+returns-then-not-is_symbol c = elim c.then-not-is_symbol.branch [
+  | then-not-is_symbol-via-then-not-is_symbol w ↦ symbols-not _ c.args.symbols.now c.loop-i.i c.loop-i-test.true _ refl (refuted c.is_symbol.ensures w.if-not-is_symbol.true) ∙ sym c.loop-i.invariant
+  | then-not-is_symbol-via-else-not-is_symbol+then-find-later w ↦ symbols-again _ c.args.symbols.now c.loop-i.i c.loop-i-test.true _ refl (confirmed c.is_symbol.ensures w.if-not-is_symbol.false) _ (rw (take_rest c.args.symbols.now (c.loop-i.i + 1)) at w.find.ensures.0) (rw (take_rest c.args.symbols.now (c.loop-i.i + 1)) at w.if-find-later.true) ∙ sym c.loop-i.invariant
+]
 
 pub loop-i-preserved : goal.loop-i-preserved
-loop-i-preserved c = (search rules, c.loop-i.invariant.1 ∙ symbols-later _ c.args.symbols.now c.loop-i.i (search rules) _ refl (search confirmed) _ c.find.ensures.0 (search rules))
+loop-i-preserved c = c.loop-i.invariant ∙ symbols-later _ c.args.symbols.now c.loop-i.i c.loop-i-test.true _ refl (confirmed c.is_symbol.ensures c.if-not-is_symbol.false) _ (rw (take_rest c.args.symbols.now (c.loop-i.i + 1)) at c.find.ensures.0) (rw (take_rest c.args.symbols.now (c.loop-i.i + 1)) at c.if-find-later.false)
 
 pub returns : goal.returns
-returns c = symbols-all _ c.args.symbols.now c.loop-i.i (search rules) ∙ sym c.loop-i.invariant.1
+returns c = symbols-all _ c.args.symbols.now c.loop-i.i c.loop-i-test.false ∙ sym c.loop-i.invariant

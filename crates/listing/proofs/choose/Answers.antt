@@ -16,8 +16,8 @@ overflow_sub-left-2 c = omega arith
 pub loop-j-init : goal.loop-j-init
 loop-j-init c = (refl, omega (arith, given _ _ _ c.requires.0.given))
 
-pub overflow_add-symbols : goal.overflow_add-symbols
-overflow_add-symbols c = omega (arith, given _ _ _ c.requires.0.given)
+pub overflow_add-j-end : goal.overflow_add-j-end
+overflow_add-j-end c = omega (arith, given _ _ _ c.requires.0.given)
 
 pub letter-c-requires : goal.letter-c-requires
 letter-c-requires c = omega (arith, given _ _ _ c.requires.0.given)
@@ -27,9 +27,6 @@ goes_on-requires c = let g = given _ _ _ c.requires.0.given in (omega arith, ome
 
 pub returns-then-goes_on : goal.returns-then-goes_on
 returns-then-goes_on c = choice-here _ c.args.s c.args.symbols.now c.args.sums.now c.args.place _ c.loop-j.invariant.1 c.requires.0.table c.loop-j.j _ (search rules) c.letter-c.ensures (search told) ∙ sym c.loop-j.invariant.0
-
-pub overflow_add-j : goal.overflow_add-j
-overflow_add-j c = omega (arith, given _ _ _ c.requires.0.given)
 
 pub loop-j-preserved : goal.loop-j-preserved
 loop-j-preserved c = (c.loop-j.invariant.0 ∙ choice-later _ c.args.s c.args.symbols.now c.args.sums.now c.args.place _ c.loop-j.invariant.1 c.requires.0.table c.loop-j.j _ (search rules) c.letter-c.ensures (search told), c.loop-j.invariant.1)

@@ -1,12 +1,9 @@
-use Prim.Native.Nat.{◌+◌, ◌-◌, ◌<◌}
+use Prim.Native.Nat.{◌<◌}
 use mathlib.Core.Path.{◌≡◌}
-use lib.ListN.{length, drop}
+use lib.ListN.{drop}
 use Rattle.listing.specs.Listing.{alphabet}
 use Rattle.listing.specs.Steps.{can_go_on, first_of}
 use Rattle.listing.proofs.choose.Given as goal
 
 abbrev pub invariant-loop-j : goal.invariant-loop-j
 invariant-loop-j l = (first_of (can_go_on l.edition l.symbols l.place l.left) (drop l.from (alphabet l.s l.symbols)) ≡ first_of (can_go_on l.edition l.symbols l.place l.left) (drop l.j (alphabet l.s l.symbols))) × (l.left < 8)
-
-abbrev pub decreases-loop-j : goal.decreases-loop-j
-decreases-loop-j l = length l.symbols + l.s - l.j

@@ -5,4 +5,4 @@ use Rattle.listing.proofs.place_after.Goals as goal
 
 pub returns : goal.returns
 unfolding passed
-returns c = rw (add-one, c.known_after-known.ensures, c.due_after-due.ensures, c.arguments_of.ensures.0)
+returns c = rw (add-one, c.known_after.ensures, c.due_after.ensures, c.arguments_of.ensures.0)

@@ -1,4 +1,3 @@
-use Prim.Native.Nat.{◌≤◌, ◌-◌}
 use mathlib.Core.Path.{◌≡◌}
 use mathlib.Core.List.{◌++◌}
 use lib.ListN.{length, take, drop}
@@ -6,7 +5,4 @@ use Rattle.marshalling.specs.Bytes.{cells_of}
 use Rattle.marshalling.proofs.decode.Given as goal
 
 abbrev pub invariant-loop-i : goal.invariant-loop-i
-invariant-loop-i l = (l.i ≤ l.n) × (l.cells ≡ take l.i (cells_of l.bytes) ++ drop l.i l.initial.cells) × (length l.cells ≡ length l.initial.cells)
-
-abbrev pub decreases-loop-i : goal.decreases-loop-i
-decreases-loop-i l = l.n - l.i
+invariant-loop-i l = (l.cells ≡ take l.i (cells_of l.bytes) ++ drop l.i l.initial.cells) × (length l.cells ≡ length l.initial.cells)

@@ -1,75 +1,25 @@
 -- `encode` meets its contract: the bytes of the cells passed are written.
-use mathlib.Core.Path.{refl}
+use Prim.Native.Nat.{◌*◌, ◌/◌, ◌%◌}
+use mathlib.Core.List.{[], ◌∷◌}
+use lib.ListN.{take, get_or}
+use mathlib.Core.Path.{refl, sym, ◌∙◌}
 use native.Mathlib.Omega.{arith}
-use lib.ListN.{length-set}
+use Rattle.std.proofs.lemmas.Slice.{put_mid-paste}
+use lib.Seq.{sets-eq, length-take-le}
 use Rattle.marshalling.proofs.BytesLaws.{bytes_next, bytes-all}
 use Rattle.marshalling.proofs.encode.Goals as goal
 
-pub loop-i-init : goal.loop-i-init
-loop-i-init c = (omega arith, refl, refl)
-
-pub offset_bounds-cells-i : goal.offset_bounds-cells-i
-offset_bounds-cells-i c = omega arith
-
-pub bounds-cells-i : goal.bounds-cells-i
-bounds-cells-i c = omega arith
-
-pub overflow_cast-out : goal.overflow_cast-out
-overflow_cast-out c = omega arith
-
-pub overflow_mul-out : goal.overflow_mul-out
-overflow_mul-out c = omega arith
-
-pub bounds-out-i : goal.bounds-out-i
-bounds-out-i c = omega arith
-
-pub overflow_cast-out-in-loop-i : goal.overflow_cast-out-in-loop-i
-overflow_cast-out-in-loop-i c = omega arith
-
-pub overflow_mul-out-in-loop-i : goal.overflow_mul-out-in-loop-i
-overflow_mul-out-in-loop-i c = omega arith
-
-pub overflow_add-out : goal.overflow_add-out
-overflow_add-out c = omega arith
-
-pub bounds-out-i-in-loop-i : goal.bounds-out-i-in-loop-i
-bounds-out-i-in-loop-i c = simp length-set (omega arith)
-
-pub overflow_cast-out-in-loop-i-2 : goal.overflow_cast-out-in-loop-i-2
-overflow_cast-out-in-loop-i-2 c = omega arith
-
-pub overflow_mul-out-in-loop-i-2 : goal.overflow_mul-out-in-loop-i-2
-overflow_mul-out-in-loop-i-2 c = omega arith
-
-pub overflow_add-out-in-loop-i : goal.overflow_add-out-in-loop-i
-overflow_add-out-in-loop-i c = omega arith
-
-pub bounds-out-i-in-loop-i-2 : goal.bounds-out-i-in-loop-i-2
-bounds-out-i-in-loop-i-2 c = simp length-set (omega arith)
-
-pub overflow_cast-out-in-loop-i-3 : goal.overflow_cast-out-in-loop-i-3
-overflow_cast-out-in-loop-i-3 c = omega (arith, c.type_inv.cells c.loop-i.i)
-
-pub overflow_mul-out-in-loop-i-3 : goal.overflow_mul-out-in-loop-i-3
-overflow_mul-out-in-loop-i-3 c = omega arith
-
-pub overflow_add-out-in-loop-i-2 : goal.overflow_add-out-in-loop-i-2
-overflow_add-out-in-loop-i-2 c = omega arith
-
-pub bounds-out-i-in-loop-i-3 : goal.bounds-out-i-in-loop-i-3
-bounds-out-i-in-loop-i-3 c = simp length-set (omega arith)
-
-pub overflow_add-i : goal.overflow_add-i
-overflow_add-i c = omega arith
-
-pub loop-i-smaller : goal.loop-i-smaller
-loop-i-smaller c = omega arith
-
 pub loop-i-preserved : goal.loop-i-preserved
-loop-i-preserved c = (omega arith, bytes_next _ _ _ _ (omega arith) (omega arith) c.loop-i.invariant.1, simp length-set c.loop-i.invariant.2)
-
-pub shape_of-out : goal.shape_of-out
-shape_of-out c = omega arith
+loop-i-preserved c =
+    let l = length-take-le c.args.n c.args.cells.now c.requires.0 in
+    let i = c.loop-i.i in
+    let v = get_or (take c.args.n c.args.cells.now) i 0 in
+    let bytes = v % 256 ∷ v / 256 % 256 ∷ v / 65536 % 256 ∷ v / 16777216 % 256 ∷ [] in
+    put_mid-paste (4 * i) _ c.loop-i.out c.copy_from_slice.new.self bytes 4 (c.copy_from_slice.ensures.after ∙ c.to_le_bytes.ensures) (omega arith) refl
+    ∙ sym (sets-eq bytes c.loop-i.out (4 * i) (omega arith))
+    ∙ bytes_next _ c.args.out.now c.loop-i.out i _ c.loop-i-test.true (omega arith) (omega arith) c.loop-i.invariant refl
 
 pub returns : goal.returns
-returns c = bytes-all c.args.cells.now c.args.out.now c.loop-i.out c.loop-i.i c.args.n c.loop-i.invariant.1 (omega arith)
+returns c =
+    let l = length-take-le c.args.n c.args.cells.now c.requires.0 in
+    bytes-all _ c.args.out.now c.loop-i.out c.loop-i.i c.args.n c.loop-i.invariant (omega (arith, l, c.loop-i-test.false, c.loop-i.auto.i-end)) (omega (arith, l))

@@ -1,48 +1,43 @@
 -- `terms` meets its contract: each turn reads a constant, which is one of the terms due, and the first other cell hands
 -- the sum on.
-use mathlib.Core.Path.{sym, ◌∙◌}
+use Prim.Native.Nat.{◌+◌, ◌-◌, ◌<◌}
+use mathlib.Core.Path.{◌≡◌, sym, ap, ◌∙◌}
 use native.Mathlib.Omega.{arith}
 use lib.ListN.{set, length-set, get_or}
+use lib.Seq.{get_or-take, length-take-le}
 use Rattle.forms.proofs.ShapeLaws.{constant-shape}
-use Rattle.forms.specs.declared.Step.TheVariants.{Malformed}
-use Rattle.forms.specs.Cells.{arity_of}
+use Rattle.forms.specs.Cells.{arity_of, constant}
 use Rattle.pair_reader.proofs.StoringLaws.{stored-cell}
-use Rattle.pair_reader.proofs.PairSteps.{terms-end, terms-few}
+use Rattle.pair_reader.proofs.PairSteps.{terms-few}
 use Rattle.pair_reader.proofs.PairTurns.{turn-first, turn_last, turn-symbol}
 use Rattle.pair_reader.proofs.terms.Goals as goal
 
 pub returns-then-s-n : goal.returns-then-s-n
 returns-then-s-n c = terms-few (arity_of c.args.edition) c.args.s.now c.args.n c.if-s-n.true
 
-pub loop-due-init : goal.loop-due-init
-loop-due-init c = (omega arith, turn-first _ c.args.s.now 0 _ _ 0 _ 0 (omega arith) (omega arith) (omega arith))
+pub loop-at-init : goal.loop-at-init
+loop-at-init c =
+    let e : c.args.n ≡ c.args.n - 0 = omega arith in
+    rw (← e) (turn-first _ c.args.s.now 0 _ _ 0 _ 0 (omega arith) (omega arith) (omega arith))
 
-pub returns-then-s-at : goal.returns-then-s-at
-returns-then-s-at c = c.loop-due.invariant.1.goes_on c.loop-due.vars c.loop-due.out Malformed (terms-end _ _ _ _ (omega arith) c.if-s-at.true)
+pub loop-at-preserved : goal.loop-at-preserved
+loop-at-preserved c =
+    let n = c.args.n in
+    let s = c.args.s.now in
+    let at = c.loop-at.at in
+    let l = length-take-le n s c.if-s-n.false in
+    let h : at < n = omega (arith, l, c.loop-at-test.true) in
+    let e = get_or-take n s at 0 h in
+    let q = constant-shape (arity_of c.args.edition) (get_or s at 0) (ap constant (sym e) ∙ sym c.is_constant.ensures ∙ c.if-not-is_constant.false) in
+    rw e (turn-symbol _ _ _ _ _ _ _ _ _ _ _ _ _ _ c.loop-at.invariant (omega arith) (omega arith) c.loop-at.vars (set c.loop-at.out at (get_or s at 0)) (n - (at + 1)) 0 (simp length-set) 0 (omega arith) q.0 (omega arith)
+    (stored-cell c.loop-at.vars 0 c.loop-at.out at _ q.1 (omega arith)))
 
-pub scan-requires : goal.scan-requires
-scan-requires c =
-    let v = c.loop-due.invariant in
-    omega (arith, v.0, v.1.at_in, v.1.vars-kept, v.1.out-kept)
+pub returns : goal.returns
+returns c =
+    let l = length-take-le c.args.n c.args.s.now c.if-s-n.false in
+    let e : c.loop-at.at ≡ c.args.n = omega (arith, l, c.loop-at-test.false, c.loop-at.auto.at-end) in
+    rw e at (turn_last _ _ _ _ _ _ _ _ _ _ _ _ _ _ c.loop-at.invariant (omega arith) (omega arith))
 
 pub returns-then-not-is_constant : goal.returns-then-not-is_constant
 returns-then-not-is_constant c =
-    c.loop-due.invariant.1.goes_on c.scan.new.vars c.scan.new.out c.scan.result c.scan.ensures
-
-pub due_after-due-requires : goal.due_after-due-requires
-due_after-due-requires c = omega (arith, c.loop-due.invariant.0)
-
-pub loop-due-smaller : goal.loop-due-smaller
-loop-due-smaller c = omega arith
-
-pub loop-due-preserved : goal.loop-due-preserved
-loop-due-preserved c =
-    let v = c.loop-due.invariant in
-    let q = constant-shape (arity_of c.args.edition) _ (sym c.is_constant.ensures ∙ c.if-not-is_constant.false) in (
-      omega (arith, v.0, c.due_after-due.ensures),
-      turn-symbol _ _ _ _ _ _ _ _ _ _ _ _ _ _ v.1 (omega arith) (omega arith) c.loop-due.vars (set c.loop-due.out c.loop-due.at (get_or c.args.s.now c.loop-due.at 0)) c.due_after-due.result 0 (simp length-set) 0 c.if-s-at.false q.0 c.due_after-due.ensures
-          (stored-cell c.loop-due.vars 0 c.loop-due.out c.loop-due.at _ q.1 (omega arith)),
-    )
-
-pub returns : goal.returns
-returns c = turn_last _ _ _ _ _ _ _ _ _ _ _ _ _ _ c.loop-due.invariant.1 (omega arith) (omega arith)
+    c.loop-at.invariant.goes_on c.scan.new.vars c.scan.new.out c.scan.result c.scan.ensures

@@ -1,10 +1,5 @@
-use Prim.Native.Nat.{◌+◌, ◌*◌, ◌-◌}
-use lib.ListN.{length}
 use Rattle.parts.proofs.Taking.{Taking}
 use Rattle.parts.proofs.take_in_hand.Given as goal
 
 abbrev pub invariant-loop-at : goal.invariant-loop-at
 invariant-loop-at l = Taking l.edition l.m l.form l.initial.held l.held l.at l.begun l.due l.depth
-
-abbrev pub decreases-loop-at : goal.decreases-loop-at
-decreases-loop-at l = 2 * (length l.form - l.at) + (1 - l.due)

@@ -5,7 +5,7 @@ use Rattle.path_terms.proofs.WorthCases.{worth-as}
 use Rattle.path_terms.proofs.path_worth.Goals as goal
 
 pub returns-then-called : goal.returns-then-called
-returns-then-called c = worth-as c.args.edition c.args.m (path_to c.args.space.now c.args.end) _ {known = true} c.if-called.true c.use_begun.ensures.0
+returns-then-called c = worth-as c.args.edition c.args.m (path_to c.args.space.now c.args.end) _ {known = true} c.if-called.true c.use_one.ensures.0
 
 pub returns : goal.returns
-returns c = worth-as c.args.edition c.args.m (path_to c.args.space.now c.args.end) _ {known = false} c.if-called.false c.use_begun-2.ensures.0
+returns c = worth-as c.args.edition c.args.m (path_to c.args.space.now c.args.end) _ {known = false} c.if-called.false c.use_one-2.ensures.0

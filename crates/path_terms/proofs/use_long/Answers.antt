@@ -1,7 +1,7 @@
 -- `path_terms::use_long` meets its contract.
-use Rattle.path_terms.proofs.PathCases.{Stands, whole-none, whole-stands}
+use Rattle.path_terms.proofs.PathCases.{whole-none, whole-stands}
 use Rattle.path_terms.proofs.AlongCases.{done-same, done-lost, done-under-lost, done-load, done-instance, done-judged}
-use Rattle.trie.specs.Runs.{path_cells, path_to}
+use Rattle.trie.specs.Runs.{path_to}
 use Rattle.basis.proofs.Tests.{equal}
 use native.Mathlib.Omega.{arith}
 use mathlib.Core.Path.{refl}
@@ -13,59 +13,59 @@ returns-then-k-eq0 c = done-lost c.args.x.edition c.args.x.m c.args.out.now (pat
 
 pub offset_bounds-path-k : goal.offset_bounds-path-k
 offset_bounds-path-k c =
-    let stands_here : Stands path_cells c.whole_path-k.result c.whole_path-k.new.path (path_to c.args.space.now c.args.x.end) = whole-stands c.args.space.now c.args.x.end _ _ c.whole_path-k.ensures (search rules) in
-    omega (arith, (stands_here).0, (stands_here).1)
+    let stands_here = whole-stands c.args.space.now c.args.x.end _ _ c.whole_path-k.ensures (search rules) in
+    omega (arith, stands_here.0, stands_here.1)
 
 pub slice_bounds-load_form-count : goal.slice_bounds-load_form-count
 slice_bounds-load_form-count c =
-    let stands_here : Stands path_cells c.whole_path-k.result c.whole_path-k.new.path (path_to c.args.space.now c.args.x.end) = whole-stands c.args.space.now c.args.x.end _ _ c.whole_path-k.ensures (search rules) in
-    omega (arith, (stands_here).0, (stands_here).1)
+    let stands_here = whole-stands c.args.space.now c.args.x.end _ _ c.whole_path-k.ensures (search rules) in
+    omega (arith, stands_here.0, stands_here.1)
 
 pub returns-then-task-eq-LOAD : goal.returns-then-task-eq-LOAD
 returns-then-task-eq-LOAD c =
-    let stands_here : Stands path_cells c.whole_path-k.result c.whole_path-k.new.path (path_to c.args.space.now c.args.x.end) = whole-stands c.args.space.now c.args.x.end _ _ c.whole_path-k.ensures (search rules) in
-    done-same c.args.x.edition c.args.x.m c.args.out.now c.args.task _ _ _ (path_to c.args.space.now c.args.x.end) (path_to c.args.space.now c.args.x.subgoal) (path_to c.args.space.now c.args.x.subgoal) (stands_here).2 refl (done-load c.args.x.edition c.args.x.m c.args.out.now _ (path_to c.args.space.now c.args.x.subgoal) c.args.task _ _ (search rules) c.load_form.ensures)
+    let stands_here = whole-stands c.args.space.now c.args.x.end _ _ c.whole_path-k.ensures (search rules) in
+    done-same c.args.x.edition c.args.x.m c.args.out.now c.args.task _ _ _ (path_to c.args.space.now c.args.x.end) (path_to c.args.space.now c.args.x.subgoal) (path_to c.args.space.now c.args.x.subgoal) stands_here.2 refl (done-load c.args.x.edition c.args.x.m c.args.out.now _ (path_to c.args.space.now c.args.x.subgoal) c.args.task _ _ (search rules) c.load_form.ensures)
 
 pub offset_bounds-path-k-then-task-ne-INSTANCE : goal.offset_bounds-path-k-then-task-ne-INSTANCE
 offset_bounds-path-k-then-task-ne-INSTANCE c =
-    let stands_here : Stands path_cells c.whole_path-k.result c.whole_path-k.new.path (path_to c.args.space.now c.args.x.end) = whole-stands c.args.space.now c.args.x.end _ _ c.whole_path-k.ensures (search rules) in
-    omega (arith, (stands_here).0, (stands_here).1)
+    let stands_here = whole-stands c.args.space.now c.args.x.end _ _ c.whole_path-k.ensures (search rules) in
+    omega (arith, stands_here.0, stands_here.1)
 
 pub slice_bounds-form_worth-count : goal.slice_bounds-form_worth-count
 slice_bounds-form_worth-count c =
-    let stands_here : Stands path_cells c.whole_path-k.result c.whole_path-k.new.path (path_to c.args.space.now c.args.x.end) = whole-stands c.args.space.now c.args.x.end _ _ c.whole_path-k.ensures (search rules) in
-    omega (arith, (stands_here).0, (stands_here).1)
+    let stands_here = whole-stands c.args.space.now c.args.x.end _ _ c.whole_path-k.ensures (search rules) in
+    omega (arith, stands_here.0, stands_here.1)
 
 pub returns-then-task-ne-INSTANCE : goal.returns-then-task-ne-INSTANCE
 returns-then-task-ne-INSTANCE c =
-    let stands_here : Stands path_cells c.whole_path-k.result c.whole_path-k.new.path (path_to c.args.space.now c.args.x.end) = whole-stands c.args.space.now c.args.x.end _ _ c.whole_path-k.ensures (search rules) in
-    done-same c.args.x.edition c.args.x.m c.args.out.now c.args.task _ _ _ (path_to c.args.space.now c.args.x.end) (path_to c.args.space.now c.args.x.subgoal) (path_to c.args.space.now c.args.x.subgoal) (stands_here).2 refl (done-judged c.args.x.edition c.args.x.m c.args.out.now _ (path_to c.args.space.now c.args.x.subgoal) c.args.task _ (search rules) (search rules) c.form_worth.ensures)
+    let stands_here = whole-stands c.args.space.now c.args.x.end _ _ c.whole_path-k.ensures (search rules) in
+    done-same c.args.x.edition c.args.x.m c.args.out.now c.args.task _ _ _ (path_to c.args.space.now c.args.x.end) (path_to c.args.space.now c.args.x.subgoal) (path_to c.args.space.now c.args.x.subgoal) stands_here.2 refl (done-judged c.args.x.edition c.args.x.m c.args.out.now _ (path_to c.args.space.now c.args.x.subgoal) c.args.task _ (search rules) (search rules) c.form_worth.ensures)
 
 pub returns-then-j-eq0 : goal.returns-then-j-eq0
 returns-then-j-eq0 c = done-under-lost c.args.x.edition c.args.x.m c.args.out.now (path_to c.args.space.now c.args.x.end) (path_to c.args.space.now c.args.x.subgoal) c.args.task (equal c.args.task 1 (search rules)) (whole-none c.args.space.now c.args.x.subgoal c.whole_path-j.result _ c.whole_path-j.ensures (search rules))
 
 pub offset_bounds-above-j : goal.offset_bounds-above-j
 offset_bounds-above-j c =
-    let stands_above_here : Stands path_cells c.whole_path-j.result c.whole_path-j.new.path (path_to c.args.space.now c.args.x.subgoal) = whole-stands c.args.space.now c.args.x.subgoal _ _ c.whole_path-j.ensures (search rules) in
-    omega (arith, (stands_above_here).0, (stands_above_here).1)
+    let stands_above_here = whole-stands c.args.space.now c.args.x.subgoal _ _ c.whole_path-j.ensures (search rules) in
+    omega (arith, stands_above_here.0, stands_above_here.1)
 
 pub slice_bounds-instance_path-count : goal.slice_bounds-instance_path-count
 slice_bounds-instance_path-count c =
-    let stands_above_here : Stands path_cells c.whole_path-j.result c.whole_path-j.new.path (path_to c.args.space.now c.args.x.subgoal) = whole-stands c.args.space.now c.args.x.subgoal _ _ c.whole_path-j.ensures (search rules) in
-    omega (arith, (stands_above_here).0, (stands_above_here).1)
+    let stands_above_here = whole-stands c.args.space.now c.args.x.subgoal _ _ c.whole_path-j.ensures (search rules) in
+    omega (arith, stands_above_here.0, stands_above_here.1)
 
 pub offset_bounds-path-k-2 : goal.offset_bounds-path-k-2
 offset_bounds-path-k-2 c =
-    let stands_here : Stands path_cells c.whole_path-k.result c.whole_path-k.new.path (path_to c.args.space.now c.args.x.end) = whole-stands c.args.space.now c.args.x.end _ _ c.whole_path-k.ensures (search rules) in
-    omega (arith, (stands_here).0, (stands_here).1)
+    let stands_here = whole-stands c.args.space.now c.args.x.end _ _ c.whole_path-k.ensures (search rules) in
+    omega (arith, stands_here.0, stands_here.1)
 
 pub slice_bounds-instance_path-count-2 : goal.slice_bounds-instance_path-count-2
 slice_bounds-instance_path-count-2 c =
-    let stands_here : Stands path_cells c.whole_path-k.result c.whole_path-k.new.path (path_to c.args.space.now c.args.x.end) = whole-stands c.args.space.now c.args.x.end _ _ c.whole_path-k.ensures (search rules) in
-    omega (arith, (stands_here).0, (stands_here).1)
+    let stands_here = whole-stands c.args.space.now c.args.x.end _ _ c.whole_path-k.ensures (search rules) in
+    omega (arith, stands_here.0, stands_here.1)
 
 pub returns : goal.returns
 returns c =
-    let stands_here : Stands path_cells c.whole_path-k.result c.whole_path-k.new.path (path_to c.args.space.now c.args.x.end) = whole-stands c.args.space.now c.args.x.end _ _ c.whole_path-k.ensures (search rules) in
-    let stands_above_here : Stands path_cells c.whole_path-j.result c.whole_path-j.new.path (path_to c.args.space.now c.args.x.subgoal) = whole-stands c.args.space.now c.args.x.subgoal _ _ c.whole_path-j.ensures (search rules) in
-    done-same c.args.x.edition c.args.x.m c.args.out.now c.args.task _ _ _ (path_to c.args.space.now c.args.x.end) _ (path_to c.args.space.now c.args.x.subgoal) (stands_here).2 (stands_above_here).2 (done-instance c.args.x.edition c.args.x.m c.args.out.now _ _ c.args.task _ _ (equal c.args.task 1 (search rules)) c.instance_path.ensures)
+    let stands_here = whole-stands c.args.space.now c.args.x.end _ _ c.whole_path-k.ensures (search rules) in
+    let stands_above_here = whole-stands c.args.space.now c.args.x.subgoal _ _ c.whole_path-j.ensures (search rules) in
+    done-same c.args.x.edition c.args.x.m c.args.out.now c.args.task _ _ _ (path_to c.args.space.now c.args.x.end) _ (path_to c.args.space.now c.args.x.subgoal) stands_here.2 stands_above_here.2 (done-instance c.args.x.edition c.args.x.m c.args.out.now _ _ c.args.task _ _ (equal c.args.task 1 (search rules)) c.instance_path.ensures)

@@ -1,25 +1,33 @@
 -- `reads::load_in` meets its contract.
-use Rattle.instances.proofs.LeavingLaws.{leaves-says, leaves-same}
-use Rattle.reads.proofs.ReadsCases.{load-zero, load-above, load-damaged, load-sound}
-use Rattle.store.specs.Views.{view_of}
-use Rattle.space.specs.Layout.{sizes_of}
-use Rattle.plain.specs.Coding.{coding_of}
+use mathlib.Core.Path.{sym, ◌∙◌}
 use native.Mathlib.Omega.{arith}
-use Rattle.basis.proofs.Tests.{told}
-use borrow.Author.Rules.{rules}
+use Rattle.plain.specs.Coding.{coding_of}
+use Rattle.space.proofs.HeaderLaws.{bounds-nodes}
+use Rattle.store.specs.Clauses.{view_in}
+use Rattle.instances.proofs.LeavingLaws.{leaves-says, leaves-same, leaves-said}
+use Rattle.reads.specs.Pairs.{PairHeld, PairRefused}
+use Rattle.reads.proofs.ReadsCases.{read-bounds, loaded_on, load-lost, load-sound}
+use Rattle.forms.specs.Stored.{stored_of}
+use Rattle.store.specs.Decisions.{gives}
 use Rattle.reads.proofs.load_in.Goals as goal
 
-pub returns-then-a-eq0 : goal.returns-then-a-eq0
-returns-then-a-eq0 c = leaves-says (view_of (sizes_of c.args.h.edition) c.args.space.now c.args.h) _ c.args.out.now _ (load-zero (coding_of c.args.h.edition) (view_of (sizes_of c.args.h.edition) c.args.space.now c.args.h) c.args.a c.args.out.now (search rules))
+pub load_path-n-requires : goal.load_path-n-requires
+load_path-n-requires c =
+    let p : PairHeld c.args.space.now c.args.h c.args.a c.in-Ok.y c.in-Ok.g = c.in-Ok.ensures in
+    let b = read-bounds (view_in c.args.space.now c.args.h) c.args.a c.in-Ok.y c.in-Ok.g p.answer-is p.subgoal-is p.both-sound in
+    rw c.answer_end-end.ensures (bounds-nodes _ _ c.requires, b.leaf-below)
 
-pub returns-then-h-a : goal.returns-then-h-a
-returns-then-h-a c = leaves-says (view_of (sizes_of c.args.h.edition) c.args.space.now c.args.h) _ c.args.out.now _ (load-above (coding_of c.args.h.edition) (view_of (sizes_of c.args.h.edition) c.args.space.now c.args.h) c.args.a c.args.out.now (search rules) (search rules))
+pub returns-in-Ok : goal.returns-in-Ok
+returns-in-Ok c =
+    let p : PairHeld c.args.space.now c.args.h c.args.a c.in-Ok.y c.in-Ok.g = c.in-Ok.ensures in
+    leaves-said (view_in c.args.space.now c.args.h) _ c.args.out.now _ _ _ (sym c.cells_answer.ensures)
+    (leaves-same (view_in c.args.space.now c.args.h) _ _ c.args.out.now _ _
+    (loaded_on (coding_of c.args.h.edition) (view_in c.args.space.now c.args.h) c.args.a (λ w. gives ((stored_of c.args.h.edition).cells w)) c.in-Ok.y c.in-Ok.g p.answer-is p.subgoal-is
+    ∙ load-sound (coding_of c.args.h.edition) (view_in c.args.space.now c.args.h) c.args.a c.args.out.now (λ z. omega (arith, p.some)) p.within p.both-sound)
+    (rw c.answer_end-end.ensures at (c.load_path-n.ensures (view_in c.args.space.now c.args.h))))
 
-pub load_with-requires : goal.load_with-requires
-load_with-requires c = record { has_answer = (search rules, omega arith, search rules); a_value = told c.pair_sound.ensures c.if-pair_sound.true }
-
-pub returns-then-pair_sound : goal.returns-then-pair_sound
-returns-then-pair_sound c = leaves-same (view_of (sizes_of c.args.h.edition) c.args.space.now c.args.h) _ _ c.args.out.now _ _ (load-sound (coding_of c.args.h.edition) (view_of (sizes_of c.args.h.edition) c.args.space.now c.args.h) c.args.a c.args.out.now (search rules) (search rules) (told c.pair_sound.ensures c.if-pair_sound.true)) c.load_with.ensures
-
-pub returns : goal.returns
-returns c = leaves-says (view_of (sizes_of c.args.h.edition) c.args.space.now c.args.h) _ c.args.out.now _ (load-damaged (coding_of c.args.h.edition) (view_of (sizes_of c.args.h.edition) c.args.space.now c.args.h) c.args.a c.args.out.now (search rules) (search rules) (told c.pair_sound.ensures c.if-pair_sound.false))
+pub returns-in-Err : goal.returns-in-Err
+returns-in-Err c =
+    let p : PairRefused c.args.space.now c.args.h c.args.a c.in-Err.r = c.in-Err.ensures in
+    leaves-says (view_in c.args.space.now c.args.h) _ c.args.out.now _
+    (load-lost (coding_of c.args.h.edition) (view_in c.args.space.now c.args.h) c.args.a c.args.out.now c.in-Err.r p)

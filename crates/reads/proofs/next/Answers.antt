@@ -11,15 +11,15 @@ use Rattle.reads.proofs.next.Goals as goal
 
 pub next_in-requires : goal.next_in-requires
 next_in-requires c =
-    let sound_header_here : header.Sound c.in-Sound.h ≡ space_header c.args.space.now = told c.in-Sound.is c.read_header-header.ensures in
+    let sound_header_here : header.Sound c.in-Sound.h ≡ space_header c.args.space.now = told c.in-Sound.is c.read_header.ensures in
     header-bounds _ _ (sound_header_here)
 
 pub returns-in-Sound : goal.returns-in-Sound
 returns-in-Sound c =
-    let sound_header_here : header.Sound c.in-Sound.h ≡ space_header c.args.space.now = told c.in-Sound.is c.read_header-header.ensures in
+    let sound_header_here : header.Sound c.in-Sound.h ≡ space_header c.args.space.now = told c.in-Sound.is c.read_header.ensures in
     next-answers _ _ _ _ (next-step c.args.space.now c.in-Sound.h (sound_header_here) _ _ _ _ c.wide.ensures.0 c.wide-in-Sound.ensures.0 _ c.next_in.ensures)
 
 pub returns-in-Refused : goal.returns-in-Refused
 returns-in-Refused c =
-    let refused_header_here : header.Refused c.in-Refused.r ≡ space_header c.args.space.now = told c.in-Refused.is c.read_header-header.ensures in
+    let refused_header_here : header.Refused c.in-Refused.r ≡ space_header c.args.space.now = told c.in-Refused.is c.read_header.ensures in
     next-answers _ _ _ _ (step-refused c.args.space.now (next c.args.subgoal c.args.after) c.in-Refused.r (refused_header_here))

@@ -6,19 +6,19 @@ use native.Mathlib.Omega.{arith}
 use mathlib.Core.Path.{◌∙◌}
 use Rattle.basis.proofs.Tests.{told}
 use borrow.Author.Rules.{rules}
+use Rattle.reads.proofs.next_in.Goals.{then-s-eq0-via-then-s-eq0, then-s-eq0-via-else-s-eq0+then-h-s, then-s-eq0-via-else-s-eq0+else-h-s+then-not-starts}
 use Rattle.reads.proofs.next_in.Goals as goal
 
 pub returns-then-s-eq0 : goal.returns-then-s-eq0
-returns-then-s-eq0 c = next-zero _ _ _ _ (search rules)
-
-pub returns-then-h-s : goal.returns-then-h-s
-returns-then-h-s c = next-above _ _ _ _ (search rules) (search rules)
+returns-then-s-eq0 c = elim c.then-s-eq0.branch [
+  | then-s-eq0-via-then-s-eq0 w ↦ next-zero _ _ _ _ w.if-s-eq0.true
+  | then-s-eq0-via-else-s-eq0+then-h-s w ↦ next-above _ _ _ _ w.if-s-eq0.false w.if-h-s.true
+  | then-s-eq0-via-else-s-eq0+else-h-s+then-not-starts w ↦
+      next-elsewhere _ _ _ _ w.if-s-eq0.false w.if-h-s.false (told w.starts.ensures w.if-not-starts.true)
+]
 
 pub go_on-requires : goal.go_on-requires
-go_on-requires c = (search rules, omega arith, search rules, starting-within (view_of (sizes_of c.args.h.edition) c.args.space.now c.args.h) c.args.s c.args.a (told c.starts.ensures c.if-starts.true))
-
-pub returns-then-starts : goal.returns-then-starts
-returns-then-starts c = c.go_on.ensures ∙ next-onward _ _ _ _ (search rules) (search rules) (told c.starts.ensures c.if-starts.true)
+go_on-requires c = (search rules, omega arith, search rules, starting-within (view_of (sizes_of c.args.h.edition) c.args.space.now c.args.h) c.args.s c.args.a (told c.starts.ensures c.if-not-starts.false))
 
 pub returns : goal.returns
-returns c = next-elsewhere _ _ _ _ (search rules) (search rules) (told c.starts.ensures c.if-starts.false)
+returns c = c.go_on.ensures ∙ next-onward _ _ _ _ (search rules) (search rules) (told c.starts.ensures c.if-not-starts.false)

@@ -1,13 +1,15 @@
 -- `reads::starts` meets its contract.
-use Rattle.reads.proofs.ReadsCases.{starting-none, starting-above, starting-named}
+use mathlib.Core.Path.{◌∙◌}
 use borrow.Author.Rules.{rules}
+use borrow.Author.Tests.{eq-eqb, lt-leb}
+use Rattle.reads.proofs.ReadsCases.{starting-none, starting-above, starting-named}
 use Rattle.reads.proofs.starts.Goals as goal
 
 pub returns-then-a-eq0 : goal.returns-then-a-eq0
-returns-then-a-eq0 c = starting-none _ _ _ (search rules)
+returns-then-a-eq0 c = eq-eqb _ _ c.if-a-eq0.true ∙ starting-none _ _ _ (search rules)
 
-pub returns-then-h-a : goal.returns-then-h-a
-returns-then-h-a c = starting-above _ _ _ (search rules) (search rules)
+pub returns-then-a-h : goal.returns-then-a-h
+returns-then-a-h c = starting-named _ _ _ (search rules) (search rules) c.answer_in.result c.answer_in.ensures
 
-pub returns : goal.returns
-returns c = starting-named _ _ _ (search rules) (search rules) c.answer_in-y.result c.answer_in-y.ensures
+pub returns-else-a-h : goal.returns-else-a-h
+returns-else-a-h c = lt-leb _ _ c.if-a-h.false ∙ starting-above _ _ _ (search rules) (search rules)

@@ -6,19 +6,19 @@ use Rattle.reasons.proofs.subgoal_of.Goals as goal
 pub node_in-y-requires : goal.node_in-y-requires
 node_in-y-requires c = (bounds-nodes _ _ c.requires.0, c.requires.1.0)
 
-pub call_old-found-requires : goal.call_old-found-requires
-call_old-found-requires c = (c.requires.0, link-most c.args.space.now c.args.h _ _ c.requires.1 c.node_in-y.ensures)
+pub call_old-requires : goal.call_old-requires
+call_old-requires c = (c.requires.0, link-most c.args.space.now c.args.h _ _ c.requires.1 c.node_in-y.ensures)
 
 pub returns-in-Old : goal.returns-in-Old
 returns-in-Old c =
-    leaf-named c.args.space.now c.args.h c.args.leaf _ c.node_in-y.ensures _ _ (rw c.in-Old.is at c.call_old-found.ensures)
+    leaf-named c.args.space.now c.args.h c.args.leaf _ c.node_in-y.ensures _ _ (rw c.in-Old.is at c.call_old.ensures)
 
 pub returns-in-New : goal.returns-in-New
 returns-in-New c =
-    leaf-unnamed c.args.space.now c.args.h c.args.leaf _ c.node_in-y.ensures _ (rw c.in-New.is at c.call_old-found.ensures)
+    leaf-unnamed c.args.space.now c.args.h c.args.leaf _ c.node_in-y.ensures _ (rw c.in-New.is at c.call_old.ensures)
     (new-other _)
 
 pub returns-in-Refused : goal.returns-in-Refused
 returns-in-Refused c =
-    leaf-unnamed c.args.space.now c.args.h c.args.leaf _ c.node_in-y.ensures _ (rw c.in-Refused.is at c.call_old-found.ensures)
+    leaf-unnamed c.args.space.now c.args.h c.args.leaf _ c.node_in-y.ensures _ (rw c.in-Refused.is at c.call_old.ensures)
     (refused-other _)

@@ -1,17 +1,21 @@
 -- `print_cells` meets its contract: the cells behind their word, or a refusal.
-use mathlib.Core.Path.{ap}
+use mathlib.Core.Path.{sym, ap}
 use native.Mathlib.Omega.{arith}
 use lib.ListN.{take}
+use lib.Seq.{length-take-le}
 use Rattle.store.specs.Replies.{said_cells}
 use Rattle.text.specs.Digits.{cell_texts}
 use Rattle.text.proofs.DigitsLaws.{puts-append}
 use Rattle.replies.specs.Texts.{text_cells, reply_text}
 use Rattle.replies.proofs.print_cells.Goals as goal
 
+pub slice_bounds-put_cells-end : goal.slice_bounds-put_cells-end
+slice_bounds-put_cells-end c = sym (length-take-le _ _ (c.requires.by_index c.in-Cells.n (ap said_cells c.in-Cells.is)))
+
 pub put_cells-requires : goal.put_cells-requires
 put_cells-requires c =
     let n = c.requires.by_index c.in-Cells.n (ap said_cells c.in-Cells.is) in
-    (n, omega arith)
+    omega (arith, length-take-le _ _ n)
 
 pub returns-in-Cells : goal.returns-in-Cells
 unfolding reply_text

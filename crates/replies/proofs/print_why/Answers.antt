@@ -1,6 +1,7 @@
 -- `print_why` meets its contract: the variables after the number of an old subgoal, or two numbers.
 use mathlib.Core.List.{◌∷◌}
 use lib.ListN.{take}
+use lib.Seq.{length-take-le}
 use native.Mathlib.Omega.{arith}
 use Rattle.store.specs.Replies.{NamedIn}
 use Rattle.store.specs.declared.Reason.TheVariants as reason
@@ -12,8 +13,7 @@ use Rattle.replies.proofs.print_why.Goals as goal
 pub put_cells-requires : goal.put_cells-requires
 put_cells-requires c =
     let held_here : NamedIn c.args.answer.variables (reason.Old c.in-Old.n c.in-Old.m) = rw c.in-Old.is at c.requires.0.1 in
-    let k = held_here in
-    (k.0, omega (arith, decimal-length c.in-Old.n, k.1))
+    omega (arith, decimal-length c.in-Old.n, held_here.1, length-take-le _ _ held_here.0)
 
 pub returns-in-Old : goal.returns-in-Old
 unfolding reply_text reason_text

@@ -4,17 +4,17 @@ use Rattle.sources.proofs.TableLaws.{subgoals-load, answers-load, unnamed-subgoa
 use Rattle.sources.proofs.forms_named.Goals as goal
 
 pub all_named-requires : goal.all_named-requires
-all_named-requires c = subgoals-load _ _ c.requires
+all_named-requires c = rw c.subgoals.ensures (subgoals-load _ _ c.requires)
 
-pub returns-then-not-all_named : goal.returns-then-not-all_named
-returns-then-not-all_named c =
-    let p = c.args in
-    unnamed-subgoal p.source.now p.h _ c.all_named.ensures (c.if-not-all_named.true)
+pub all_named-requires-then-all_named : goal.all_named-requires-then-all_named
+all_named-requires-then-all_named c = rw c.answers.ensures (answers-load _ _ c.requires)
 
-pub all_named-requires-2 : goal.all_named-requires-2
-all_named-requires-2 c = answers-load _ _ c.requires
+pub returns-then-all_named : goal.returns-then-all_named
+returns-then-all_named c =
+    (rw c.answers.ensures at c.all_named-then-all_named.ensures)
+    ∙ named-answers c.args.source.now c.args.h _ (rw c.subgoals.ensures at c.all_named.ensures) c.if-all_named.true
 
-pub returns : goal.returns
-returns c =
-    let p = c.args in
-    c.all_named-2.ensures ∙ named-answers p.source.now p.h _ c.all_named.ensures (c.if-not-all_named.false)
+pub returns-else-all_named : goal.returns-else-all_named
+returns-else-all_named c =
+    c.if-all_named.false
+    ∙ unnamed-subgoal c.args.source.now c.args.h _ (rw c.subgoals.ensures at c.all_named.ensures) c.if-all_named.false

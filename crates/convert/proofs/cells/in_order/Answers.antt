@@ -6,10 +6,10 @@ use Rattle.basis.proofs.Tests.{told}
 use Rattle.form_reader.specs.Loading.{in_order}
 use Rattle.convert.proofs.cells.in_order.Goals as goal
 
-pub returns-then-is_variable : goal.returns-then-is_variable
+pub returns-then-not-is_variable : goal.returns-then-not-is_variable
 unfolding in_order
-returns-then-is_variable c = simp (told c.is_variable.ensures c.if-is_variable.true) (ap (λ (x : ℕ). leb x c.args.count) c.payload_of.ensures)
+returns-then-not-is_variable c = simp (told c.is_variable.ensures c.if-not-is_variable.true, c.if-not-is_variable.true)
 
-pub returns : goal.returns
+pub returns-else-not-is_variable : goal.returns-else-not-is_variable
 unfolding in_order
-returns c = simp (told c.is_variable.ensures c.if-is_variable.false)
+returns-else-not-is_variable c = simp (told c.is_variable.ensures c.if-not-is_variable.false) (ap (λ (x : ℕ). leb x c.args.count) c.payload_of.ensures)

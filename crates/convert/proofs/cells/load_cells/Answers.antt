@@ -4,12 +4,21 @@ use native.Mathlib.Omega.{arith}
 use Rattle.forms.specs.Cells.{arity_of}
 use Rattle.convert.proofs.ScanLaws.{load-long, load-few, load-start, load-over, load-illegal, load-unordered, load-next, load-short, load_many, load-form}
 use Rattle.convert.proofs.cells.load_cells.Goals as goal
+use Rattle.convert.proofs.cells.load_cells.Goals.{then-n-gt-MOST_CELLS-via-then-n-gt-MOST_CELLS, then-n-gt-MOST_CELLS-via-else-n-gt-MOST_CELLS+then-n-m}
+use Rattle.convert.proofs.cells.load_cells.Goals.{then-more-eq0-via-then-more-eq0, then-more-eq0-via-else-more-eq0+then-not-in_order}
+use Rattle.convert.proofs.cells.load_cells.Goals.{then-due-gt0-via-then-due-gt0, then-due-gt0-via-else-due-gt0+then-count-gt-MOST_VARIABLES}
 
 pub returns-then-n-gt-MOST_CELLS : goal.returns-then-n-gt-MOST_CELLS
-returns-then-n-gt-MOST_CELLS c = ((load-long (arity_of c.args.edition) c.args.m c.args.s.now c.if-n-gt-MOST_CELLS.true, tt), tt)
-
-pub returns-then-n-m : goal.returns-then-n-m
-returns-then-n-m c = ((load-few (arity_of c.args.edition) c.args.m c.args.s.now (omega arith) c.if-n-m.true, tt), tt)
+returns-then-n-gt-MOST_CELLS c = (
+  (
+    elim c.then-n-gt-MOST_CELLS.branch [
+      | then-n-gt-MOST_CELLS-via-then-n-gt-MOST_CELLS w ↦ load-long (arity_of c.args.edition) c.args.m c.args.s.now w.if-n-gt-MOST_CELLS.true
+      | then-n-gt-MOST_CELLS-via-else-n-gt-MOST_CELLS+then-n-m w ↦ load-few (arity_of c.args.edition) c.args.m c.args.s.now (omega arith) w.if-n-m.true
+    ],
+    tt,
+  ),
+  tt,
+)
 
 pub loop-at-init : goal.loop-at-init
 loop-at-init c = load-start (arity_of c.args.edition) c.args.m c.args.s.now c.args.cells.now _ refl (omega arith) (omega arith) c.requires
@@ -33,7 +42,16 @@ pub shape_of-cells-then-more-eq0 : goal.shape_of-cells-then-more-eq0
 shape_of-cells-then-more-eq0 c = c.loop-at.invariant.kept
 
 pub returns-then-more-eq0 : goal.returns-then-more-eq0
-returns-then-more-eq0 c = ((load-illegal (arity_of c.args.edition) c.args.m c.args.s.now c.args.cells.now _ c.loop-at.cells c.loop-at.at c.loop-at.due c.loop-at.count c.loop-at.invariant (omega arith) _ c.due_past-more.ensures.0 c.if-more-eq0.true, tt), tt)
+returns-then-more-eq0 c = (
+  (
+    elim c.then-more-eq0.branch [
+      | then-more-eq0-via-then-more-eq0 w ↦ load-illegal (arity_of c.args.edition) c.args.m c.args.s.now c.args.cells.now _ c.loop-at.cells c.loop-at.at c.loop-at.due c.loop-at.count c.loop-at.invariant (omega arith) _ c.due_past-more.ensures.0 w.if-more-eq0.true
+      | then-more-eq0-via-else-more-eq0+then-not-in_order w ↦ load-unordered (arity_of c.args.edition) c.args.m c.args.s.now c.args.cells.now _ c.loop-at.cells c.loop-at.at c.loop-at.due c.loop-at.count c.loop-at.invariant (omega arith) (sym w.if-not-in_order.true ∙ w.in_order.ensures)
+    ],
+    tt,
+  ),
+  tt,
+)
 
 pub offset_bounds-cells-at : goal.offset_bounds-cells-at
 offset_bounds-cells-at c = omega arith
@@ -47,32 +65,26 @@ met_after-count-requires c = omega arith
 pub overflow_sub-due : goal.overflow_sub-due
 overflow_sub-due c = omega arith
 
-pub overflow_add-at : goal.overflow_add-at
-overflow_add-at c = omega arith
-
 pub loop-at-smaller : goal.loop-at-smaller
 loop-at-smaller c = omega arith
 
 pub loop-at-preserved : goal.loop-at-preserved
-loop-at-preserved c = load-next (arity_of c.args.edition) c.args.m c.args.s.now c.args.cells.now _ c.loop-at.cells c.loop-at.at c.loop-at.due c.loop-at.count c.loop-at.invariant (omega arith) (omega arith) _ c.due_past-more.ensures.0 c.if-more-eq0.false c.due_past-more.ensures.1 (omega arith) (sym c.if-in_order.true ∙ c.in_order.ensures) _ c.met_after-count.ensures
-
-pub shape_of-cells-in-loop-at : goal.shape_of-cells-in-loop-at
-shape_of-cells-in-loop-at c = c.loop-at.invariant.kept
-
-pub returns-in-loop-at : goal.returns-in-loop-at
-returns-in-loop-at c = ((load-unordered (arity_of c.args.edition) c.args.m c.args.s.now c.args.cells.now _ c.loop-at.cells c.loop-at.at c.loop-at.due c.loop-at.count c.loop-at.invariant (omega arith) (sym c.if-in_order.false ∙ c.in_order.ensures), tt), tt)
+loop-at-preserved c = load-next (arity_of c.args.edition) c.args.m c.args.s.now c.args.cells.now _ c.loop-at.cells c.loop-at.at c.loop-at.due c.loop-at.count c.loop-at.invariant (omega arith) (omega arith) _ c.due_past-more.ensures.0 c.if-more-eq0.false c.due_past-more.ensures.1 (omega arith) (sym c.if-not-in_order.false ∙ c.in_order.ensures) _ c.met_after-count.ensures
 
 pub shape_of-cells-then-due-gt0 : goal.shape_of-cells-then-due-gt0
 shape_of-cells-then-due-gt0 c = c.loop-at.invariant.kept
 
 pub returns-then-due-gt0 : goal.returns-then-due-gt0
-returns-then-due-gt0 c = ((load-short (arity_of c.args.edition) c.args.m c.args.s.now c.args.cells.now _ c.loop-at.cells c.loop-at.at c.loop-at.due c.loop-at.count c.loop-at.invariant c.loop-at-test.false c.if-due-gt0.true, tt), tt)
-
-pub shape_of-cells-then-count-gt-MOST_VARIABLES : goal.shape_of-cells-then-count-gt-MOST_VARIABLES
-shape_of-cells-then-count-gt-MOST_VARIABLES c = c.loop-at.invariant.kept
-
-pub returns-then-count-gt-MOST_VARIABLES : goal.returns-then-count-gt-MOST_VARIABLES
-returns-then-count-gt-MOST_VARIABLES c = ((load_many (arity_of c.args.edition) c.args.m c.args.s.now c.args.cells.now _ c.loop-at.cells c.loop-at.at c.loop-at.due c.loop-at.count c.loop-at.invariant c.loop-at-test.false c.if-count-gt-MOST_VARIABLES.true, tt), tt)
+returns-then-due-gt0 c = (
+  (
+    elim c.then-due-gt0.branch [
+      | then-due-gt0-via-then-due-gt0 w ↦ load-short (arity_of c.args.edition) c.args.m c.args.s.now c.args.cells.now _ c.loop-at.cells c.loop-at.at c.loop-at.due c.loop-at.count c.loop-at.invariant c.loop-at-test.false w.if-due-gt0.true
+      | then-due-gt0-via-else-due-gt0+then-count-gt-MOST_VARIABLES w ↦ load_many (arity_of c.args.edition) c.args.m c.args.s.now c.args.cells.now _ c.loop-at.cells c.loop-at.at c.loop-at.due c.loop-at.count c.loop-at.invariant c.loop-at-test.false w.if-count-gt-MOST_VARIABLES.true
+    ],
+    tt,
+  ),
+  tt,
+)
 
 pub shape_of-cells : goal.shape_of-cells
 shape_of-cells c = c.loop-at.invariant.kept

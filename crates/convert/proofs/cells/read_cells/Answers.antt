@@ -50,9 +50,6 @@ store-count-requires c = (omega arith, omega arith, omega arith)
 pub overflow_sub-due : goal.overflow_sub-due
 overflow_sub-due c = omega arith
 
-pub overflow_add-at : goal.overflow_add-at
-overflow_add-at c = omega arith
-
 pub loop-at-smaller : goal.loop-at-smaller
 loop-at-smaller c = omega arith
 

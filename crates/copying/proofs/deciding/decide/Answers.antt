@@ -4,9 +4,9 @@ use Rattle.copying.proofs.DecideCases.{decided-headless}
 use Rattle.copying.proofs.deciding.decide.Goals as goal
 
 pub decide_in-requires : goal.decide_in-requires
-decide_in-requires c = told c.in-Sound.is c.read_header-header.ensures
+decide_in-requires c = told c.in-Sound.is c.read_header.ensures
 
 pub returns-in-Refused : goal.returns-in-Refused
 returns-in-Refused c =
     let a = c.args in
-    decided-headless a.nodes a.subgoals a.answers a.source.now a.target.now _ (told c.in-Refused.is c.read_header-header.ensures)
+    decided-headless a.nodes a.subgoals a.answers a.source.now a.target.now _ (told c.in-Refused.is c.read_header.ensures)

@@ -26,7 +26,7 @@ whole_answer-requires c = header-bounds _ _ c.requires
 
 pub returns-in-Whole : goal.returns-in-Whole
 returns-in-Whole c =
-    let found = ap said_check (sym c.in-Whole.is) ∙ c.check-checked.ensures in
+    let found = ap said_check (sym c.in-Whole.is) ∙ c.check.ensures in
     let a = c.args in
     let e1 = c.wide.ensures.0 in
     let e2 = c.wide-2.ensures.0 in

@@ -1,4 +1,3 @@
-use Prim.Native.Nat.{◌≤◌, ◌-◌}
 use mathlib.Core.Path.{◌≡◌}
 use mathlib.Core.Bool.{true}
 use Rattle.agreement.specs.Whole.{every_below}
@@ -6,7 +5,4 @@ use Rattle.copying.proofs.TokenCases.{token_named}
 use Rattle.copying.proofs.tokens.are_named.Given as goal
 
 abbrev pub invariant-loop-i : goal.invariant-loop-i
-invariant-loop-i l = (l.i ≤ l.h.nodes) × (every_below (token_named l.space l.h) l.i ≡ true)
-
-abbrev pub decreases-loop-i : goal.decreases-loop-i
-decreases-loop-i l = l.h.nodes - l.i
+invariant-loop-i l = every_below (token_named l.space l.h) l.i ≡ true

@@ -6,7 +6,7 @@ use Rattle.copying.proofs.GiveCases.{answers-none, answers-ended, own-used, answ
 use Rattle.copying.proofs.writing.carry_answers.Goals as goal
 
 pub loop-i-init : goal.loop-i-init
-loop-i-init c = (omega arith, answers-none c.args.source.now c.args.h c.args.target.now, refl)
+loop-i-init c = (answers-none c.args.source.now c.args.h c.args.target.now, refl)
 
 pub overflow_add-i : goal.overflow_add-i
 overflow_add-i c = omega (arith, c.requires.0)
@@ -24,28 +24,21 @@ pub carry_answer-requires : goal.carry_answer-requires
 carry_answer-requires c =
     let l = c.loop-i in
     let r = answer-ready c.args.source.now c.args.h c.args.target.now l.target l.i _ c.answer_in-y.ensures _
-    c.subgoal_in-g.ensures (c.requires.1 l.i (omega arith)) l.invariant.1 in
+    c.subgoal_in-g.ensures (c.requires.1 l.i (omega arith)) l.invariant.0 in
     record { ends = ((bounds-nodes _ _ c.requires.0, r.0), r.1); target_value = (r.2, r.3) }
-
-pub overflow_add-i-in-loop-i : goal.overflow_add-i-in-loop-i
-overflow_add-i-in-loop-i c = omega arith
-
-pub loop-i-smaller : goal.loop-i-smaller
-loop-i-smaller c = omega arith
 
 pub loop-i-preserved : goal.loop-i-preserved
 loop-i-preserved c =
     let l = c.loop-i in (
-      omega arith,
-      answers_next c.args.source.now c.args.h c.args.target.now l.target l.i _ c.answer_in-y.ensures _ c.subgoal_in-g.ensures _ l.invariant.1
+      answers_next c.args.source.now c.args.h c.args.target.now l.target l.i _ c.answer_in-y.ensures _ c.subgoal_in-g.ensures _ l.invariant.0
           c.carry_answer.ensures,
-      omega (arith, c.carry_answer.auto, l.invariant.2),
+      omega (arith, c.carry_answer.auto, l.invariant.1),
     )
 
 pub shape_of-target : goal.shape_of-target
-shape_of-target c = c.loop-i.invariant.2
+shape_of-target c = c.loop-i.invariant.1
 
 pub returns : goal.returns
 returns c =
     let l = c.loop-i in
-    answers-ended c.args.source.now c.args.h c.args.target.now l.target l.i l.invariant.0 (omega arith) l.invariant.1
+    answers-ended c.args.source.now c.args.h c.args.target.now l.target l.i (omega arith) (omega arith) l.invariant.0

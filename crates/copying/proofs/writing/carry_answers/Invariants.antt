@@ -1,11 +1,7 @@
-use Prim.Native.Nat.{◌≤◌, ◌-◌}
 use mathlib.Core.Path.{◌≡◌}
 use lib.ListN.{length}
 use Rattle.copying.specs.Clauses.{with_answers}
 use Rattle.copying.proofs.writing.carry_answers.Given as goal
 
 abbrev pub invariant-loop-i : goal.invariant-loop-i
-invariant-loop-i l = (l.i ≤ l.h.answers) × (l.target ≡ with_answers l.source l.h l.initial.target l.i) × (length l.target ≡ length l.initial.target)
-
-abbrev pub decreases-loop-i : goal.decreases-loop-i
-decreases-loop-i l = l.h.answers - l.i
+invariant-loop-i l = (l.target ≡ with_answers l.source l.h l.initial.target l.i) × (length l.target ≡ length l.initial.target)

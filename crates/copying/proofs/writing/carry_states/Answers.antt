@@ -6,7 +6,7 @@ use Rattle.copying.proofs.StateCases.{states-none, states-ended, state-room, rec
 use Rattle.copying.proofs.writing.carry_states.Goals as goal
 
 pub loop-i-init : goal.loop-i-init
-loop-i-init c = let a = c.args in (omega arith, states-none a.source.now a.h a.offset a.target.now, refl)
+loop-i-init c = let a = c.args in (states-none a.source.now a.h a.offset a.target.now, refl)
 
 pub overflow_add-i : goal.overflow_add-i
 overflow_add-i c = omega (arith, c.requires.0)
@@ -27,28 +27,21 @@ pub write_state-requires : goal.write_state-requires
 write_state-requires c =
     let l = c.loop-i in
     let low : l.i < c.args.h.subgoals = omega arith in
-    state-room _ _ _ _ c.requires.1 l.i low l.target l.invariant.2
-
-pub overflow_add-i-in-loop-i-2 : goal.overflow_add-i-in-loop-i-2
-overflow_add-i-in-loop-i-2 c = omega (arith, c.requires.0)
-
-pub loop-i-smaller : goal.loop-i-smaller
-loop-i-smaller c = omega arith
+    state-room _ _ _ _ c.requires.1 l.i low l.target l.invariant.1
 
 pub loop-i-preserved : goal.loop-i-preserved
 loop-i-preserved c =
     let l = c.loop-i in
     let low : l.i < c.args.h.subgoals = omega arith in (
-      omega arith,
-      states-next _ _ _ _ c.requires.1 l.i low _ c.subgoal_in-g.ensures c.args.target.now l.target _ l.invariant.1 c.write_state.ensures,
-      omega (arith, c.write_state.auto, l.invariant.2),
+      states-next _ _ _ _ c.requires.1 l.i low _ c.subgoal_in-g.ensures c.args.target.now l.target _ l.invariant.0 c.write_state.ensures,
+      omega (arith, c.write_state.auto, l.invariant.1),
     )
 
 pub shape_of-target : goal.shape_of-target
-shape_of-target c = sym c.loop-i.invariant.2
+shape_of-target c = sym c.loop-i.invariant.1
 
 pub returns : goal.returns
 returns c =
     let a = c.args in
     let l = c.loop-i in
-    states-ended a.source.now a.h a.offset a.target.now l.target l.i l.invariant.0 (omega arith) l.invariant.1
+    states-ended a.source.now a.h a.offset a.target.now l.target l.i (omega arith) (omega arith) l.invariant.0

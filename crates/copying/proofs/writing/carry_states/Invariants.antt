@@ -1,4 +1,3 @@
-use Prim.Native.Nat.{◌≤◌, ◌-◌}
 use mathlib.Core.Path.{◌≡◌}
 use lib.ListN.{length}
 use Rattle.copying.specs.Clauses.{with_states}
@@ -6,7 +5,4 @@ use Rattle.copying.proofs.writing.carry_states.Given as goal
 
 abbrev pub invariant-loop-i : goal.invariant-loop-i
 invariant-loop-i l =
-    (l.i ≤ l.h.subgoals) × (l.target ≡ with_states l.source l.h l.offset l.initial.target l.i) × (length l.initial.target ≡ length l.target)
-
-abbrev pub decreases-loop-i : goal.decreases-loop-i
-decreases-loop-i l = l.h.subgoals - l.i
+    (l.target ≡ with_states l.source l.h l.offset l.initial.target l.i) × (length l.initial.target ≡ length l.target)

@@ -4,32 +4,32 @@ use Rattle.copying.proofs.WriteCases.{Accepted, accepted, not-refused, subgoals-
 use Rattle.copying.proofs.writing.write.Goals as goal
 
 pub returns-in_default : goal.returns-in_default
-returns-in_default c = absurd (not-refused _ _ _ _ _ c.requires _ (told c.in_default.is c.read_header-header.ensures))
+returns-in_default c = absurd (not-refused _ _ _ _ _ c.requires _ (told c.in_default.is c.read_header.ensures))
 
 pub carry_subgoals-requires : goal.carry_subgoals-requires
 carry_subgoals-requires c =
-    let known_here : (let a = c.args in Accepted a.nodes a.subgoals a.answers a.source.now a.target.now c.in-Sound.h) = accepted _ _ _ _ _ _ c.requires (told c.in-Sound.is c.read_header-header.ensures) in
+    let known_here : (let a = c.args in Accepted a.nodes a.subgoals a.answers a.source.now a.target.now c.in-Sound.h) = accepted _ _ _ _ _ _ c.requires (told c.in-Sound.is c.read_header.ensures) in
     subgoals-asked _ _ _ _ _ _ (known_here) _ c.fresh.ensures.1
 
 pub carry_answers-requires : goal.carry_answers-requires
 carry_answers-requires c =
-    let known_here : (let a = c.args in Accepted a.nodes a.subgoals a.answers a.source.now a.target.now c.in-Sound.h) = accepted _ _ _ _ _ _ c.requires (told c.in-Sound.is c.read_header-header.ensures) in
+    let known_here : (let a = c.args in Accepted a.nodes a.subgoals a.answers a.source.now a.target.now c.in-Sound.h) = accepted _ _ _ _ _ _ c.requires (told c.in-Sound.is c.read_header.ensures) in
     answers-asked _ _ _ _ _ _ (known_here) _ c.fresh.ensures.1 _ c.carry_subgoals.ensures
 
-pub returns-in_default-held : goal.returns-in_default-held
-returns-in_default-held c =
-    let known_here : (let a = c.args in Accepted a.nodes a.subgoals a.answers a.source.now a.target.now c.in-Sound.h) = accepted _ _ _ _ _ _ c.requires (told c.in-Sound.is c.read_header-header.ensures) in
+pub returns-in_default-read_header : goal.returns-in_default-read_header
+returns-in_default-read_header c =
+    let known_here : (let a = c.args in Accepted a.nodes a.subgoals a.answers a.source.now a.target.now c.in-Sound.h) = accepted _ _ _ _ _ _ c.requires (told c.in-Sound.is c.read_header.ensures) in
     absurd (not-headless _ _ _ _ _ _ (known_here) _ c.fresh.ensures.1 _ c.carry_subgoals.ensures _ c.carry_answers.ensures _
-    (told c.in_default-held.is c.read_header-held.ensures))
+    (told c.in_default-read_header.is c.read_header-2.ensures))
 
 pub carry_states-requires : goal.carry_states-requires
 carry_states-requires c =
-    let known_here : (let a = c.args in Accepted a.nodes a.subgoals a.answers a.source.now a.target.now c.in-Sound.h) = accepted _ _ _ _ _ _ c.requires (told c.in-Sound.is c.read_header-header.ensures) in
+    let known_here : (let a = c.args in Accepted a.nodes a.subgoals a.answers a.source.now a.target.now c.in-Sound.h) = accepted _ _ _ _ _ _ c.requires (told c.in-Sound.is c.read_header.ensures) in
     states-asked _ _ _ _ _ _ (known_here) _ c.fresh.ensures.1 _ c.carry_subgoals.ensures _ c.carry_answers.ensures _
-    (told c.in-Sound-held.is c.read_header-held.ensures)
+    (told c.in-Sound-read_header.is c.read_header-2.ensures)
 
 pub returns : goal.returns
 returns c =
-    let known_here : (let a = c.args in Accepted a.nodes a.subgoals a.answers a.source.now a.target.now c.in-Sound.h) = accepted _ _ _ _ _ _ c.requires (told c.in-Sound.is c.read_header-header.ensures) in
+    let known_here : (let a = c.args in Accepted a.nodes a.subgoals a.answers a.source.now a.target.now c.in-Sound.h) = accepted _ _ _ _ _ _ c.requires (told c.in-Sound.is c.read_header.ensures) in
     written _ _ _ _ _ _ (known_here) _ c.fresh.ensures.1 _ c.carry_subgoals.ensures _ c.carry_answers.ensures _
-    (told c.in-Sound-held.is c.read_header-held.ensures) _ c.carry_states.ensures
+    (told c.in-Sound-read_header.is c.read_header-2.ensures) _ c.carry_states.ensures

@@ -1,7 +1,9 @@
 -- `detours::judging::is_offer` meets its contract.
-use mathlib.Core.Path.{◌∙◌}
+use mathlib.Core.Path.{sym, ◌∙◌}
+use Rattle.basis.proofs.Both.{both-on, both-off}
 use Rattle.basis.proofs.Tests.{told}
 use Rattle.detours.proofs.JudgeCases.{above_in, last-damaged, last-root, above-damaged, above_root, root-damaged, root_told, root-other, root-above}
+use Rattle.detours.proofs.judging.is_offer.Goals.{then-root-first-via-then-root-first, then-root-first-via-else-root-first+then-first-end}
 use Rattle.detours.proofs.judging.is_offer.Goals as goal
 
 pub returns-in_default : goal.returns-in_default
@@ -53,35 +55,42 @@ returns-in_default-read_rising_node-2 c =
     (told c.in-Sound-read_rising_node.is c.read_rising_node-2.ensures)
     c.if-first-last.false (told c.in_default-read_rising_node-2.is c.read_rising_node-3.ensures)
 
-pub returns-then-first-end : goal.returns-then-first-end
-returns-then-first-end c =
-    c.both.ensures ∙ rw (c.is_integer.ensures, c.is_atom.ensures)
+pub returns-then-root-first : goal.returns-then-root-first
+returns-then-root-first c = elim c.then-root-first.branch [
+  | then-root-first-via-then-root-first w ↦
+      root-above c.args.space.now c.args.end c.in-Sound.last
+      (told c.in-Sound.is c.read_rising_node.ensures)
+      c.if-last-end.false c.in-Sound-read_rising_node.first
+      (told c.in-Sound-read_rising_node.is c.read_rising_node-2.ensures)
+      c.if-first-last.false c.in-Sound-read_rising_node-2.root
+      (told c.in-Sound-read_rising_node-2.is c.read_rising_node-3.ensures) w.if-root-first.true
+  | then-root-first-via-else-root-first+then-first-end w ↦
+      root-other c.args.space.now c.args.end c.in-Sound.last
+      (told c.in-Sound.is c.read_rising_node.ensures)
+      c.if-last-end.false c.in-Sound-read_rising_node.first
+      (told c.in-Sound-read_rising_node.is c.read_rising_node-2.ensures)
+      c.if-first-last.false c.in-Sound-read_rising_node-2.root
+      (told c.in-Sound-read_rising_node-2.is c.read_rising_node-3.ensures) w.if-root-first.false w.if-first-end.true
+]
+
+pub returns-then-is_atom : goal.returns-then-is_atom
+returns-then-is_atom c =
+    both-on (sym c.is_atom.ensures ∙ c.if-is_atom.true) c.is_integer.ensures ∙
     (root_told c.args.space.now c.args.end c.in-Sound.last
     (told c.in-Sound.is c.read_rising_node.ensures)
     c.if-last-end.false c.in-Sound-read_rising_node.first
     (told c.in-Sound-read_rising_node.is c.read_rising_node-2.ensures)
     c.if-first-last.false c.in-Sound-read_rising_node-2.root
-    (told c.in-Sound-read_rising_node-2.is
-    c.read_rising_node-3.ensures)
-    c.if-root-first.true c.if-first-end.true)
+    (told c.in-Sound-read_rising_node-2.is c.read_rising_node-3.ensures)
+    c.if-root-first.false c.if-first-end.false)
 
-pub returns-else-first-end : goal.returns-else-first-end
-returns-else-first-end c =
-    root-other c.args.space.now c.args.end c.in-Sound.last
-    (told c.in-Sound.is c.read_rising_node.ensures)
-    c.if-last-end.false c.in-Sound-read_rising_node.first
-    (told c.in-Sound-read_rising_node.is c.read_rising_node-2.ensures)
-    c.if-first-last.false c.in-Sound-read_rising_node-2.root
-    (told c.in-Sound-read_rising_node-2.is
-    c.read_rising_node-3.ensures) c.if-root-first.true
-    c.if-first-end.false
-
-pub returns-else-root-first : goal.returns-else-root-first
-returns-else-root-first c =
-    root-above c.args.space.now c.args.end c.in-Sound.last
+pub returns-else-is_atom : goal.returns-else-is_atom
+returns-else-is_atom c =
+    both-off _ (sym c.is_atom.ensures ∙ c.if-is_atom.false) c.is_atom.ensures ∙
+    (root_told c.args.space.now c.args.end c.in-Sound.last
     (told c.in-Sound.is c.read_rising_node.ensures)
     c.if-last-end.false c.in-Sound-read_rising_node.first
     (told c.in-Sound-read_rising_node.is c.read_rising_node-2.ensures)
     c.if-first-last.false c.in-Sound-read_rising_node-2.root
     (told c.in-Sound-read_rising_node-2.is c.read_rising_node-3.ensures)
-    c.if-root-first.false
+    c.if-root-first.false c.if-first-end.false)

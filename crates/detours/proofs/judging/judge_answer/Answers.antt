@@ -17,8 +17,8 @@ returns-then-y-s c =
     c.in-Sound.y
     (told c.in-Sound.is c.read_answer.ensures) (search rules)
 
-pub judge_path-judged-requires : goal.judge_path-judged-requires
-judge_path-judged-requires c = (
+pub judge_path-requires : goal.judge_path-requires
+judge_path-requires c = rw c.answer_end-end.ensures (
   bounds-nodes _ _ c.requires.0.0,
   answer-leaf c.args.space.now c.args.h c.args.s c.args.a (λ e. omega (arith, c.requires.1))
       c.in-Sound.y
@@ -30,18 +30,18 @@ returns-in-Damaged c =
     answer-severed c.args.space.now c.args.h c.args.s c.args.a (λ e. omega (arith, c.requires.1))
     c.in-Sound.y (told c.in-Sound.is
     c.read_answer.ensures) (search rules) c.args.g c.requires.0.3
-    (rw c.in-Damaged.is at c.judge_path-judged.ensures)
+    (rw (c.in-Damaged.is, c.answer_end-end.ensures) at c.judge_path.ensures)
 
 pub returns-in-Fit : goal.returns-in-Fit
 returns-in-Fit c =
     answer-held c.args.space.now c.args.h c.args.s c.args.a (λ e. omega (arith, c.requires.1))
     c.in-Sound.y (told c.in-Sound.is
     c.read_answer.ensures) (search rules) c.args.g c.requires.0.3 _
-    (rw c.in-Fit.is at c.judge_path-judged.ensures)
+    (rw (c.in-Fit.is, c.answer_end-end.ensures) at c.judge_path.ensures)
 
 pub returns-in-Unfit : goal.returns-in-Unfit
 returns-in-Unfit c =
     answer-held c.args.space.now c.args.h c.args.s c.args.a (λ e. omega (arith, c.requires.1))
     c.in-Sound.y (told c.in-Sound.is
     c.read_answer.ensures) (search rules) c.args.g c.requires.0.3 _
-    (rw c.in-Unfit.is at c.judge_path-judged.ensures)
+    (rw (c.in-Unfit.is, c.answer_end-end.ensures) at c.judge_path.ensures)

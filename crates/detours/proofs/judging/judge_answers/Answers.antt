@@ -11,28 +11,28 @@ use Rattle.detours.proofs.judging.judge_answers.Goals as goal
 pub loop-a-init : goal.loop-a-init
 loop-a-init c = passed-begin _ _ _ c.args.g _ c.requires.held.3 c.requires.first_le_answers refl
 
-pub judge_answer-member-requires : goal.judge_answer-member-requires
-judge_answer-member-requires c = (c.requires.held, omega arith, c.loop-a.invariant.within)
+pub judge_answer-requires : goal.judge_answer-requires
+judge_answer-requires c = (c.requires.held, omega arith, c.loop-a.invariant.within)
 
 pub loop-a-smaller : goal.loop-a-smaller
 loop-a-smaller c =
     let sound_here : AnswerJudged c.args.space.now
     c.args.h c.args.s
-    c.loop-a.a (member.Sound c.in-Sound.next c.in-Sound.fits) = rw c.in-Sound.is at c.judge_answer-member.ensures in
+    c.loop-a.a (member.Sound c.in-Sound.next c.in-Sound.fits) = rw c.in-Sound.is at c.judge_answer.ensures in
     ahead-less _ _ _ (search rules) c.loop-a.invariant.within (sound_here).0.0
 
 pub loop-a-preserved : goal.loop-a-preserved
 loop-a-preserved c =
     let sound_here : AnswerJudged c.args.space.now
     c.args.h c.args.s
-    c.loop-a.a (member.Sound c.in-Sound.next c.in-Sound.fits) = rw c.in-Sound.is at c.judge_answer-member.ensures in
+    c.loop-a.a (member.Sound c.in-Sound.next c.in-Sound.fits) = rw c.in-Sound.is at c.judge_answer.ensures in
     passed_on c.args.space.now c.args.h c.args.s c.loop-a.invariant (search rules) _
-    _ _ (sound_here) c.both-fit.ensures
+    _ _ (sound_here) refl
 
-pub returns-in-Damaged : goal.returns-in-Damaged
-returns-in-Damaged c =
+pub returns-in_default : goal.returns-in_default
+returns-in_default c =
     passed-severed c.args.space.now c.args.h c.args.s c.loop-a.invariant (search rules)
-    (rw c.in-Damaged.is at c.judge_answer-member.ensures)
+    (rw c.in_default.is at c.judge_answer.ensures)
 
 pub returns-then-fit : goal.returns-then-fit
 returns-then-fit c =

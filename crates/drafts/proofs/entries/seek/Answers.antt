@@ -5,20 +5,8 @@ use Rattle.drafts.proofs.EntryCases.{seek-begun, seek-none, seek_found, seek-on,
 use borrow.Author.Rules.{rules}
 use Rattle.drafts.proofs.entries.seek.Goals as goal
 
-pub slot_in-slot-requires : goal.slot_in-slot-requires
-slot_in-slot-requires c = (c.requires.1, omega (arith, c.requires.0.0.few), omega (arith, c.requires.0.0.few, c.requires.0.1.fits, c.requires.0.2))
-
-pub overflow_add-x : goal.overflow_add-x
-overflow_add-x c = omega (arith, c.requires.0.0.few)
-
-pub node_in-head-requires : goal.node_in-head-requires
-node_in-head-requires c = (c.requires.0.0, c.slot_in-slot.ensures.2)
-
 pub loop-n-init : goal.loop-n-init
 loop-n-init c = (c.requires, seek-begun _ _ _ _ _ c.requires _ c.slot_in-slot.ensures _ c.node_in-head.ensures)
-
-pub overflow_add-x-in-loop-n : goal.overflow_add-x-in-loop-n
-overflow_add-x-in-loop-n c = omega (arith, c.requires.0.0.few)
 
 pub node_in-y-requires : goal.node_in-y-requires
 node_in-y-requires c = (c.requires.0.0, omega (arith, c.loop-n.invariant.1.within, c.loop-n.invariant.0.0.1.fits))

@@ -1,7 +1,6 @@
 -- `engine::calls::tables_counts` meets its contract: each outcome by its law.
 use mathlib.Core.Path.{◌≡◌, ap}
 use native.Mathlib.Omega.{arith}
-use lib.ListN.{length-set}
 use Rattle.basis.proofs.Tests.{told}
 use Rattle.store.specs.Replies.{said_counts}
 use Rattle.store.specs.declared.CountsAnswer.TheVariants.{Used, Refused}
@@ -11,30 +10,25 @@ use Rattle.words.proofs.WordLaws.{given-bounded, counts-refused, counts-short, c
 use Rattle.engine.proofs.CountsLaw.{counts-returns}
 use Rattle.engine.proofs.calls.tables_counts.Goals as goal
 
-pub returns-then-out-lt3 : goal.returns-then-out-lt3
-unfolding word
-returns-then-out-lt3 c =
-    let given_here : said_counts (Used c.in-Used.c) ≡ counts_of c.args.space.now = told (ap said_counts c.in-Used.is) c.counts-answer.ensures.0 in
-    counts-returns _ _ _ _ (counts-short _ _ _ _ (given_here) (omega arith) c.result_word.ensures)
-
-pub bounds-out-1 : goal.bounds-out-1
-bounds-out-1 c = simp length-set (omega arith)
-
-pub bounds-out-2 : goal.bounds-out-2
-bounds-out-2 c = simp length-set (omega arith)
-
 pub returns-in-Used : goal.returns-in-Used
 unfolding word
 returns-in-Used c =
-    let given_here : said_counts (Used c.in-Used.c) ≡ counts_of c.args.space.now = told (ap said_counts c.in-Used.is) c.counts-answer.ensures.0 in
-    counts-returns _ _ _ _ (counts-given _ _ _ _ (given_here) (omega arith) c.result_word-in-Used.ensures)
+    let given_here : said_counts (Used c.in-Used.c) ≡ counts_of c.args.space.now = told (ap said_counts c.in-Used.is) c.counts.ensures.0 in
+    let e = c.copy_from_slice.ensures.after in
+    counts-returns _ _ _ _ (rw e (counts-given _ _ _ _ (given_here) (omega arith) c.result_word.ensures))
+
+pub returns-in-Used-2 : goal.returns-in-Used-2
+unfolding word
+returns-in-Used-2 c =
+    let given_here : said_counts (Used c.in-Used.c) ≡ counts_of c.args.space.now = told (ap said_counts c.in-Used.is) c.counts.ensures.0 in
+    counts-returns _ _ _ _ (counts-short _ _ _ _ (given_here) (omega arith) c.result_word-in-Used-2.ensures)
 
 pub refusal_word-requires : goal.refusal_word-requires
 refusal_word-requires c =
-    let refusal_here : said_counts (Refused c.in-Refused.r) ≡ counts_of c.args.space.now = told (ap said_counts c.in-Refused.is) c.counts-answer.ensures.0 in
+    let refusal_here : said_counts (Refused c.in-Refused.r) ≡ counts_of c.args.space.now = told (ap said_counts c.in-Refused.is) c.counts.ensures.0 in
     let h = given-bounded (refusal_here) (step-bounded _ _ _) in omega arith
 
 pub returns-in-Refused : goal.returns-in-Refused
 returns-in-Refused c =
-    let refusal_here : said_counts (Refused c.in-Refused.r) ≡ counts_of c.args.space.now = told (ap said_counts c.in-Refused.is) c.counts-answer.ensures.0 in
+    let refusal_here : said_counts (Refused c.in-Refused.r) ≡ counts_of c.args.space.now = told (ap said_counts c.in-Refused.is) c.counts.ensures.0 in
     counts-returns _ _ _ _ (counts-refused _ _ _ _ (refusal_here) c.refusal_word.ensures)

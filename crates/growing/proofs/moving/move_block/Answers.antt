@@ -1,7 +1,16 @@
 -- `growing::moving::move_block` meets its contract.
+use Prim.Native.Nat.{ℕ, ◌+◌, ◌-◌}
+use mathlib.Core.Path.{◌≡◌, ap, ◌∙◌}
 use native.Mathlib.Omega.{arith}
-use Rattle.growing.proofs.MovingLaws.{block-still}
+use lib.ListN.{drop}
+use lib.Seq.{paste}
+use Rattle.growing.specs.Moving.{moved}
 use Rattle.growing.proofs.moving.move_block.Goals as goal
 
-pub returns-else-block-2 : goal.returns-else-block-2
-returns-else-block-2 c = block-still _ _ (omega arith) (omega arith) (omega arith)
+pub returns : goal.returns
+unfolding moved
+returns c =
+    let b = c.args.block in
+    let s = c.args.space.now in
+    let n : b.from + b.count - b.from ≡ b.count = omega arith in
+    c.copy_within.ensures.after ∙ ap (λ (k : ℕ). paste s b.to (drop b.from s) k) n

@@ -1,12 +1,8 @@
 use Rattle.indexing.proofs.FillCases.{Entered}
 use Rattle.indexing.specs.Parts.{tries_in}
-use Prim.Native.Nat.{◌≤◌, ◌-◌}
 use mathlib.Core.Path.{◌≡◌}
 use lib.ListN.{length}
 use Rattle.indexing.proofs.filling.enter_all.Given as goal
 
 abbrev pub invariant-loop-n : goal.invariant-loop-n
-invariant-loop-n l = (l.n ≤ l.h.nodes) × Entered (tries_in l.space l.h) l.initial.index l.n l.index × (length l.index ≡ length l.initial.index)
-
-abbrev pub decreases-loop-n : goal.decreases-loop-n
-decreases-loop-n l = l.h.nodes - l.n
+invariant-loop-n l = Entered (tries_in l.space l.h) l.initial.index l.n l.index × (length l.index ≡ length l.initial.index)

@@ -5,22 +5,16 @@ use native.Mathlib.Omega.{arith}
 use Rattle.indexing.proofs.nodes.nodes_fit.Goals as goal
 
 pub loop-n-init : goal.loop-n-init
-loop-n-init c = (omega arith, nodes-begin _)
+loop-n-init c = nodes-begin _
 
-pub node_fits-fits-requires : goal.node_fits-fits-requires
-node_fits-fits-requires c = (c.requires, omega arith, c.loop-n.invariant.1)
+pub node_fits-requires : goal.node_fits-requires
+node_fits-requires c = (c.requires, omega arith, c.loop-n.invariant)
 
-pub returns-then-not-fits : goal.returns-then-not-fits
-returns-then-not-fits c = nodes-failed _ _ c.loop-n.n (omega arith) (told c.node_fits-fits.ensures (c.if-not-fits.true))
-
-pub overflow_add-n : goal.overflow_add-n
-overflow_add-n c = let b = c.requires in omega arith
-
-pub loop-n-smaller : goal.loop-n-smaller
-loop-n-smaller c = omega arith
+pub returns-then-not-node_fits : goal.returns-then-not-node_fits
+returns-then-not-node_fits c = nodes-failed _ _ c.loop-n.n (omega arith) (told c.node_fits.ensures c.if-not-node_fits.true)
 
 pub loop-n-preserved : goal.loop-n-preserved
-loop-n-preserved c = (omega arith, nodes-on _ _ c.loop-n.invariant.1 (told c.node_fits-fits.ensures (c.if-not-fits.false)))
+loop-n-preserved c = nodes-on _ _ c.loop-n.invariant (told c.node_fits.ensures c.if-not-node_fits.false)
 
 pub returns : goal.returns
-returns c = nodes-ended _ _ c.loop-n.n c.loop-n.invariant.0 (omega arith) c.loop-n.invariant.1
+returns c = nodes-ended _ _ c.loop-n.n (omega arith) (omega arith) c.loop-n.invariant

@@ -1,11 +1,8 @@
 use Rattle.integrity.proofs.ChainCases.{lengths_to}
 use Rattle.space.specs.Layout.{most}
-use Prim.Native.Nat.{◌≤◌, ◌-◌, ◌*◌}
+use Prim.Native.Nat.{◌≤◌, ◌*◌}
 use mathlib.Core.Path.{◌≡◌}
 use Rattle.integrity.proofs.chains.chains_length.Given as goal
 
 abbrev pub invariant-loop-i : goal.invariant-loop-i
-invariant-loop-i l = (l.i ≤ l.h.subgoals) × (l.count ≡ lengths_to l.space l.h l.i) × (l.count ≤ most * l.i)
-
-abbrev pub decreases-loop-i : goal.decreases-loop-i
-decreases-loop-i l = l.h.subgoals - l.i
+invariant-loop-i l = (l.count ≡ lengths_to l.space l.h l.i) × (l.count ≤ most * l.i)

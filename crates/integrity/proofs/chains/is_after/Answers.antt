@@ -11,14 +11,14 @@ loop-b-init c = searching-begin (c.args.space.now) (c.args.h) (c.args.first) (c.
 pub returns-then-b-a : goal.returns-then-b-a
 returns-then-b-a c = searching-found (c.args.space.now) (c.args.h) (c.args.first) (c.args.a) (c.loop-b.invariant) (search rules) (search rules)
 
-pub answer_in-y-requires : goal.answer_in-y-requires
-answer_in-y-requires c = (c.requires.0.0, omega arith, c.loop-b.invariant.along.within)
+pub answer_in-b-requires : goal.answer_in-b-requires
+answer_in-b-requires c = (c.requires.0.0, omega arith, c.loop-b.invariant.along.within)
 
 pub loop-b-smaller : goal.loop-b-smaller
-loop-b-smaller c = ahead-less _ _ _ (search rules) (c.loop-b.invariant.along.within) (next-rises (c.args.space.now) (c.args.h) (c.args.first) (c.loop-b.invariant.along) (search rules) (c.requires.0) (c.answer_in-y.result) (c.answer_in-y.ensures))
+loop-b-smaller c = ahead-less _ _ _ (search rules) (c.loop-b.invariant.along.within) (next-rises (c.args.space.now) (c.args.h) (c.args.first) (c.loop-b.invariant.along) (search rules) (c.requires.0) (c.answer_in-b.result) (c.answer_in-b.ensures))
 
 pub loop-b-preserved : goal.loop-b-preserved
-loop-b-preserved c = searching-on (c.args.space.now) (c.args.h) (c.args.first) (c.args.a) (c.loop-b.invariant) (search rules) (search rules) (c.requires.0) (c.answer_in-y.result) (c.answer_in-y.ensures)
+loop-b-preserved c = searching-on (c.args.space.now) (c.args.h) (c.args.first) (c.args.a) (c.loop-b.invariant) (search rules) (search rules) (c.requires.0) (c.answer_in-b.result) (c.answer_in-b.ensures)
 
 pub returns : goal.returns
 returns c = searching-ended (c.args.space.now) (c.args.h) (c.args.first) (c.args.a) (c.loop-b.invariant) (search rules)

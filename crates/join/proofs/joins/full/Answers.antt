@@ -10,14 +10,11 @@ overflow_sub-nodes c = c.requires.ready_to_count.0.known.bounds.nodes-within
 pub overflow_sub-answers : goal.overflow_sub-answers
 overflow_sub-answers c = c.requires.ready_to_count.0.known.bounds.answers-within
 
-pub needs-y-requires : goal.needs-y-requires
-needs-y-requires c = c.requires
-
 pub returns-then-nodes-y : goal.returns-then-nodes-y
-returns-then-nodes-y c = fills-nodes (search_indexed c.args.index.now c.args.x.h.nodes) c.args.space.now c.args.x c.args.root c.args.pairs.now c.args.copies.now _ c.needs-y.ensures (search rules)
+returns-then-nodes-y c = fills-nodes (search_indexed c.args.asked.now.index.now c.args.x.h.nodes) c.args.space.now c.args.x c.args.root c.args.asked.now.pairs.now c.args.asked.now.copies.now _ c.needs-y.ensures (search rules)
 
 pub returns-then-answers-y : goal.returns-then-answers-y
-returns-then-answers-y c = fills-answers (search_indexed c.args.index.now c.args.x.h.nodes) c.args.space.now c.args.x c.args.root c.args.pairs.now c.args.copies.now _ c.needs-y.ensures (search rules) (search rules)
+returns-then-answers-y c = fills-answers (search_indexed c.args.asked.now.index.now c.args.x.h.nodes) c.args.space.now c.args.x c.args.root c.args.asked.now.pairs.now c.args.asked.now.copies.now _ c.needs-y.ensures (search rules) (search rules)
 
 pub returns : goal.returns
-returns c = fills-none (search_indexed c.args.index.now c.args.x.h.nodes) c.args.space.now c.args.x c.args.root c.args.pairs.now c.args.copies.now _ c.needs-y.ensures (search rules) (search rules)
+returns c = fills-none (search_indexed c.args.asked.now.index.now c.args.x.h.nodes) c.args.space.now c.args.x c.args.root c.args.asked.now.pairs.now c.args.asked.now.copies.now _ c.needs-y.ensures (search rules) (search rules)

@@ -1,6 +1,4 @@
 -- `join::joins::join_new` meets its contract.
-use mathlib.Core.Path.{ap}
-use lib.ListN.{length}
 use Rattle.join.proofs.CallCases.{target-last, sums-room, new-bounds, new-last, may-enter, new-by-sums, new-exactly, new-full}
 use Rattle.join.proofs.TrialCases.{new-roomed, enter-after, entered-after, refused-after}
 use Rattle.join.proofs.GroundLaws.{new-needed}
@@ -16,29 +14,26 @@ last_sound-requires c = target-last c.args.space.now c.args.h c.args.y c.require
 
 pub sums_fit-requires : goal.sums_fit-requires
 sums_fit-requires c =
-    let e = sums-room c.args.space.now c.args.h (new-bounds (search_indexed c.args.index.now) c.args.space.now c.args.h c.args.y c.args.pairs.now c.args.copies.now c.args.sums c.requires) in
+    let e = sums-room c.args.space.now c.args.h (new-bounds (search_indexed c.args.asked.now.index.now) c.args.space.now c.args.h c.args.y c.args.asked.now.pairs.now c.args.asked.now.copies.now c.args.sums c.requires) in
     record { nodes_bound = e.0; node_capacity_bound = e.1 }
 
 pub join_entered-requires : goal.join_entered-requires
-join_entered-requires c = may-enter (search_indexed c.args.index.now) c.args.space.now c.args.h c.args.y c.args.pairs.now c.args.copies.now c.args.sums c.requires _ c.sides_of-x.ensures
+join_entered-requires c = may-enter (search_indexed c.args.asked.now.index.now) c.args.space.now c.args.h c.args.y c.args.asked.now.pairs.now c.args.asked.now.copies.now c.args.sums c.requires _ c.sides_of-x.ensures
 
 pub returns-then-sums_fit : goal.returns-then-sums_fit
-returns-then-sums_fit c = new-by-sums (search_indexed c.args.index.now) c.args.space.now c.args.h c.args.y c.args.pairs.now c.args.copies.now c.args.sums c.requires _ c.sides_of-x.ensures (told c.last_sound.ensures c.if-last_sound.true) (told c.sums_fit.ensures c.if-sums_fit.true) c.join_entered.result _ c.join_entered.ensures
+returns-then-sums_fit c = new-by-sums (search_indexed c.args.asked.now.index.now) c.args.space.now c.args.h c.args.y c.args.asked.now.pairs.now c.args.asked.now.copies.now c.args.sums c.requires _ c.sides_of-x.ensures (told c.last_sound.ensures c.if-last_sound.true) (told c.sums_fit.ensures c.if-sums_fit.true) c.join_entered.result _ c.join_entered.ensures
 
 pub room-r-requires : goal.room-r-requires
-room-r-requires c = record { roomed = new-roomed (search_indexed c.args.index.now) c.args.space.now c.args.h c.args.y c.args.pairs.now c.args.copies.now c.args.sums c.requires c.sides_of-x.result c.sides_of-x.ensures; some_needed = new-needed (search_indexed c.args.index.now) c.args.space.now c.args.h c.args.y c.args.pairs.now c.args.copies.now c.args.sums c.requires c.sides_of-x.result c.sides_of-x.ensures }
+room-r-requires c = record { roomed = new-roomed (search_indexed c.args.asked.now.index.now) c.args.space.now c.args.h c.args.y c.args.asked.now.pairs.now c.args.asked.now.copies.now c.args.sums c.requires c.sides_of-x.result c.sides_of-x.ensures; some_needed = new-needed (search_indexed c.args.asked.now.index.now) c.args.space.now c.args.h c.args.y c.args.asked.now.pairs.now c.args.asked.now.copies.now c.args.sums c.requires c.sides_of-x.result c.sides_of-x.ensures }
 
 pub join_entered-requires-then-r-eq0 : goal.join_entered-requires-then-r-eq0
-join_entered-requires-then-r-eq0 c = enter-after (search_indexed c.args.index.now) c.args.space.now c.args.h c.args.y c.args.pairs.now c.args.copies.now c.args.sums c.requires c.sides_of-x.result c.sides_of-x.ensures c.room-r.new.space c.room-r.ensures.0
+join_entered-requires-then-r-eq0 c = enter-after (search_indexed c.args.asked.now.index.now) c.args.space.now c.args.h c.args.y c.args.asked.now.pairs.now c.args.asked.now.copies.now c.args.sums c.requires c.sides_of-x.result c.sides_of-x.ensures c.room-r.new.space c.room-r.ensures.0
 
 pub returns-then-r-eq0 : goal.returns-then-r-eq0
-returns-then-r-eq0 c = new-exactly (search_indexed c.args.index.now) c.args.space.now c.args.h c.args.y c.args.pairs.now c.args.copies.now c.args.sums c.requires c.sides_of-x.result c.sides_of-x.ensures (told c.last_sound.ensures c.if-last_sound.true) c.room-r.result c.room-r.ensures.1 (search rules) c.join_entered-then-r-eq0.result _ (entered-after (search_indexed c.args.index.now c.sides_of-x.result.h.nodes) c.args.space.now c.room-r.new.space c.sides_of-x.result c.args.y.target c.args.pairs.now c.args.copies.now c.join_entered-then-r-eq0.result _ c.room-r.ensures.0 c.join_entered-then-r-eq0.ensures)
-
-pub shape_of-space-then-last_sound : goal.shape_of-space-then-last_sound
-shape_of-space-then-last_sound c = ap length c.room-r.ensures.0
+returns-then-r-eq0 c = new-exactly (search_indexed c.args.asked.now.index.now) c.args.space.now c.args.h c.args.y c.args.asked.now.pairs.now c.args.asked.now.copies.now c.args.sums c.requires c.sides_of-x.result c.sides_of-x.ensures (told c.last_sound.ensures c.if-last_sound.true) c.room-r.result c.room-r.ensures.1 (search rules) c.join_entered-then-r-eq0.result _ (entered-after (search_indexed c.args.asked.now.index.now c.sides_of-x.result.h.nodes) c.args.space.now c.room-r.new.space c.sides_of-x.result c.args.y.target c.args.asked.now.pairs.now c.args.asked.now.copies.now c.join_entered-then-r-eq0.result _ c.room-r.ensures.0 c.join_entered-then-r-eq0.ensures)
 
 pub returns-then-last_sound : goal.returns-then-last_sound
-returns-then-last_sound c = refused-after (search_indexed c.args.index.now c.args.h.nodes) c.args.space.now c.room-r.new.space c.args.h (join_asked c.args.y c.args.pairs.now c.args.copies.now) (refused c.room-r.result) c.room-r.ensures.0 (new-full (search_indexed c.args.index.now) c.args.space.now c.args.h c.args.y c.args.pairs.now c.args.copies.now c.args.sums c.requires c.sides_of-x.result c.sides_of-x.ensures (told c.last_sound.ensures c.if-last_sound.true) c.room-r.result c.room-r.ensures.1 (search rules))
+returns-then-last_sound c = refused-after (search_indexed c.args.asked.now.index.now c.args.h.nodes) c.args.space.now c.room-r.new.space c.args.h (join_asked c.args.y c.args.asked.now.pairs.now c.args.asked.now.copies.now) (refused c.room-r.result) c.room-r.ensures.0 (new-full (search_indexed c.args.asked.now.index.now) c.args.space.now c.args.h c.args.y c.args.asked.now.pairs.now c.args.asked.now.copies.now c.args.sums c.requires c.sides_of-x.result c.sides_of-x.ensures (told c.last_sound.ensures c.if-last_sound.true) c.room-r.result c.room-r.ensures.1 (search rules))
 
 pub returns : goal.returns
-returns c = new-last (search_indexed c.args.index.now) c.args.space.now c.args.h c.args.y c.args.pairs.now c.args.copies.now c.args.sums c.requires (told c.last_sound.ensures c.if-last_sound.false)
+returns c = new-last (search_indexed c.args.asked.now.index.now) c.args.space.now c.args.h c.args.y c.args.asked.now.pairs.now c.args.asked.now.copies.now c.args.sums c.requires (told c.last_sound.ensures c.if-last_sound.false)

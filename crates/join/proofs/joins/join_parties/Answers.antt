@@ -16,8 +16,5 @@ rule-r-requires c = target-few c.args.space.now c.args.h c.args.y c.requires
 pub join_ground-requires : goal.join_ground-requires
 join_ground-requires c = (c.rule-r.ensures c.args.space.now c.args.h c.requires c.judge-f.ensures c.judge-g.ensures).0 (search rules)
 
-pub returns-then-r-eq0 : goal.returns-then-r-eq0
-returns-then-r-eq0 c = c.join_ground.ensures
-
 pub returns : goal.returns
-returns c = (c.rule-r.ensures c.args.space.now c.args.h c.requires c.judge-f.ensures c.judge-g.ensures).1 (search rules) (search_indexed c.args.index.now c.args.h.nodes)
+returns c = (c.rule-r.ensures c.args.space.now c.args.h c.requires c.judge-f.ensures c.judge-g.ensures).1 (search rules) (search_indexed c.args.asked.now.index.now c.args.h.nodes)

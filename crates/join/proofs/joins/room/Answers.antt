@@ -1,34 +1,23 @@
 -- `join::joins::room` meets its contract.
-use mathlib.Core.Path.{ap}
-use lib.ListN.{length}
 use Rattle.trie.specs.Index.{search_indexed}
-use Rattle.join.proofs.TrialCases.{room-some, room-triable, room-ready, room-counted, room_settled}
+use Rattle.join.proofs.TrialCases.{room-some, room-ready, room-counted, room_settled}
 use Rattle.join.proofs.GroundLaws.{ground-told}
 use borrow.Author.Rules.{rules}
 use Rattle.join.proofs.joins.room.Goals as goal
 
-pub returns-then-copies-eq0 : goal.returns-then-copies-eq0
-returns-then-copies-eq0 c = ground-told (search_indexed c.args.index.now c.args.x.h.nodes) c.args.space.now c.args.x c.args.root c.args.pairs.now c.args.copies.now (search rules) c.requires.some_needed c.full_for_one.result c.full_for_one.ensures
+pub returns-then-is_empty : goal.returns-then-is_empty
+returns-then-is_empty c = ground-told (search_indexed c.args.asked.now.index.now c.args.x.h.nodes) c.args.space.now c.args.x c.args.root c.args.asked.now.pairs.now c.args.asked.now.copies.now (search rules) c.requires.some_needed c.full_for_one.result c.full_for_one.ensures
 
 pub overflow_sub-x : goal.overflow_sub-x
-overflow_sub-x c = room-some c.args.space.now c.args.x c.args.root c.args.pairs.now c.args.copies.now c.requires.roomed
-
-pub on_trial-r-requires : goal.on_trial-r-requires
-on_trial-r-requires c = room-triable c.args.space.now c.args.x c.args.root c.args.pairs.now c.args.copies.now c.requires.roomed c.least-free.result c.least-free.ensures
+overflow_sub-x c = room-some c.args.space.now c.args.x c.args.root c.args.asked.now.pairs.now c.args.asked.now.copies.now c.requires.roomed
 
 pub full-requires : goal.full-requires
 full-requires c =
-    let e = room-ready c.args.space.now c.args.x c.args.root c.args.pairs.now c.args.copies.now c.requires.roomed c.on_trial-r.new.space c.on_trial-r.ensures.0 in
+    let e = room-ready c.args.space.now c.args.x c.args.root c.args.asked.now.pairs.now c.args.asked.now.copies.now c.requires.roomed c.on_trial-r.new.space c.on_trial-r.ensures.0 in
     record { ready_to_count = e.0; root_lt_nodes = e.1 }
 
-pub shape_of-space-then-r-eq-UNSETTLED : goal.shape_of-space-then-r-eq-UNSETTLED
-shape_of-space-then-r-eq-UNSETTLED c = ap length c.on_trial-r.ensures.0
-
 pub returns-then-r-eq-UNSETTLED : goal.returns-then-r-eq-UNSETTLED
-returns-then-r-eq-UNSETTLED c = room-counted c.args.space.now c.args.x c.args.root c.args.pairs.now c.args.copies.now c.requires.roomed (search_indexed c.args.index.now c.args.x.h.nodes) c.on_trial-r.new.space c.full.result c.on_trial-r.ensures.0 c.full.ensures
-
-pub shape_of-space : goal.shape_of-space
-shape_of-space c = ap length c.on_trial-r.ensures.0
+returns-then-r-eq-UNSETTLED c = room-counted c.args.space.now c.args.x c.args.root c.args.asked.now.pairs.now c.args.asked.now.copies.now c.requires.roomed (search_indexed c.args.asked.now.index.now c.args.x.h.nodes) c.on_trial-r.new.space c.full.result c.on_trial-r.ensures.0 c.full.ensures
 
 pub returns : goal.returns
-returns c = room_settled c.args.space.now c.args.x c.args.root c.args.pairs.now c.args.copies.now c.requires.roomed (search_indexed c.args.index.now c.args.x.h.nodes) c.on_trial-r.new.space c.on_trial-r.result c.on_trial-r.ensures (search rules)
+returns c = room_settled c.args.space.now c.args.x c.args.root c.args.asked.now.pairs.now c.args.asked.now.copies.now c.requires.roomed (search_indexed c.args.asked.now.index.now c.args.x.h.nodes) c.on_trial-r.new.space c.on_trial-r.result c.on_trial-r.ensures (search rules)

@@ -12,8 +12,8 @@ returns-then-h-y c = subst (λ (t : Tried). Settles c.args.h c.args.free t 10) (
 pub returns-then-answers-y : goal.returns-then-answers-y
 returns-then-answers-y c = subst (λ (t : Tried). Settles c.args.h c.args.free t 11) (sym c.in-All.is) (settle-records c.args.h c.requires c.args.free c.in-All.y (search rules) (search rules))
 
-pub returns-in-All : goal.returns-in-All
-returns-in-All c = subst (λ (t : Tried). Settles c.args.h c.args.free t 0) (sym c.in-All.is) (settle-none c.args.h c.requires c.args.free c.in-All.y (search rules) (search rules))
+pub returns-else-answers-y : goal.returns-else-answers-y
+returns-else-answers-y c = subst (λ (t : Tried). Settles c.args.h c.args.free t 0) (sym c.in-All.is) (settle-none c.args.h c.requires c.args.free c.in-All.y (search rules) (search rules))
 
 pub returns-then-free-h : goal.returns-then-free-h
 returns-then-free-h c = subst (λ (t : Tried). Settles c.args.h c.args.free t 10) (sym c.in-Over.is) (settle-over c.args.h c.requires c.args.free (search rules))

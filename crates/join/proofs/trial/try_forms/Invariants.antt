@@ -4,8 +4,8 @@ use Rattle.pairing.specs.Pairing.{to_come}
 use Rattle.join.proofs.TrialLoop.{Trying}
 use Rattle.join.proofs.trial.try_forms.Given as goal
 
-abbrev pub invariant-loop-behind : goal.invariant-loop-behind
-invariant-loop-behind l = Trying (search_indexed l.index l.x.h.nodes) l.initial.space l.x l.free l.root l.pairs l.copies l.space l.at l.hands l.form l.y
+abbrev pub invariant-loop-n : goal.invariant-loop-n
+invariant-loop-n l = Trying (search_indexed l.asked.index.now l.x.h.nodes) l.initial.space l.x l.free l.root l.asked.pairs.now l.asked.copies.now l.space l.walk.at l.walk.first l.walk.form l.y
 
-abbrev pub decreases-loop-behind : goal.decreases-loop-behind
-decreases-loop-behind l = length (to_come l.initial.space l.x l.pairs l.copies l.at l.hands)
+abbrev pub decreases-loop-n : goal.decreases-loop-n
+decreases-loop-n l = length (to_come l.initial.space l.x l.asked.pairs.now l.asked.copies.now l.walk.at l.walk.first)

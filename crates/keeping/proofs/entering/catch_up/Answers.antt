@@ -1,5 +1,5 @@
 -- `keeping::entering::catch_up` meets its contract.
-use Rattle.keeping.proofs.Cases.{held-some, catch-none, catching-begin, catching-on, catching-all, catching-full}
+use Rattle.keeping.proofs.Cases.{held-some, catch-none, catching-begin, catching-on, catching-ended}
 use borrow.Author.Rules.{rules}
 use native.Mathlib.Omega.{arith}
 use Rattle.keeping.proofs.entering.catch_up.Goals as goal
@@ -13,23 +13,8 @@ bounds-lasts-0 c = omega (arith, (held-some _ _ _ c.capacity-room.ensures (searc
 pub loop-n-init : goal.loop-n-init
 loop-n-init c = (catching-begin _ _ _ _ _ c.capacity-room.ensures _ c.wide-n.ensures.0, c.capacity-room.ensures, held-some _ _ _ c.capacity-room.ensures (search rules))
 
-pub shape_of-lasts-then-room-n : goal.shape_of-lasts-then-room-n
-shape_of-lasts-then-room-n c = c.loop-n.invariant.0.lasts-long
-
-pub shape_of-slots-then-room-n : goal.shape_of-slots-then-room-n
-shape_of-slots-then-room-n c = c.loop-n.invariant.0.slots-long
-
-pub returns-then-room-n : goal.returns-then-room-n
-returns-then-room-n c = catching-full c.args.space.now c.args.nodes _ c.args.lasts.now c.args.slots.now c.loop-n.invariant.1 c.loop-n.invariant.0 (search rules)
-
 pub enter-requires : goal.enter-requires
 enter-requires c = let i = c.loop-n.invariant in (search rules, search rules, record { lasts-room = omega (arith, i.0.lasts-long, i.2.lasts-room); slots-some = omega (arith, i.0.slots-long, i.2.slots-room); slots-most = omega (arith, i.0.slots-long, i.2.slots-most) })
-
-pub overflow_add-n : goal.overflow_add-n
-overflow_add-n c = omega arith
-
-pub loop-n-smaller : goal.loop-n-smaller
-loop-n-smaller c = omega arith
 
 pub loop-n-preserved : goal.loop-n-preserved
 loop-n-preserved c = let i = c.loop-n.invariant in (catching-on c.args.space.now c.args.nodes _ c.args.lasts.now c.args.slots.now i.1 i.0 (search rules) (search rules) _ _ c.enter.ensures, i.1, i.2)
@@ -41,4 +26,4 @@ pub shape_of-slots : goal.shape_of-slots
 shape_of-slots c = c.loop-n.invariant.0.slots-long
 
 pub returns : goal.returns
-returns c = catching-all c.args.space.now c.args.nodes _ c.args.lasts.now c.args.slots.now c.loop-n.invariant.1 c.loop-n.invariant.0 (omega arith)
+returns c = catching-ended c.args.space.now c.args.nodes _ c.args.lasts.now c.args.slots.now c.loop-n.invariant.1 c.loop-n.invariant.0 (omega arith)

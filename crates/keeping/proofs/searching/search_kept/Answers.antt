@@ -1,23 +1,18 @@
 -- `keeping::searching::search_kept` meets its contract.
-use Rattle.keeping.specs.Clauses.{ledger_in}
 use Rattle.keeping.proofs.FindCases.{usable-room, no-slots, kept-none, kept-first}
-use mathlib.Core.Path.{◌≡◌, sym, ap, ◌∙◌}
+use mathlib.Core.Path.{sym, ap, ◌∙◌}
 use Prim.Native.Nat.{◌<◌}
 use native.Mathlib.Omega.{arith}
-use Rattle.basis.proofs.Tests.{told}
-use Rattle.space.specs.Layout.{sizes, node_in}
-use Rattle.space.specs.Judging.{read_node}
+use Rattle.space.specs.Layout.{sizes}
 use Rattle.space.specs.declared.Node.{Node}
-use Rattle.space.specs.declared.NodeRead.TheVariants as node
 use Rattle.trie.specs.Siblings.{trie_in}
-use Rattle.trie.specs.Ledger.{found_in, search_in}
-use Rattle.trie.proofs.SearchCases.{Here, at-damaged, at-stray, at-found, at_last, at_next}
+use Rattle.trie.proofs.SearchCases.{at-damaged, at-stray, at-found, at_last, at_next}
 use Rattle.trie.proofs.SearchLaws.{first-within}
 use borrow.Author.Rules.{rules}
 use Rattle.keeping.proofs.searching.search_kept.Goals as goal
 
-pub returns-then-slots-eq0 : goal.returns-then-slots-eq0
-returns-then-slots-eq0 c = c.search_children.ensures ∙ no-slots (trie_in sizes c.args.space.now c.args.nodes c.args.links) c.args.lasts.now c.args.slots.now c.args.parent c.args.token (search rules) (search rules)
+pub returns-then-is_empty : goal.returns-then-is_empty
+returns-then-is_empty c = c.search_children.ensures ∙ no-slots (trie_in sizes c.args.space.now c.args.nodes c.args.links) c.args.lasts.now c.args.slots.now c.args.parent c.args.token (search rules) (search rules)
 
 pub returns-then-y-eq0 : goal.returns-then-y-eq0
 returns-then-y-eq0 c = kept-none (trie_in sizes c.args.space.now c.args.nodes c.args.links) c.args.lasts.now c.args.slots.now c.args.parent c.args.token c.node_in-y.result c.node_in-y.ensures (search rules)
@@ -29,25 +24,19 @@ read_node-requires c =
     (search rules, omega arith)
 
 pub returns-in_default : goal.returns-in_default
-returns-in_default c = at-damaged (kept-first (trie_in sizes c.args.space.now c.args.nodes c.args.links) c.args.lasts.now c.args.slots.now c.args.parent c.args.token c.node_in-y.result c.node_in-y.ensures (search rules) (c.requires.nodes_in.2 (search rules))) (told c.in_default.is c.read_node.ensures)
+returns-in_default c = at-damaged (kept-first (trie_in sizes c.args.space.now c.args.nodes c.args.links) c.args.lasts.now c.args.slots.now c.args.parent c.args.token c.node_in-y.result c.node_in-y.ensures (search rules) (c.requires.nodes_in.2 (search rules))) c.in_default.ensures
 
 pub returns-then-z-parent : goal.returns-then-z-parent
 returns-then-z-parent c =
-    let was_read_here : node.Sound c.in-Sound.z ≡ read_node c.args.nodes c.args.links (node_in sizes c.args.space.now) c.node_in-y.result.child = told c.in-Sound.is c.read_node.ensures in
-    let at_first_here : Here (trie_in sizes c.args.space.now c.args.nodes c.args.links) c.args.parent c.args.token c.node_in-y.result.child (found_in (ledger_in c.args.lasts.now c.args.slots.now) (trie_in sizes c.args.space.now c.args.nodes c.args.links) c.args.parent c.args.token) (search_in (ledger_in c.args.lasts.now c.args.slots.now) (trie_in sizes c.args.space.now c.args.nodes c.args.links) c.args.parent c.args.token) = kept-first (trie_in sizes c.args.space.now c.args.nodes c.args.links) c.args.lasts.now c.args.slots.now c.args.parent c.args.token c.node_in-y.result c.node_in-y.ensures (search rules) (c.requires.nodes_in.2 (search rules)) in
-    at-stray (at_first_here) _ (was_read_here) (search rules)
+    at-stray (kept-first (trie_in sizes c.args.space.now c.args.nodes c.args.links) c.args.lasts.now c.args.slots.now c.args.parent c.args.token c.node_in-y.result c.node_in-y.ensures (search rules) (c.requires.nodes_in.2 (search rules))) _ c.in-Sound.ensures (search rules)
 
 pub returns-then-z-token : goal.returns-then-z-token
 returns-then-z-token c =
-    let was_read_here : node.Sound c.in-Sound.z ≡ read_node c.args.nodes c.args.links (node_in sizes c.args.space.now) c.node_in-y.result.child = told c.in-Sound.is c.read_node.ensures in
-    let at_first_here : Here (trie_in sizes c.args.space.now c.args.nodes c.args.links) c.args.parent c.args.token c.node_in-y.result.child (found_in (ledger_in c.args.lasts.now c.args.slots.now) (trie_in sizes c.args.space.now c.args.nodes c.args.links) c.args.parent c.args.token) (search_in (ledger_in c.args.lasts.now c.args.slots.now) (trie_in sizes c.args.space.now c.args.nodes c.args.links) c.args.parent c.args.token) = kept-first (trie_in sizes c.args.space.now c.args.nodes c.args.links) c.args.lasts.now c.args.slots.now c.args.parent c.args.token c.node_in-y.result c.node_in-y.ensures (search rules) (c.requires.nodes_in.2 (search rules)) in
-    at-found (at_first_here) _ (was_read_here) (search rules) (search rules)
+    at-found (kept-first (trie_in sizes c.args.space.now c.args.nodes c.args.links) c.args.lasts.now c.args.slots.now c.args.parent c.args.token c.node_in-y.result c.node_in-y.ensures (search rules) (c.requires.nodes_in.2 (search rules))) _ c.in-Sound.ensures (search rules) (search rules)
 
 pub returns-then-z-eq0 : goal.returns-then-z-eq0
 returns-then-z-eq0 c =
-    let was_read_here : node.Sound c.in-Sound.z ≡ read_node c.args.nodes c.args.links (node_in sizes c.args.space.now) c.node_in-y.result.child = told c.in-Sound.is c.read_node.ensures in
-    let at_first_here : Here (trie_in sizes c.args.space.now c.args.nodes c.args.links) c.args.parent c.args.token c.node_in-y.result.child (found_in (ledger_in c.args.lasts.now c.args.slots.now) (trie_in sizes c.args.space.now c.args.nodes c.args.links) c.args.parent c.args.token) (search_in (ledger_in c.args.lasts.now c.args.slots.now) (trie_in sizes c.args.space.now c.args.nodes c.args.links) c.args.parent c.args.token) = kept-first (trie_in sizes c.args.space.now c.args.nodes c.args.links) c.args.lasts.now c.args.slots.now c.args.parent c.args.token c.node_in-y.result c.node_in-y.ensures (search rules) (c.requires.nodes_in.2 (search rules)) in
-    at_last (at_first_here) _ (was_read_here) (search rules) (search rules) (search rules)
+    at_last (kept-first (trie_in sizes c.args.space.now c.args.nodes c.args.links) c.args.lasts.now c.args.slots.now c.args.parent c.args.token c.node_in-y.result c.node_in-y.ensures (search rules) (c.requires.nodes_in.2 (search rules))) _ c.in-Sound.ensures (search rules) (search rules) (search rules)
 
 pub find-requires : goal.find-requires
 find-requires c =
@@ -56,9 +45,7 @@ find-requires c =
 
 pub returns : goal.returns
 returns c =
-    let was_read_here : node.Sound c.in-Sound.z ≡ read_node c.args.nodes c.args.links (node_in sizes c.args.space.now) c.node_in-y.result.child = told c.in-Sound.is c.read_node.ensures in
-    let at_first_here : Here (trie_in sizes c.args.space.now c.args.nodes c.args.links) c.args.parent c.args.token c.node_in-y.result.child (found_in (ledger_in c.args.lasts.now c.args.slots.now) (trie_in sizes c.args.space.now c.args.nodes c.args.links) c.args.parent c.args.token) (search_in (ledger_in c.args.lasts.now c.args.slots.now) (trie_in sizes c.args.space.now c.args.nodes c.args.links) c.args.parent c.args.token) = kept-first (trie_in sizes c.args.space.now c.args.nodes c.args.links) c.args.lasts.now c.args.slots.now c.args.parent c.args.token c.node_in-y.result c.node_in-y.ensures (search rules) (c.requires.nodes_in.2 (search rules)) in
     let first_inside_here : c.node_in-y.result.child < c.args.nodes = let f = first-within (trie_in sizes c.args.space.now c.args.nodes c.args.links) c.args.parent c.requires.nodes_in.1 c.requires.parent_value in
     let e = ap (λ (y : Node). y.child) c.node_in-y.ensures in
     omega arith in
-    c.find.ensures ∙ sym (at_next (at_first_here) _ (was_read_here) (search rules) (search rules) (search rules) (first_inside_here)).3
+    c.find.ensures ∙ sym (at_next (kept-first (trie_in sizes c.args.space.now c.args.nodes c.args.links) c.args.lasts.now c.args.slots.now c.args.parent c.args.token c.node_in-y.result c.node_in-y.ensures (search rules) (c.requires.nodes_in.2 (search rules))) _ c.in-Sound.ensures (search rules) (search rules) (search rules) (first_inside_here)).3

@@ -1,9 +1,5 @@
-use Prim.Native.Nat.{◌-◌, ◌≤◌}
 use Rattle.pairing.proofs.NeedLaws.{Comparing}
 use Rattle.pairing.proofs.counting.earlier.Given as goal
 
 abbrev pub invariant-loop-i : goal.invariant-loop-i
-invariant-loop-i l = Comparing l.space l.x l.pairs l.copies l.own l.at l.hands l.form l.i l.e × (l.i ≤ l.count)
-
-abbrev pub decreases-loop-i : goal.decreases-loop-i
-decreases-loop-i l = l.count - l.i
+invariant-loop-i l = Comparing l.space l.x l.asked.pairs.now l.asked.copies.now l.own l.walk.at l.walk.first l.walk.form l.i l.e

@@ -16,17 +16,11 @@ shape_of-cells-then-y-n c = c.loop-at.invariant.size
 pub returns-then-y-n : goal.returns-then-y-n
 returns-then-y-n c = gathered-root c.args.space.now c.args.end c.args.cells.now _ _ _ c.loop-at.invariant _ c.node_in-y.ensures (search rules)
 
-pub overflow_sub-at : goal.overflow_sub-at
-overflow_sub-at c = omega arith
-
 pub offset_bounds-cells-at : goal.offset_bounds-cells-at
 offset_bounds-cells-at c = omega (arith, c.loop-at.invariant.within)
 
 pub bounds-cells-at : goal.bounds-cells-at
 bounds-cells-at c = omega (arith, c.loop-at.invariant.within)
-
-pub loop-at-smaller : goal.loop-at-smaller
-loop-at-smaller c = omega arith
 
 pub loop-at-preserved : goal.loop-at-preserved
 loop-at-preserved c = gathering-on c.args.space.now c.args.end c.args.cells.now _ _ _ c.loop-at.invariant _ c.node_in-y.ensures (search rules) (search rules)

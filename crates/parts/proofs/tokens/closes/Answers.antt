@@ -7,6 +7,6 @@ pub returns-then-c-eq-ELIST : goal.returns-then-c-eq-ELIST
 unfolding closing
 returns-then-c-eq-ELIST c = simp (eq-eqb _ _ c.if-c-eq-ELIST.true)
 
-pub returns : goal.returns
+pub returns-else-c-eq-ELIST : goal.returns-else-c-eq-ELIST
 unfolding closing
-returns c = simp (ne_eqb _ _ c.if-c-eq-ELIST.false)
+returns-else-c-eq-ELIST c = simp (ne_eqb _ _ c.if-c-eq-ELIST.false)

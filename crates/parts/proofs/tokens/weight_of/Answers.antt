@@ -1,4 +1,5 @@
 -- `weight_of` meets its contract, by the shape of the token.
+use mathlib.Core.Logic.{⊎_elim}
 use mathlib.Core.Path.{refl, sym, ◌∙◌}
 use native.Mathlib.Omega.{arith}
 use borrow.Author.Tests.{eq-eqb}
@@ -11,11 +12,11 @@ unfolding weight
 returns-then-c-eq-ELIST c = (simp (eq-eqb _ _ c.if-c-eq-ELIST.true), omega arith)
 
 pub returns-in-Symbol : goal.returns-in-Symbol
-returns-in-Symbol c = (sym (symbol-weight _ _ _ (sym c.shape_of.ensures ∙ c.in-Symbol.is)), omega arith)
-
-pub returns-in-Pair : goal.returns-in-Pair
 unfolding solid
-returns-in-Pair c = (sym (solid-weight _ _ _ (sym c.shape_of.ensures ∙ c.in-Pair.is) refl), omega arith)
+returns-in-Symbol c = ⊎_elim
+    (λ (k, e). (sym (symbol-weight _ _ k (sym c.shape_of.ensures ∙ e)), omega arith))
+    (λ e. (sym (solid-weight _ _ _ (sym c.shape_of.ensures ∙ e) refl), omega arith))
+    c.in-Symbol.is
 
 pub returns-in-Illegal : goal.returns-in-Illegal
 unfolding solid

@@ -1,44 +1,20 @@
 -- `sides::names::pairs_named` meets its contract.
 use Rattle.sides.proofs.NameCases.{pairs-ended, pairs_first, pairs-second, pairs_next}
-use mathlib.Core.Path.{refl}
+use mathlib.Core.Path.{◌∙◌}
 use native.Mathlib.Omega.{arith}
+use Rattle.sides.proofs.names.pairs_named.Goals.{then-m-wide-via-then-m-wide, then-m-wide-via-else-m-wide+then-n-wide}
 use Rattle.sides.proofs.names.pairs_named.Goals as goal
 
-pub loop-i-init : goal.loop-i-init
-loop-i-init c = (omega arith, refl)
-
-pub overflow_add-i : goal.overflow_add-i
-overflow_add-i c = omega arith
-
-pub offset_bounds-pairs-i : goal.offset_bounds-pairs-i
-offset_bounds-pairs-i c = omega arith
-
-pub bounds-pairs-i : goal.bounds-pairs-i
-bounds-pairs-i c = omega arith
-
 pub returns-then-m-wide : goal.returns-then-m-wide
-returns-then-m-wide c = pairs_first _ _ c.args.pairs.now c.loop-i.i c.loop-i.invariant.1 (omega arith) (omega arith)
+returns-then-m-wide c = elim c.then-m-wide.branch [
+  | then-m-wide-via-then-m-wide w ↦ pairs_first _ _ c.loop-rest.rest.now (omega arith) (omega arith) ∙ c.loop-rest.invariant
+  | then-m-wide-via-else-m-wide+then-n-wide w ↦
+      pairs-second _ _ c.loop-rest.rest.now (omega arith) (omega arith) (omega arith) ∙ c.loop-rest.invariant
+]
 
-pub overflow_add-i-in-loop-i : goal.overflow_add-i-in-loop-i
-overflow_add-i-in-loop-i c = omega arith
-
-pub offset_bounds-pairs-i-in-loop-i : goal.offset_bounds-pairs-i-in-loop-i
-offset_bounds-pairs-i-in-loop-i c = omega arith
-
-pub bounds-pairs-i-in-loop-i : goal.bounds-pairs-i-in-loop-i
-bounds-pairs-i-in-loop-i c = omega arith
-
-pub returns-then-n-wide : goal.returns-then-n-wide
-returns-then-n-wide c = pairs-second _ _ c.args.pairs.now c.loop-i.i c.loop-i.invariant.1 (omega arith) (omega arith) (omega arith)
-
-pub overflow_add-i-in-loop-i-2 : goal.overflow_add-i-in-loop-i-2
-overflow_add-i-in-loop-i-2 c = omega arith
-
-pub loop-i-smaller : goal.loop-i-smaller
-loop-i-smaller c = omega arith
-
-pub loop-i-preserved : goal.loop-i-preserved
-loop-i-preserved c = (omega arith, pairs_next _ _ c.args.pairs.now c.loop-i.i c.loop-i.invariant.1 (omega arith) (omega arith) (omega arith))
+pub loop-rest-preserved : goal.loop-rest-preserved
+loop-rest-preserved c =
+    pairs_next _ _ c.loop-rest.rest.now (omega arith) (omega arith) (omega arith) ∙ c.loop-rest.invariant
 
 pub returns : goal.returns
-returns c = pairs-ended _ _ c.args.pairs.now c.loop-i.i c.loop-i.invariant.1 (omega arith) (omega arith)
+returns c = c.is_empty.ensures ∙ pairs-ended _ _ c.loop-rest.rest.now c.in_default.len_below ∙ c.loop-rest.invariant

@@ -1,11 +1,10 @@
 use Rattle.plain.specs.Joins.{pairs_named}
-use lib.ListN.{length, drop}
+use lib.ListN.{length}
 use mathlib.Core.Path.{◌≡◌}
-use Prim.Native.Nat.{◌≤◌, ◌-◌}
 use Rattle.sides.proofs.names.pairs_named.Given as goal
 
-abbrev pub invariant-loop-i : goal.invariant-loop-i
-invariant-loop-i l = (l.i ≤ length l.pairs) × (pairs_named l.m l.n (drop l.i l.pairs) ≡ pairs_named l.m l.n l.pairs)
+abbrev pub invariant-loop-rest : goal.invariant-loop-rest
+invariant-loop-rest l = pairs_named l.m l.n l.rest ≡ pairs_named l.m l.n l.pairs
 
-abbrev pub decreases-loop-i : goal.decreases-loop-i
-decreases-loop-i l = length l.pairs - l.i
+abbrev pub decreases-loop-rest : goal.decreases-loop-rest
+decreases-loop-rest l = length l.rest

@@ -3,11 +3,11 @@ use Rattle.sides.proofs.NameCases.{side-first, side-second, side-none}
 use borrow.Author.Rules.{rules}
 use Rattle.sides.proofs.names.variables_of.Goals as goal
 
-pub returns-then-side-eq0 : goal.returns-then-side-eq0
-returns-then-side-eq0 c = side-first _ _ _ (search rules)
+pub returns-in-0 : goal.returns-in-0
+returns-in-0 c = side-first _ _ _ (search rules)
 
-pub returns-then-side-eq1 : goal.returns-then-side-eq1
-returns-then-side-eq1 c = side-second _ _ _ (search rules)
+pub returns-in-1 : goal.returns-in-1
+returns-in-1 c = side-second _ _ _ (search rules)
 
-pub returns : goal.returns
-returns c = side-none _ _ _ (search rules) (search rules)
+pub returns-in_default : goal.returns-in_default
+returns-in_default c = side-none _ _ _ (search rules) (search rules)

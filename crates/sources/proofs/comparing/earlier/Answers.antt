@@ -7,22 +7,15 @@ use Rattle.sources.proofs.comparing.earlier.Goals as goal
 pub loop-j-init : goal.loop-j-init
 loop-j-init c =
     let p = c.args in
-    (omega arith, earlier-begin p.source.now p.x p.owner p.form.now, refl)
+    (earlier-begin p.source.now p.x p.owner p.form.now, refl)
 
 pub meet_record-e-requires : goal.meet_record-e-requires
-meet_record-e-requires c = ((c.requires.0, omega arith), c.loop-j.invariant.2)
-
-pub overflow_add-j : goal.overflow_add-j
-overflow_add-j c = omega arith
-
-pub loop-j-smaller : goal.loop-j-smaller
-loop-j-smaller c = omega arith
+meet_record-e-requires c = ((c.requires.0, omega arith), c.loop-j.invariant.1)
 
 pub loop-j-preserved : goal.loop-j-preserved
 loop-j-preserved c =
     let p = c.args in (
-      omega arith,
-      earlier_on p.source.now p.x p.owner p.form.now c.loop-j.j _ _ c.loop-j.invariant.1
+      earlier_on p.source.now p.x p.owner p.form.now c.loop-j.j _ _ c.loop-j.invariant.0
           c.meet_record-e.ensures.0,
       c.meet_record-e.ensures.1,
     )
@@ -30,4 +23,4 @@ loop-j-preserved c =
 pub returns : goal.returns
 returns c =
     let p = c.args in
-    earlier-ended p.source.now p.x p.owner p.form.now p.i c.loop-j.j _ c.loop-j.invariant.0 (omega arith) c.loop-j.invariant.1
+    earlier-ended p.source.now p.x p.owner p.form.now p.i c.loop-j.j _ (omega arith) (omega arith) c.loop-j.invariant.0

@@ -12,8 +12,8 @@ returns-then-other-owner c =
       c.requires.1,
     )
 
-pub offset_bounds-cells-k : goal.offset_bounds-cells-k
-offset_bounds-cells-k c =
+pub offset_bounds-path-k : goal.offset_bounds-path-k
+offset_bounds-path-k c =
     let g = gathered _ _ c.find_record-other.ensures.path _ _ c.gather-k.ensures in
     omega (arith, g.within)
 
@@ -27,4 +27,4 @@ returns c =
     let p = c.args in
     let g = gathered _ _ c.find_record-other.ensures.path _ _ c.gather-k.ensures in
     let o = c.find_record-other.ensures.owner in
-    (meets-same p.source.now p.x p.j p.owner p.form.now p.e _ o c.if-other-owner.false _ g.part _ c.meet.ensures, g.long)
+    (meets-same p.source.now p.x p.j p.owner p.form.now p.e _ o c.if-other-owner.false _ g.is _ c.meet.ensures, g.long)

@@ -1,4 +1,3 @@
-use Prim.Native.Nat.{◌≤◌, ◌-◌}
 use mathlib.Core.Path.{◌≡◌}
 use mathlib.Core.Bool.{true}
 use Rattle.agreement.specs.Whole.{every_below}
@@ -6,7 +5,4 @@ use Rattle.sources.specs.Records.{loads_at}
 use Rattle.sources.proofs.loading.all_load.Given as goal
 
 abbrev pub invariant-loop-i : goal.invariant-loop-i
-invariant-loop-i l = (l.i ≤ l.n) × (every_below (loads_at l.source l.x) l.i ≡ true)
-
-abbrev pub decreases-loop-i : goal.decreases-loop-i
-decreases-loop-i l = l.n - l.i
+invariant-loop-i l = (every_below (loads_at l.source l.x) l.i ≡ true)

@@ -1,4 +1,3 @@
-use Prim.Native.Nat.{◌≤◌, ◌-◌}
 use mathlib.Core.Path.{◌≡◌}
 use mathlib.Core.Bool.{true}
 use Rattle.agreement.specs.Whole.{every_below}
@@ -7,7 +6,4 @@ use Rattle.sources.specs.Records.{named_at}
 use Rattle.sources.proofs.names.all_named.Given as goal
 
 abbrev pub invariant-loop-i : goal.invariant-loop-i
-invariant-loop-i l = (l.i ≤ l.n) × (every_below (named_at l.source l.x) l.i ≡ true) × (length l.path ≡ 384)
-
-abbrev pub decreases-loop-i : goal.decreases-loop-i
-decreases-loop-i l = l.n - l.i
+invariant-loop-i l = (every_below (named_at l.source l.x) l.i ≡ true) × (length l.path ≡ 384)

@@ -5,8 +5,8 @@ use Rattle.sources.proofs.PlaceCases.{gathered}
 use Rattle.sources.proofs.NameCases.{named-is}
 use Rattle.sources.proofs.names.record_named.Goals as goal
 
-pub offset_bounds-cells-k : goal.offset_bounds-cells-k
-offset_bounds-cells-k c =
+pub offset_bounds-path-k : goal.offset_bounds-path-k
+offset_bounds-path-k c =
     let g = gathered _ _ c.find_record-own.ensures.path _ _ c.gather-k.ensures in
     omega (arith, g.within)
 
@@ -19,4 +19,4 @@ pub returns : goal.returns
 returns c =
     let p = c.args in
     let g = gathered _ _ c.find_record-own.ensures.path _ _ c.gather-k.ensures in
-    (c.form_named.ensures ∙ named-is p.source.now p.x p.i _ g.part, g.long)
+    (c.form_named.ensures ∙ named-is p.source.now p.x p.i _ g.is, g.long)

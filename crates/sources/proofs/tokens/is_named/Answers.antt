@@ -3,10 +3,10 @@ use borrow.Author.Tests.{eq-eqb, ne_eqb}
 use Rattle.carrying.specs.Recoding.{name_fits}
 use Rattle.sources.proofs.tokens.is_named.Goals as goal
 
-pub returns-then-x-eq4 : goal.returns-then-x-eq4
+pub returns-then-x-ne4 : goal.returns-then-x-ne4
 unfolding name_fits
-returns-then-x-eq4 c = simp (eq-eqb _ _ c.if-x-eq4.true)
+returns-then-x-ne4 c = simp (ne_eqb _ _ c.if-x-ne4.true)
 
-pub returns : goal.returns
+pub returns-else-x-ne4 : goal.returns-else-x-ne4
 unfolding name_fits
-returns c = simp (ne_eqb _ _ c.if-x-eq4.false)
+returns-else-x-ne4 c = simp (eq-eqb _ _ c.if-x-ne4.false)

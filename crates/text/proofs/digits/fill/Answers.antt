@@ -1,7 +1,6 @@
 -- `fill` meets its contract: what is left of the number has its digits before those made so far.
 use Prim.Native.Nat.{◌-◌, suc}
 use mathlib.Core.Path.{◌≡◌, sym, ◌∙◌}
-use native.Mathlib.Nat.{mod-lt}
 use native.Mathlib.Omega.{arith}
 use lib.ListN.{drop, length-set}
 use Rattle.text.proofs.DigitsLaws.{place-left, fill_start, fill-next, digits-end, quotient-below}
@@ -10,23 +9,8 @@ use Rattle.text.proofs.digits.fill.Goals as goal
 pub loop-i-init : goal.loop-i-init
 loop-i-init c = (omega arith, omega arith, omega arith, fill_start c.args.base c.args.width c.args.n c.args.buffer.now (omega arith))
 
-pub overflow_sub-i : goal.overflow_sub-i
-overflow_sub-i c = omega arith
-
 pub overflow_sub-i-in-loop-i : goal.overflow_sub-i-in-loop-i
 overflow_sub-i-in-loop-i c = place-left c.loop-i.left c.args.width c.loop-i.i c.loop-i.invariant.2 (omega arith) (sym c.all_made.ensures ∙ c.loop-i-test.true)
-
-pub nonzero_rem-left : goal.nonzero_rem-left
-nonzero_rem-left c = omega arith
-
-pub digit_text-requires : goal.digit_text-requires
-digit_text-requires c = omega (arith, mod-lt c.loop-i.left {m = c.args.base} (omega arith))
-
-pub bounds-buffer-i : goal.bounds-buffer-i
-bounds-buffer-i c = omega arith
-
-pub nonzero_div-left : goal.nonzero_div-left
-nonzero_div-left c = omega arith
 
 pub loop-i-smaller : goal.loop-i-smaller
 loop-i-smaller c = omega (arith, place-left c.loop-i.left c.args.width c.loop-i.i c.loop-i.invariant.2 (omega arith) (sym c.all_made.ensures ∙ c.loop-i-test.true))
@@ -42,9 +26,6 @@ loop-i-preserved c =
       quotient-below a.base 10 L.left (L.i - 1) (omega arith) (omega arith) (rw e at L.invariant.2),
       fill-next a.base a.width a.n L.left L.i (L.i - 1) c.digit_text.result L.buffer e (omega arith) L.invariant.1 f c.digit_text.ensures L.invariant.3,
     )
-
-pub shape_of-buffer : goal.shape_of-buffer
-shape_of-buffer c = omega arith
 
 pub returns : goal.returns
 returns c =

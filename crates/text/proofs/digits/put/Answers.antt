@@ -1,36 +1,18 @@
 -- `put` meets its contract: the bytes passed are put.
-use mathlib.Core.Path.{refl}
+use Prim.Native.Nat.{ℕ, ◌+◌, ◌≤◌}
+use mathlib.Core.List.{List, append_assoc}
+use mathlib.Core.Path.{◌≡◌, refl}
 use native.Mathlib.Omega.{arith}
-use lib.ListN.{length-set}
-use Rattle.text.proofs.DigitsLaws.{puts-next, puts-all}
+use lib.ListN.{length}
+use lib.Seq.{sets, drop-drop}
+use borrow.Rule.Slice.PartMut.{put_mid}
+use Rattle.std.proofs.lemmas.List.Edits.{sets-eq}
 use Rattle.text.proofs.digits.put.Goals as goal
 
-pub loop-i-init : goal.loop-i-init
-loop-i-init c = (omega arith, refl, refl)
-
-pub bounds-bytes-i : goal.bounds-bytes-i
-bounds-bytes-i c = omega arith
-
-pub overflow_add-text : goal.overflow_add-text
-overflow_add-text c = omega arith
-
-pub bounds-text-at : goal.bounds-text-at
-bounds-text-at c = omega arith
-
-pub overflow_add-i : goal.overflow_add-i
-overflow_add-i c = omega arith
-
-pub loop-i-smaller : goal.loop-i-smaller
-loop-i-smaller c = omega arith
-
-pub loop-i-preserved : goal.loop-i-preserved
-loop-i-preserved c = (omega arith, puts-next _ _ _ _ _ (omega arith) c.loop-i.invariant.1, simp length-set c.loop-i.invariant.2)
-
-pub overflow_add-result : goal.overflow_add-result
-overflow_add-result c = omega arith
-
-pub shape_of-text : goal.shape_of-text
-shape_of-text c = omega arith
+overwritten : (t bytes ys : List ℕ) (at k : ℕ) → ys ≡ bytes → k ≡ length bytes → at + length bytes ≤ length t → put_mid at k t ys ≡ sets t at bytes
+overwritten t bytes ys at k e q h = rw (e, q, sets-eq bytes t at h, drop-drop (length bytes) at t, append_assoc)
 
 pub returns : goal.returns
-returns c = puts-all _ _ _ _ _ (omega arith) (omega arith) c.loop-i.invariant.1
+returns c =
+    let a = c.args in
+    (refl, overwritten a.text.now a.bytes.now _ a.at _ c.copy_from_slice.ensures.after (omega arith) (omega arith), omega arith)

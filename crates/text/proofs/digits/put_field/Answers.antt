@@ -8,11 +8,6 @@ use Rattle.text.proofs.digits.put_field.Goals as goal
 pub put-requires : goal.put-requires
 put-requires c = simp length-set (omega (arith, part_length c.fill-first.new.buffer c.fill-first.result))
 
-pub shape_of-text : goal.shape_of-text
-shape_of-text c =
-    let a = c.args in
-    omega (arith, length-set a.text.now a.at 32)
-
 pub returns : goal.returns
 returns c =
     let a = c.args in

@@ -13,29 +13,14 @@ loop-i-init c = (c.requires.0, omega arith, refl, prepend-none _)
 pub read_numeral-requires : goal.read_numeral-requires
 read_numeral-requires c = (c.loop-i.invariant.0, omega arith, omega arith)
 
-pub shape_of-cells-in_default : goal.shape_of-cells-in_default
-shape_of-cells-in_default c = c.loop-i.invariant.2
-
 pub returns-in_default : goal.returns-in_default
 returns-in_default c = let l = c.args.line.now in let i = c.loop-i.i in let k = c.loop-i.n in let u = c.loop-i.cells in let v = c.loop-i.invariant in cells-refused l u i k (hex_cells (rest_at l c.args.at)) v.3 c.loop-i-test.true v.0 (rw c.in_default.is at c.read_numeral.ensures)
-
-pub offset_bounds-cells-n : goal.offset_bounds-cells-n
-offset_bounds-cells-n c = omega arith
-
-pub bounds-cells-n : goal.bounds-cells-n
-bounds-cells-n c = omega (arith, c.loop-i.invariant.1, c.loop-i.invariant.2, c.requires.1)
-
-pub overflow_add-n : goal.overflow_add-n
-overflow_add-n c = omega arith
 
 pub loop-i-smaller : goal.loop-i-smaller
 loop-i-smaller c = let f = rw c.in-Value.is at c.read_numeral.ensures in omega (arith, f.3)
 
 pub loop-i-preserved : goal.loop-i-preserved
 loop-i-preserved c = let l = c.args.line.now in let i = c.loop-i.i in let k = c.loop-i.n in let u = c.loop-i.cells in let v = c.loop-i.invariant in let f = rw c.in-Value.is at c.read_numeral.ensures in (f.1, omega (arith, f.3, v.1), simp length-set v.2, cells-step l u i k (hex_cells (rest_at l c.args.at)) v.3 c.in-Value.c c.in-Value.e f.0 f.2 (omega (arith, v.1, v.2, c.requires.1)))
-
-pub shape_of-cells : goal.shape_of-cells
-shape_of-cells c = c.loop-i.invariant.2
 
 pub returns : goal.returns
 returns c = let l = c.args.line.now in let i = c.loop-i.i in let k = c.loop-i.n in let u = c.loop-i.cells in let v = c.loop-i.invariant in (cells_over l u i k (hex_cells (rest_at l c.args.at)) v.3 (omega arith) v.0, omega (arith, v.1, v.2, c.requires.1, v.0.0))

@@ -1,52 +1,63 @@
 -- `read_numeral` meets its contract.
-use Prim.Native.Nat.{◌+◌, ◌-◌}
-use mathlib.Core.Path.{sym, ◌∙◌}
+use Prim.Native.Nat.{ℕ, ◌+◌}
+use mathlib.Core.List.{List}
+use mathlib.Core.Path.{◌≡◌, sym, ◌∙◌}
 use native.Mathlib.Omega.{arith}
-use Rattle.basis.proofs.Tests.{told}
-use Rattle.text.proofs.FieldsLaws.{field-more, field-over, hex-room-seven, product-most, first-none, first-numeral, first-behind, reading-starts, reading-digit, reading-bad, reading-long, reading-short, reading-done}
+use lib.Seq.{length-take-le}
+use lib.ListN.{length, take}
+use Rattle.std.proofs.lemmas.List.{take_rest}
+use Rattle.text.specs.Places.{EndsFirst}
+use Rattle.text.proofs.FieldsLaws.{hex-room-seven, product-most, first-none, first-numeral, first-behind, next-ends, numeral-bad, numeral-long, numeral-short, numeral-right, digit-next, digit-bad, digits_over, digit-small}
+use Rattle.text.proofs.fields.read_numeral.Goals.{then-n-least-via-then-n-least, then-n-least-via-else-n-least+then-most-n}
 use Rattle.text.proofs.fields.read_numeral.Goals as goal
+
+digits-length : (rest : List ℕ) (n : ℕ) → EndsFirst rest n → length (take n rest) ≡ n
+digits-length rest n d = length-take-le n rest d.0.0
 
 pub returns-then-line-at : goal.returns-then-line-at
 returns-then-line-at c = first-none c.args.line.now c.args.at c.requires.0 _ _ _ c.if-line-at.true
 
-pub overflow_add-start : goal.overflow_add-start
-overflow_add-start c = omega arith
-
-pub loop-d-init : goal.loop-d-init
-loop-d-init c = (omega arith, reading-starts _ _ _ _ (omega arith))
-
-pub bounds-line-i : goal.bounds-line-i
-bounds-line-i c = omega (arith, (field-more c.args.line.now c.loop-d.i (told c.in_field.ensures c.loop-d-test.true)).0)
+pub returns-then-n-least : goal.returns-then-n-least
+returns-then-n-least c =
+    let l = c.args.line.now in
+    let k = digits-length _ _ c.first_end-n.ensures in
+    first-numeral l _ c.requires.0 c.if-line-at.false _ (take_rest l (c.args.at + 1)) _ c.first_end-n.ensures _ _ _
+    (elim c.then-n-least.branch [
+      | then-n-least-via-then-n-least w ↦ numeral-short _ _ _ _ (omega (arith, k, w.if-n-least.true))
+      | then-n-least-via-else-n-least+then-most-n w ↦ numeral-long _ _ _ _ (omega (arith, k, w.if-most-n.true))
+    ])
 
 pub returns-then-base-d : goal.returns-then-base-d
-returns-then-base-d c = first-numeral c.args.line.now c.args.at c.requires.0 (omega arith) c.args.base c.args.least c.args.most (reading-bad c.args.line.now _ c.args.base c.args.most c.loop-d.value c.loop-d.i c.loop-d.invariant.1 (told c.in_field.ensures c.loop-d-test.true) c.args.least (omega (arith, c.digit_of-d.ensures, c.if-base-d.true)))
-
-pub overflow_sub-i : goal.overflow_sub-i
-overflow_sub-i c = omega (arith, c.loop-d.invariant.1.begun)
-
-pub returns-then-most-i : goal.returns-then-most-i
-returns-then-most-i c = first-numeral c.args.line.now c.args.at c.requires.0 (omega arith) c.args.base c.args.least c.args.most (reading-long c.args.line.now _ c.args.base c.args.most c.loop-d.value c.loop-d.i c.loop-d.invariant.1 (told c.in_field.ensures c.loop-d-test.true) c.args.least c.if-most-i.true)
+returns-then-base-d c =
+    let l = c.args.line.now in
+    first-numeral l _ c.requires.0 c.if-line-at.false _ (take_rest l (c.args.at + 1)) _ c.first_end-n.ensures _ _ _
+    (numeral-bad _ _ _ _ (c.loop-b.invariant.valued ∙ digit-bad _ _ _ c.loop-b.b-index (omega arith) (omega (arith, c.digit_of-d.ensures, c.if-base-d.true))))
 
 pub overflow_mul-value : goal.overflow_mul-value
-overflow_mul-value c = omega (arith, product-most c.args.base c.loop-d.value c.requires.1, c.loop-d.invariant.1.small, hex-room-seven (c.loop-d.i - (c.args.at + 1)) (omega arith))
+overflow_mul-value c =
+    let k = digits-length _ _ c.first_end-n.ensures in
+    omega (arith, product-most c.args.base c.loop-b.value c.requires.1, c.loop-b.invariant.small, hex-room-seven c.loop-b.b-index (omega (arith, k)))
 
 pub overflow_add-value : goal.overflow_add-value
-overflow_add-value c = omega (arith, product-most c.args.base c.loop-d.value c.requires.1, c.loop-d.invariant.1.small, hex-room-seven (c.loop-d.i - (c.args.at + 1)) (omega arith))
+overflow_add-value c =
+    let k = digits-length _ _ c.first_end-n.ensures in
+    omega (arith, product-most c.args.base c.loop-b.value c.requires.1, c.loop-b.invariant.small, hex-room-seven c.loop-b.b-index (omega (arith, k)))
 
-pub overflow_add-i : goal.overflow_add-i
-overflow_add-i c = omega (arith, (field-more c.args.line.now c.loop-d.i (told c.in_field.ensures c.loop-d-test.true)).0)
-
-pub loop-d-smaller : goal.loop-d-smaller
-loop-d-smaller c = omega (arith, (field-more c.args.line.now c.loop-d.i (told c.in_field.ensures c.loop-d-test.true)).0)
-
-pub loop-d-preserved : goal.loop-d-preserved
-loop-d-preserved c = (c.loop-d.invariant.0, reading-digit c.args.line.now _ c.args.base c.args.most c.loop-d.value c.loop-d.i c.loop-d.invariant.1 (told c.in_field.ensures c.loop-d-test.true) _ c.digit_of-d.ensures c.requires.1 c.if-base-d.false c.if-most-i.false)
-
-pub overflow_sub-i-2 : goal.overflow_sub-i-2
-overflow_sub-i-2 c = omega (arith, c.loop-d.invariant.1.begun)
-
-pub returns-then-i-start : goal.returns-then-i-start
-returns-then-i-start c = first-numeral c.args.line.now c.args.at c.requires.0 (omega arith) c.args.base c.args.least c.args.most (reading-short c.args.line.now _ c.args.base c.args.most c.loop-d.value c.loop-d.i c.loop-d.invariant.1 (told c.in_field.ensures c.loop-d-test.false) c.args.least c.if-i-start.true)
+pub loop-b-preserved : goal.loop-b-preserved
+loop-b-preserved c = record {
+  small = digit-small _ _ _ _ c.requires.1 c.if-base-d.false c.loop-b.invariant.small;
+  valued = c.loop-b.invariant.valued ∙ digit-next _ _ _ c.loop-b.b-index (omega arith) _ c.digit_of-d.ensures c.if-base-d.false;
+}
 
 pub returns : goal.returns
-returns c = (first-numeral c.args.line.now c.args.at c.requires.0 (omega arith) c.args.base c.args.least c.args.most (reading-done c.args.line.now _ c.args.base c.args.most c.loop-d.value c.loop-d.i c.loop-d.invariant.1 (told c.in_field.ensures c.loop-d-test.false) c.args.least c.if-i-start.false), (c.loop-d.invariant.1.inside, field-over c.args.line.now c.loop-d.i (told c.in_field.ensures c.loop-d-test.false) c.loop-d.invariant.1.inside), c.loop-d.invariant.1.rest ∙ sym (first-behind c.args.line.now c.args.at c.requires.0 (omega arith)), omega (arith, c.loop-d.invariant.1.begun))
+returns c =
+    let e = c.requires.0 in
+    let l = c.args.line.now in
+    let k = digits-length _ _ c.first_end-n.ensures in
+    let r = take_rest l (c.args.at + 1) in (
+      first-numeral l _ e c.if-line-at.false _ r _ c.first_end-n.ensures _ _ _
+          (numeral-right _ _ _ _ _ (omega (arith, k)) (omega (arith, k)) (c.loop-b.invariant.valued ∙ digits_over _ _ _ c.loop-b.b-index (omega arith))),
+      next-ends l _ e c.if-line-at.false _ r _ c.first_end-n.ensures,
+      sym (first-behind l _ e c.if-line-at.false _ r _ c.first_end-n.ensures),
+      omega arith,
+    )

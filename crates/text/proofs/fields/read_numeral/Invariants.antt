@@ -1,11 +1,11 @@
-use Prim.Native.Nat.{◌+◌, ◌-◌}
+use Prim.Native.Nat.{◌<◌, ◌^◌}
 use mathlib.Core.Path.{◌≡◌}
-use lib.ListN.{length}
-use Rattle.text.proofs.FieldsLaws.{Reading}
+use lib.ListN.{drop}
+use Rattle.text.specs.Fields.{value_from}
 use Rattle.text.proofs.fields.read_numeral.Given as goal
 
-abbrev pub invariant-loop-d : goal.invariant-loop-d
-invariant-loop-d l = (l.start ≡ l.at + 1) × Reading l.line l.start l.base l.most l.value l.i
-
-abbrev pub decreases-loop-d : goal.decreases-loop-d
-decreases-loop-d l = length l.line - l.i
+abbrev pub invariant-loop-b : goal.invariant-loop-b
+invariant-loop-b l = record {
+  small : l.value < 16 ^ l.b-index;
+  valued : value_from l.base 0 l.digits ≡ value_from l.base l.value (drop l.b-index l.digits);
+}

@@ -1,44 +1,20 @@
 -- `take_line` meets its contract: at each turn, what is left to take comes to what the whole does.
-use mathlib.Core.Path.{refl, ◌∙◌}
+use mathlib.Core.Path.{◌∙◌}
 use native.Mathlib.Omega.{arith}
 use borrow.Author.Rules.{rules}
 use Rattle.text.proofs.CuttingLaws.{in-range, step-over, step_end, step-turn}
 use Rattle.text.proofs.lines.take_line.Goals as goal
-
-pub loop-i-init : goal.loop-i-init
-loop-i-init c = (refl, refl)
-
-pub bounds-chunk-i : goal.bounds-chunk-i
-bounds-chunk-i c = omega arith
-
-pub overflow_add-result : goal.overflow_add-result
-overflow_add-result c = omega arith
-
-pub shape_of-line-then-chunk-i-eq10 : goal.shape_of-line-then-chunk-i-eq10
-shape_of-line-then-chunk-i-eq10 c = omega arith
 
 pub returns-then-chunk-i-eq10 : goal.returns-then-chunk-i-eq10
 returns-then-chunk-i-eq10 c =
     let e = step_end c.args.chunk.now c.loop-i.line c.loop-i.i c.loop-i.n (omega arith) (search rules) ∙ c.loop-i.invariant.1 in
     record { line_value = e; in_range = in-range _ _ _ _ _ e }
 
-pub bounds-chunk-i-in-loop-i : goal.bounds-chunk-i-in-loop-i
-bounds-chunk-i-in-loop-i c = omega arith
-
-pub overflow_add-i : goal.overflow_add-i
-overflow_add-i c = omega arith
-
-pub loop-i-smaller : goal.loop-i-smaller
-loop-i-smaller c = omega arith
-
 pub loop-i-preserved : goal.loop-i-preserved
 loop-i-preserved c = (
   omega arith,
   step-turn c.args.chunk.now c.loop-i.line c.loop-i.i c.loop-i.n (omega arith) _ _ _ (search rules) c.keep-n.ensures c.loop-i.invariant.1,
 )
-
-pub shape_of-line : goal.shape_of-line
-shape_of-line c = omega arith
 
 pub returns : goal.returns
 returns c =

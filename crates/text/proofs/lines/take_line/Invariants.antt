@@ -1,4 +1,3 @@
-use Prim.Native.Nat.{◌-◌}
 use mathlib.Core.Path.{◌≡◌}
 use lib.ListN.{length, drop}
 use Rattle.text.specs.Cutting.{taking}
@@ -7,6 +6,3 @@ use Rattle.text.proofs.lines.take_line.Given as goal
 abbrev pub invariant-loop-i : goal.invariant-loop-i
 invariant-loop-i l =
     (length l.line ≡ length l.initial.line) × (taking (drop l.i l.chunk) l.i l.line l.n ≡ taking (drop l.at l.chunk) l.at l.initial.line l.kept)
-
-abbrev pub decreases-loop-i : goal.decreases-loop-i
-decreases-loop-i l = length l.chunk - l.i

@@ -9,18 +9,6 @@ loop-i-init c = growth-begin _ _ _ _ _ (search rules) (search rules)
 pub overflow_add-n : goal.overflow_add-n
 overflow_add-n c = omega arith
 
-pub offset_bounds-tokens-i : goal.offset_bounds-tokens-i
-offset_bounds-tokens-i c = omega arith
-
-pub bounds-tokens-i : goal.bounds-tokens-i
-bounds-tokens-i c = omega arith
-
-pub overflow_add-i : goal.overflow_add-i
-overflow_add-i c = omega arith
-
-pub loop-i-smaller : goal.loop-i-smaller
-loop-i-smaller c = omega arith
-
 pub loop-i-preserved : goal.loop-i-preserved
 loop-i-preserved c = growth-more c.loop-i.invariant _ (search rules) (search rules) c.append_node.ensures
 

@@ -5,8 +5,8 @@ use Rattle.trie.specs.Siblings.{trie_in}
 use Rattle.trie.proofs.TurnCases.{no-slots}
 use Rattle.trie.proofs.lookups.search_indexed.Goals as goal
 
-pub returns-then-index-eq0 : goal.returns-then-index-eq0
-returns-then-index-eq0 c =
+pub returns-then-is_empty : goal.returns-then-is_empty
+returns-then-is_empty c =
     c.search_children.ensures
     ∙ sym (no-slots (trie_in sizes c.args.space.now c.args.nodes c.args.links) c.args.index.now c.args.stood _ _ (search rules))
 

@@ -1,6 +1,6 @@
 -- `trie::paths::climb_runs` meets its contract. The number to go on from falls, and with it the node's.
 use Rattle.trie.proofs.PathCases.{run-falls, run_on, runs-whole, runs-lost, runs_last, runs-next}
-use Rattle.std.proofs.Common.{refl, arith, rules}
+use Rattle.std.proofs.Common.{ℕ, refl, arith, rules, inl, inr}
 use Rattle.trie.proofs.paths.+climb_runs.Goals as goal
 
 pub overflow_sub-from : goal.overflow_sub-from
@@ -19,10 +19,10 @@ pub returns-then-begun-lt-LOST : goal.returns-then-begun-lt-LOST
 returns-then-begun-lt-LOST t c = runs-whole c.args.space.now.now c.args.end c.args.begun c.args.run.now c.args.runs c.args.path.now c.copy_run.new.path (omega arith) (search rules) c.copy_run.ensures (search rules)
 
 pub returns-then-begun-eq-LOST : goal.returns-then-begun-eq-LOST
-returns-then-begun-eq-LOST t c = runs-lost c.args.space.now.now c.args.end c.args.begun c.args.run.now c.args.runs c.args.path.now c.copy_run.new.path (omega arith) (search rules) c.copy_run.ensures (search rules)
-
-pub returns-then-runs-eq1 : goal.returns-then-runs-eq1
-returns-then-runs-eq1 t c = runs_last c.args.space.now.now c.args.end c.args.begun c.args.run.now c.args.runs c.args.path.now c.copy_run.new.path (omega arith) (search rules) c.copy_run.ensures (omega arith) (search rules)
+returns-then-begun-eq-LOST t c = elim c.then-begun-eq-LOST.either [
+  | inl e ↦ runs-lost c.args.space.now.now c.args.end c.args.begun c.args.run.now c.args.runs c.args.path.now c.copy_run.new.path (omega arith) (search rules) c.copy_run.ensures e
+  | inr e ↦ let a : ℕ = c.args.begun in runs_last c.args.space.now.now c.args.end c.args.begun c.args.run.now c.args.runs c.args.path.now c.copy_run.new.path (omega arith) (search rules) c.copy_run.ensures (omega (arith, e.0)) e.1
+]
 
 pub overflow_sub-begun : goal.overflow_sub-begun
 overflow_sub-begun t c = omega arith

@@ -4,6 +4,6 @@ use Rattle.words.proofs.detours.write_numbers.Goals as goal
 
 pub returns : goal.returns
 returns c =
-    numbers-stand c.args.numbers.now c.args.count c.fewer-n.result c.args.out.now
-    c.requires.0 c.fewer-n.ensures c.requires.1 c.copy.new.out
+    numbers-stand c.args.numbers.now c.args.count c.min.result c.args.out.now
+    c.told-numbers c.min.ensures c.requires c.copy.new.out
     c.copy.ensures
