@@ -1,4 +1,5 @@
 -- The first fault: how a pass over records finds it; there is none exactly where the space passes; and it names a record that is used.
+use Rattle.std.specs.Prelude.{Err, Ok}
 use Prim.Native.Nat.{ℕ, zero, suc, ◌<◌, ◌≤◌}
 use mathlib.Core.Path.{◌≡◌, refl, sym, ◌∙◌}
 use mathlib.Core.Bool.{Bool, true, false, ◌&&◌, true≢false, false≢true}
@@ -11,9 +12,7 @@ use Rattle.basis.specs.Choice.{pick}
 use Rattle.basis.proofs.Cases.{by_cases}
 use Rattle.plain.specs.Coding.{Coding, coding_of}
 use Rattle.space.specs.Layout.{sizes_of, nodes_cell, subgoals_cell, answers_cell}
-use Rattle.space.specs.Heading.{space_header}
-use Rattle.space.specs.declared.Header.{Header}
-use Rattle.space.specs.declared.Header.TheVariants as header
+use Rattle.space.specs.Heading.{space_header, Header}
 use Rattle.space.proofs.HeaderLaws.{header-bounds}
 use Rattle.store.specs.Views.{View, view_of}
 use Rattle.agreement.specs.Whole.{every_below, node_whole, subgoal_whole, answer_whole, chains, whole_view, whole_under, whole_any, whole_space}
@@ -134,13 +133,13 @@ module _ (c : Coding) (v : View) where
 
 fault-header : (cs : List ℕ) (x : Header) → fault_under cs x ≡ nothing → whole_any cs x ≡ true
 unfolding fault_under whole_any whole_under
-fault-header cs (header.Sound h) e = in_whole (coding_of h.edition) (view_of (sizes_of h.edition) cs h) e
-fault-header cs (header.Refused r) e = absurd (heading-not e)
+fault-header cs (Ok h) e = in_whole (coding_of h.edition) (view_of (sizes_of h.edition) cs h) e
+fault-header cs (Err r) e = absurd (heading-not e)
 
 whole-header : (cs : List ℕ) (x : Header) → whole_any cs x ≡ true → fault_under cs x ≡ nothing
 unfolding fault_under whole_any whole_under
-whole-header cs (header.Sound h) e = whole_in (coding_of h.edition) (view_of (sizes_of h.edition) cs h) e
-whole-header cs (header.Refused r) e = absurd (false≢true e)
+whole-header cs (Ok h) e = whole_in (coding_of h.edition) (view_of (sizes_of h.edition) cs h) e
+whole-header cs (Err r) e = absurd (false≢true e)
 
 pub fault-told : FaultTold
 unfolding fault_of whole_space
@@ -180,10 +179,10 @@ module _ (c : Coding) (v : View) where
 
 under-used : (cs : List ℕ) (x : Header) → x ≡ space_header cs → Used (get_or cs nodes_cell 0) (get_or cs subgoals_cell 0) (get_or cs answers_cell 0) (fault_under cs x)
 unfolding fault_under
-under-used cs (header.Sound h) e =
+under-used cs (Ok h) e =
     let b = header-bounds cs h e in
     rw (← b.nodes-cell, ← b.subgoals-cell, ← b.answers-cell) (in-used (coding_of h.edition) (view_of (sizes_of h.edition) cs h))
-under-used cs (header.Refused r) e = tt
+under-used cs (Err r) e = tt
 
 pub fault-named : FaultNamed
 unfolding fault_of

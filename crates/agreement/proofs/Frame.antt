@@ -1,6 +1,8 @@
 -- A form that is given to one subgoal, by any way of finding a child, leaves the records, the paths and the chains of all
 -- others, whatever the cells hold: also where they are damaged. So a join may read its sources again while it gives forms to
 -- its target.
+use Rattle.basis.specs.declared.refusals.Refusal.TheVariants as refusal
+use Rattle.std.specs.Prelude.{Err, Ok}
 use Prim.Native.Nat.{ℕ, ◌+◌, ◌-◌, ◌<◌, ◌≤◌}
 use mathlib.Core.Path.{◌≡◌, refl, sym, ap, ◌∙◌, subst}
 use mathlib.Core.Bool.{true, ◌&&◌}
@@ -16,10 +18,8 @@ use Rattle.basis.proofs.WritesLaws.{length-writes}
 use Rattle.plain.specs.Words.{Word}
 use Rattle.plain.specs.Requests.{Reply, refused}
 use Rattle.space.specs.Layout.{Sizes, sizes_of, subgoal_offset_of, node_at, node_to, subgoal_in, state_cell}
-use Rattle.space.specs.Heading.{header_of, space_header}
+use Rattle.space.specs.Heading.{header_of, space_header, Header}
 use Rattle.space.specs.declared.Head.{Head}
-use Rattle.space.specs.declared.Header.{Header}
-use Rattle.space.specs.declared.Header.TheVariants as header
 use Rattle.space.specs.declared.Subgoal.{Subgoal}
 use Rattle.trie.specs.Siblings.{Trie, search_children}
 use Rattle.trie.specs.Walks.{Walk, whole, stopped, damaged, onward, Finding, root_sound, walk_from_by, walk_by}
@@ -141,21 +141,21 @@ module _ (z : Sizes) where
   given-size cs h (enters_answers s ws) = refl
 
 -- the header of a space is that of the edition that it names
-pub space-read : (cs : List ℕ) (h : Head) → space_header cs ≡ header.Sound h → (known_edition h.edition ≡ true) × (header_of (sizes_of h.edition) cs ≡ header.Sound h)
+pub space-read : (cs : List ℕ) (h : Head) → space_header cs ≡ Ok h → (known_edition h.edition ≡ true) × (header_of (sizes_of h.edition) cs ≡ Ok h)
 unfolding space_header
 space-read cs h e = by_cases (known_edition (get_or cs 0 0))
     (λ k.
-    let sound : header_of (sizes_of (get_or cs 0 0)) cs ≡ header.Sound h = rw k at e in
+    let sound : header_of (sizes_of (get_or cs 0 0)) cs ≡ Ok h = rw k at e in
     let i : h.edition ≡ get_or cs 0 0 = ap (λ (x : Head). x.edition) (header_read (sizes_of (get_or cs 0 0)) cs h sound).is in
-    (subst (λ (x : ℕ). known_edition x ≡ true) (sym i) k, subst (λ (x : ℕ). header_of (sizes_of x) cs ≡ header.Sound h) (sym i) sound))
-    (λ k. let f : header.Refused 1 ≡ header.Sound h = rw k at e in let z : ◌≡◌ {A = ℕ} 0 1 = cc in absurd (omega arith))
+    (subst (λ (x : ℕ). known_edition x ≡ true) (sym i) k, subst (λ (x : ℕ). header_of (sizes_of x) cs ≡ Ok h) (sym i) sound))
+    (λ k. let f : Err refusal.Header ≡ Ok h = rw k at e in let z : ◌≡◌ {A = ℕ} 0 1 = cc in absurd (omega arith))
 
 -- cells of edition e after forms were given to subgoal s, before which they were cs with the header h. Capacities and
 -- subgoals are among what stays of the view.
 pub record Framed (e s : ℕ) (cs : List ℕ) (h : Head) (cs' : List ℕ) : Type 0 where
   pub head : Head
-  pub space : space_header cs' ≡ header.Sound head
-  pub sound : header_of (sizes_of e) cs' ≡ header.Sound head
+  pub space : space_header cs' ≡ Ok head
+  pub sound : header_of (sizes_of e) cs' ≡ Ok head
   pub size : length cs' ≡ length cs
   pub edition-same : head.edition ≡ h.edition
   pub subgoals-from : head.subgoal_offset ≡ h.subgoal_offset
@@ -183,7 +183,7 @@ record Places (h h' : Head) : Type 0 where
   answers-from : h'.answer_offset ≡ h.answer_offset
   end_same : h'.end ≡ h.end
 
-places_same : (z : Sizes) (cs cs' : List ℕ) (h h' : Head) → header_of z cs ≡ header.Sound h → header_of z cs' ≡ header.Sound h'
+places_same : (z : Sizes) (cs cs' : List ℕ) (h h' : Head) → header_of z cs ≡ Ok h → header_of z cs' ≡ Ok h'
     → h'.node_capacity ≡ h.node_capacity → h'.subgoal_capacity ≡ h.subgoal_capacity → h'.answer_capacity ≡ h.answer_capacity → Places h h'
 places_same z cs cs' h h' e e' n f a =
     let r = header_read z cs h e in
@@ -201,9 +201,9 @@ places_same z cs cs' h h' e e' n f a =
 -- ---- the frame
 
 module _ {find : Finding} (finds : Finds find) (e s : ℕ) (known : known_edition e ≡ true) (low : 1 ≤ s) where
-  form-framed-of : (cs : List ℕ) (h : Head) → header_of (sizes_of e) cs ≡ header.Sound h → s ≤ h.subgoals
+  form-framed-of : (cs : List ℕ) (h : Head) → header_of (sizes_of e) cs ≡ Ok h → s ≤ h.subgoals
       → ((view_of (sizes_of e) cs h).subgoal s).root < h.nodes → ((view_of (sizes_of e) cs h).subgoal s).last ≤ h.answers
-      → (w : Word) → Framed e s cs h (form_given_by find (sizes_of e) cs s w (header.Sound h))
+      → (w : Word) → Framed e s cs h (form_given_by find (sizes_of e) cs s w (Ok h))
   unfolding form_given_by
   form-framed-of cs h sound high root last w =
       let v : View = view_of (sizes_of e) cs h in
@@ -214,7 +214,7 @@ module _ {find : Finding} (finds : Finds find) (e s : ℕ) (known : known_editio
       let is : change (sizes_of e) cs h d ≡ answer_given (sizes_of e) cs h d = given-written search_children (sizes_of e) cs h s w x in
       let cs' : List ℕ = answer_given (sizes_of e) cs h d in
       let h' : Head = c.0 in
-      let sound' : header_of (sizes_of e) cs' ≡ header.Sound h' = subst (λ (ds : List ℕ). header_of (sizes_of e) ds ≡ header.Sound h') is c.1 in
+      let sound' : header_of (sizes_of e) cs' ≡ Ok h' = subst (λ (ds : List ℕ). header_of (sizes_of e) ds ≡ Ok h') is c.1 in
       let alike : Alike (view_of (sizes_of e) cs' h') (changed_view v d) = subst (λ (ds : List ℕ). Alike (view_of (sizes_of e) ds h') (changed_view v d)) is c.2 in
       let view : SameBut s v (view_of (sizes_of e) cs' h') = same-but-alike low high l.1 alike in
       let p = places_same (sizes_of e) cs cs' h h' sound sound' view.N-same view.F-same view.A-same in
@@ -231,10 +231,10 @@ module _ {find : Finding} (finds : Finds find) (e s : ℕ) (known : known_editio
       }
 
   -- the forms behind the first, by what they leave of the cells that it leaves
-  forms-step : (w : Word) (ws : List Word) (cs : List ℕ) (h : Head) → header_of (sizes_of e) cs ≡ header.Sound h → s ≤ h.subgoals
-      → Framed e s cs h (form_given_by find (sizes_of e) cs s w (header.Sound h))
-      → (let ds = form_given_by find (sizes_of e) cs s w (header.Sound h) in
-      (h' : Head) → header_of (sizes_of e) ds ≡ header.Sound h' → s ≤ h'.subgoals
+  forms-step : (w : Word) (ws : List Word) (cs : List ℕ) (h : Head) → header_of (sizes_of e) cs ≡ Ok h → s ≤ h.subgoals
+      → Framed e s cs h (form_given_by find (sizes_of e) cs s w (Ok h))
+      → (let ds = form_given_by find (sizes_of e) cs s w (Ok h) in
+      (h' : Head) → header_of (sizes_of e) ds ≡ Ok h' → s ≤ h'.subgoals
       → ((view_of (sizes_of e) ds h').subgoal s).root < h'.nodes → ((view_of (sizes_of e) ds h').subgoal s).last ≤ h'.answers → Framed e s ds h' (forms_given_by find (sizes_of e) ds s ws))
       → Framed e s cs h (forms_given_by find (sizes_of e) cs s (w ∷ ws))
   unfolding forms_given_by
@@ -242,7 +242,7 @@ module _ {find : Finding} (finds : Finds find) (e s : ℕ) (known : known_editio
       let G = later F.head F.sound (omega (arith, F.view.subgoals-same)) F.view.root-within F.view.last_within in
       subst (λ (x : Header). Framed e s cs h (forms_given_by find (sizes_of e) (form_given_by find (sizes_of e) cs s w x) s ws)) (sym sound) (framed_then F G)
 
-  forms-framed-of : (ws : List Word) (cs : List ℕ) (h : Head) → header_of (sizes_of e) cs ≡ header.Sound h → s ≤ h.subgoals
+  forms-framed-of : (ws : List Word) (cs : List ℕ) (h : Head) → header_of (sizes_of e) cs ≡ Ok h → s ≤ h.subgoals
       → ((view_of (sizes_of e) cs h).subgoal s).root < h.nodes → ((view_of (sizes_of e) cs h).subgoal s).last ≤ h.answers
       → Framed e s cs h (forms_given_by find (sizes_of e) cs s ws)
   forms-framed-of [] cs h sound high root last = unfold forms_given_by in record {
@@ -258,12 +258,12 @@ module _ {find : Finding} (finds : Finds find) (e s : ℕ) (known : known_editio
   }
   forms-framed-of (w ∷ ws) cs h sound high root last =
       forms-step w ws cs h sound high (form-framed-of cs h sound high root last w)
-      (forms-framed-of ws (form_given_by find (sizes_of e) cs s w (header.Sound h)))
+      (forms-framed-of ws (form_given_by find (sizes_of e) cs s w (Ok h)))
 
 -- one form, and a list of forms, given to a subgoal of a space whose header is sound
-module _ {find : Finding} (finds : Finds find) (cs : List ℕ) (h : Head) (space : space_header cs ≡ header.Sound h) (s : ℕ) (low : 1 ≤ s) (high : s ≤ h.subgoals)
+module _ {find : Finding} (finds : Finds find) (cs : List ℕ) (h : Head) (space : space_header cs ≡ Ok h) (s : ℕ) (low : 1 ≤ s) (high : s ≤ h.subgoals)
     (root : ((view_of (sizes_of h.edition) cs h).subgoal s).root < h.nodes) (last : ((view_of (sizes_of h.edition) cs h).subgoal s).last ≤ h.answers) where
-  pub form-framed : (w : Word) → Framed h.edition s cs h (form_given_by find (sizes_of h.edition) cs s w (header.Sound h))
+  pub form-framed : (w : Word) → Framed h.edition s cs h (form_given_by find (sizes_of h.edition) cs s w (Ok h))
   form-framed w = let r = space-read cs h space in form-framed-of finds h.edition s r.0 low cs h r.1 high root last w
 
   pub forms-framed : (ws : List Word) → Framed h.edition s cs h (forms_given_by find (sizes_of h.edition) cs s ws)
@@ -275,7 +275,7 @@ module _ {find : Finding} (finds : Finds find) (cs : List ℕ) (h : Head) (space
 
 -- and one form more
 pub framed-form : {find : Finding} → Finds find → {e s : ℕ} {cs : List ℕ} {h : Head} {cs' : List ℕ} → 1 ≤ s → s ≤ h.subgoals → (F : Framed e s cs h cs') → (w : Word)
-    → Framed e s cs h (form_given_by find (sizes_of e) cs' s w (header.Sound F.head))
+    → Framed e s cs h (form_given_by find (sizes_of e) cs' s w (Ok F.head))
 framed-form finds {e} {s} {cs} {h} {cs'} low high F w =
     let i : F.head.edition ≡ e = ap (λ (x : Head). x.edition) (header_read (sizes_of e) cs' F.head F.sound).is ∙ (header_read (sizes_of e) cs' F.head F.sound).headed.edition in
     let known : known_edition e ≡ true = subst (λ (k : ℕ). known_edition k ≡ true) i (space-read cs' F.head F.space).0 in

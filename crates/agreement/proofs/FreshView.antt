@@ -1,4 +1,6 @@
 -- A fresh space has a sound header and the subgoal root alone.
+use Rattle.basis.specs.declared.refusals.Refusal.TheVariants as refusal
+use Rattle.std.specs.Prelude.{Err, Ok}
 use Prim.Native.Nat.{ℕ, ◌+◌, ◌-◌, ◌*◌, ◌<◌, ◌≤◌}
 use mathlib.Core.Path.{◌≡◌, refl, ap, ◌∙◌}
 use mathlib.Core.Bool.{true, ◌&&◌}
@@ -13,8 +15,6 @@ use Rattle.space.specs.Layout.{Sizes, most, subgoal_offset_of, answer_offset_of,
 use Rattle.space.specs.Heading.{in_range, header_of}
 use Rattle.space.specs.Fresh.{fresh_header, fresh_cells, fresh_fits, fresh_answer, fresh_space}
 use Rattle.space.specs.declared.Head.{Head}
-use Rattle.space.specs.declared.Header.TheVariants.{Sound}
-use Rattle.space.specs.declared.FreshAnswer.TheVariants.{Done, Refused}
 use Rattle.space.proofs.HeaderLaws.{range-least, range-largest}
 use Rattle.space.proofs.LayoutLaws.{node-equal, subgoal-equal, answer-equal}
 use Rattle.trie.specs.Append.{new_root}
@@ -55,11 +55,11 @@ module _ (z : Sizes) (n f a : ℕ) (s : List ℕ) where
         end-within = leb-true _ _ x.1;
       }
 
-  answer-done : fresh_answer z n f a s ≡ Done → fresh_fits z n f a s ≡ true
+  answer-done : fresh_answer z n f a s ≡ Ok tt → fresh_fits z n f a s ≡ true
   unfolding fresh_answer
   answer-done e =
       by_cases (fresh_fits z n f a s) (λ t. t) (λ t.
-      let x : Refused 2 ≡ Done = simp t at e in
+      let x : Err refusal.Fresh ≡ Ok tt = simp t at e in
       let y : ◌≡◌ {A = ℕ} 0 1 = cc in
       absurd (omega arith))
 
@@ -121,8 +121,8 @@ module _ (z : Sizes) (n f a : ℕ) (s : List ℕ) where
           (cell-zero (answer_at z (answer_offset_of z n f) i + 2) (omega arith) (omega arith));
     }
 
-pub fresh-view : (z : Sizes) → Wide z → (n f a : ℕ) (s : List ℕ) → fresh_answer z n f a s ≡ Done
-    → (h : Head) × (header_of z (fresh_space z n f a s) ≡ Sound h) × Alike (view_of z (fresh_space z n f a s) h) (fresh_view n f a)
+pub fresh-view : (z : Sizes) → Wide z → (n f a : ℕ) (s : List ℕ) → fresh_answer z n f a s ≡ Ok tt
+    → (h : Head) × (header_of z (fresh_space z n f a s) ≡ Ok h) × Alike (view_of z (fresh_space z n f a s) h) (fresh_view n f a)
 fresh-view z wide n f a s e =
     let t = answer-done z n f a s e in
     let d = fits-held z n f a s t in

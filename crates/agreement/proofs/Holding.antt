@@ -1,4 +1,5 @@
 -- Cells that hold a table, and what one call on them leaves.
+use Rattle.std.specs.Prelude.{Ok}
 use mathlib.Core.Path.{◌≡◌, refl}
 use mathlib.Core.List.{List}
 use Prim.Native.Nat.{ℕ}
@@ -10,8 +11,6 @@ use Rattle.space.specs.Layout.{Sizes, node_in}
 use Rattle.space.specs.Heading.{header_of}
 use Rattle.space.specs.Fresh.{fresh_answer, fresh_space}
 use Rattle.space.specs.declared.Head.{Head}
-use Rattle.space.specs.declared.Header.TheVariants as header
-use Rattle.space.specs.declared.FreshAnswer.TheVariants.{Done}
 use Rattle.trie.specs.Walks.{Finding}
 use Rattle.trie.specs.Ledger.{Grown}
 use Rattle.trie.proofs.IndexLaws.{AsChains}
@@ -27,16 +26,16 @@ use Rattle.agreement.proofs.Growing.{changed-grown, alike-grown}
 -- what holds of the cells of a space: a decision that fits makes of them what it makes of their view, the header counts,
 -- and a fresh space is a fresh view
 pub record Cells (z : Sizes) : Type 0 where
-  pub cells-change : (cs : List ℕ) (h : Head) (d : Decision) → header_of z cs ≡ header.Sound h → Fits (view_of z cs h) d
-      → (h' : Head) × (header_of z (change z cs h d) ≡ header.Sound h') × Alike (view_of z (change z cs h d) h') (changed_view (view_of z cs h) d)
-  pub cells-counts : (cs : List ℕ) (h : Head) → header_of z cs ≡ header.Sound h → counted_cells cs ≡ record { nodes = h.nodes; subgoals = h.subgoals; answers = h.answers }
-  pub fresh-view : (n f a : ℕ) (s : List ℕ) → fresh_answer z n f a s ≡ Done
-      → (h : Head) × (header_of z (fresh_space z n f a s) ≡ header.Sound h) × Alike (view_of z (fresh_space z n f a s) h) (fresh_view n f a)
+  pub cells-change : (cs : List ℕ) (h : Head) (d : Decision) → header_of z cs ≡ Ok h → Fits (view_of z cs h) d
+      → (h' : Head) × (header_of z (change z cs h d) ≡ Ok h') × Alike (view_of z (change z cs h d) h') (changed_view (view_of z cs h) d)
+  pub cells-counts : (cs : List ℕ) (h : Head) → header_of z cs ≡ Ok h → counted_cells cs ≡ record { nodes = h.nodes; subgoals = h.subgoals; answers = h.answers }
+  pub fresh-view : (n f a : ℕ) (s : List ℕ) → fresh_answer z n f a s ≡ Ok tt
+      → (h : Head) × (header_of z (fresh_space z n f a s) ≡ Ok h) × Alike (view_of z (fresh_space z n f a s) h) (fresh_view n f a)
 
 -- the cells have a sound header, and their records are those of the table
 pub record Holds (z : Sizes) (c : Coding) (t : Table) (cs : List ℕ) : Type 0 where
   pub head : Head
-  pub sound : header_of z cs ≡ header.Sound head
+  pub sound : header_of z cs ≡ Ok head
   pub same : Same c t (view_of z cs head)
 
 -- what the plain table gives and the decision on the cells: the same answer, the same out, and cells that hold the table
@@ -59,7 +58,7 @@ fits-same find z cs h v (empty-fits s a b e f g) = refl
 fits-same find z cs h v (finish-fits s a b) = refl
 
 -- where the decision fits and makes the same records
-pub agrees-answers : (z : Sizes) (c : Coding) → Cells z → (cs : List ℕ) (h : Head) → header_of z cs ≡ header.Sound h → {out : List ℕ} {r : Result Table} {d : Decision}
+pub agrees-answers : (z : Sizes) (c : Coding) → Cells z → (cs : List ℕ) (h : Head) → header_of z cs ≡ Ok h → {out : List ℕ} {r : Result Table} {d : Decision}
     → Agrees c (view_of z cs h) out r d → AnswersAlike z c cs h out r d
 agrees-answers z c cells cs h e {out} {r} {d} a =
     let more = cells.cells-change cs h d e a.fits in

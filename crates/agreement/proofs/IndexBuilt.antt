@@ -1,4 +1,5 @@
 -- A build on cells that hold a table: every child that enters is found again, and no node is judged damaged.
+use Rattle.std.specs.Prelude.{Err, Ok}
 use mathlib.Core.Path.{◌≡◌, refl, sym, ap, ◌∙◌, subst}
 use mathlib.Core.Bool.{true, false≢true}
 use mathlib.Core.List.{List, [], ◌∷◌, ◌++◌, head-eq_of_cons-eq}
@@ -20,11 +21,9 @@ use Rattle.plain.proofs.Keys.{key, Different}
 use Rattle.plain.proofs.AfterLaws.{after-found}
 use Rattle.space.specs.Judging.{node_sound}
 use Rattle.space.specs.Layout.{sizes_of}
-use Rattle.space.specs.Heading.{space_header}
+use Rattle.space.specs.Heading.{space_header, Header}
 use Rattle.space.specs.Fresh.{fresh_space}
 use Rattle.space.specs.declared.Node.{Node}
-use Rattle.space.specs.declared.Header.{Header}
-use Rattle.space.specs.declared.Header.TheVariants as header
 use Rattle.trie.specs.Siblings.{Trie}
 use Rattle.trie.specs.Index.{enters, entering, roomy, lookup}
 use Rattle.trie.proofs.BuildLaws.{built-finds}
@@ -178,8 +177,8 @@ build-finds e n f a s qs d index =
 
 refused-under : (cs index : List ℕ) (r : ℕ) (x : Header) → (build_under cs index x).reply ≡ refused r → (build_under cs index x).index ≡ index
 unfolding build_under build_on
-refused-under cs index r (header.Refused n) e = refl
-refused-under cs index r (header.Sound h) e =
+refused-under cs index r (Err n) e = refl
+refused-under cs index r (Ok h) e =
     let v : View = view_of (sizes_of h.edition) cs h in
     by_cases (nodes_fit v v.nodes)
     (λ f. by_cases (roomy (subgoal_trie v) (length index))

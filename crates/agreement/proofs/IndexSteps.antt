@@ -1,5 +1,6 @@
 -- With any index a call on cells that hold a table is the call without, and so is every list of calls. All of it is shown of
 -- any way of finding a child that ends as the chains do; the index comes in last.
+use Rattle.std.specs.Prelude.{Ok}
 use mathlib.Core.Path.{◌≡◌, refl, sym, ap, ◌∙◌, subst}
 use mathlib.Core.Bool.{true}
 use mathlib.Core.List.{List, [], ◌∷◌}
@@ -14,9 +15,7 @@ use Rattle.plain.proofs.StoredCoding.{coding-laws}
 use Rattle.space.specs.Layout.{Sizes, sizes_of, node_in}
 use Rattle.space.specs.Heading.{header_of}
 use Rattle.space.specs.Fresh.{fresh_answer, fresh_space}
-use Rattle.space.specs.declared.FreshAnswer.TheVariants.{Done}
 use Rattle.space.specs.declared.Head.{Head}
-use Rattle.space.specs.declared.Header.TheVariants as header
 use Rattle.trie.specs.Walks.{Finding}
 use Rattle.trie.specs.Turns.{lookup_first}
 use Rattle.trie.proofs.IndexLaws.{AsChains, indexes-as-chains}
@@ -36,7 +35,7 @@ use Rattle.agreement.proofs.Theorem.{cells-hold, header-any, deciding, fresh_in,
 -- ---- a call on the cells
 
 module _ (z : Sizes) (c : Coding) (cells : Cells z) (laws : CodingLaws c) (find : Finding) where
-  pub under_alike : (t : Table) (cs : List ℕ) (h : Head) → AsChains (node_in z cs) h.nodes find → header_of z cs ≡ header.Sound h → Same c t (view_of z cs h) → (q : Request) → under_by find z c cs q (header.Sound h) ≡ under z c cs q (header.Sound h)
+  pub under_alike : (t : Table) (cs : List ℕ) (h : Head) → AsChains (node_in z cs) h.nodes find → header_of z cs ≡ Ok h → Same c t (view_of z cs h) → (q : Request) → under_by find z c cs q (Ok h) ≡ under z c cs q (Ok h)
   unfolding under_by
   under_alike t cs h as-chains e S q =
       let v : View = view_of z cs h in
@@ -54,7 +53,7 @@ module _ (e : ℕ) (known : known_edition e ≡ true) where
   unfolding space_step_by under_any_by
   step-alike find t cs k as-chains q =
       let a = header-any e known cs k.head k.sound in
-      rw a.0 (subst (λ (i : ℕ). under_by find (sizes_of i) (coding_of i) cs q (header.Sound k.head) ≡ under (sizes_of i) (coding_of i) cs q (header.Sound k.head)) (sym a.1)
+      rw a.0 (subst (λ (i : ℕ). under_by find (sizes_of i) (coding_of i) cs q (Ok k.head) ≡ under (sizes_of i) (coding_of i) cs q (Ok k.head)) (sym a.1)
       (under_alike (sizes_of e) (coding_of e) cells_in (coding-laws e) find t cs k.head as-chains k.sound k.same q))
 
   pub step-indexed : (t : Table) (cs : List ℕ) → Holds (sizes_of e) (coding_of e) t cs → (index : List ℕ) (q : Request) → indexed_step index cs q ≡ space_step cs q
@@ -77,11 +76,11 @@ module _ (e : ℕ) (known : known_edition e ≡ true) where
       ap (λ (r : Result (List ℕ)). seen r ∷ indexed_trace r.state qs) (step-indexed t cs k q.index q.request)
       ∙ ap (λ (xs : List Seen). seen (space_step cs q.request) ∷ xs) (trace-indexed (step (coding_of e) t q.request).state (space_step cs q.request).state (state-holds t cs q.request k) qs)
 
-  pub fresh-held : (n f a : ℕ) (s : List ℕ) → fresh_answer (sizes_of e) n f a s ≡ Done → Holds (sizes_of e) (coding_of e) (fresh n f a) (fresh_space (sizes_of e) n f a s)
+  pub fresh-held : (n f a : ℕ) (s : List ℕ) → fresh_answer (sizes_of e) n f a s ≡ Ok tt → Holds (sizes_of e) (coding_of e) (fresh n f a) (fresh_space (sizes_of e) n f a s)
   fresh-held n f a s d = fresh_holds (sizes_of e) (coding_of e) cells_in (coding-laws e) space_step (deciding e known) n f a s d
 
 -- the cells that calls leave of a fresh space hold the table that they leave of a fresh one
-pub calls-held : (e n f a : ℕ) (s : List ℕ) (qs : List Request) → known_edition e ≡ true → fresh_answer (sizes_of e) n f a s ≡ Done
+pub calls-held : (e n f a : ℕ) (s : List ℕ) (qs : List Request) → known_edition e ≡ true → fresh_answer (sizes_of e) n f a s ≡ Ok tt
     → Holds (sizes_of e) (coding_of e) (left (step (coding_of e)) (fresh n f a) qs) (left space_step (fresh_space (sizes_of e) n f a s) qs)
 calls-held e n f a s qs known d =
     left-related (step (coding_of e)) space_step (Holds (sizes_of e) (coding_of e)) (state-holds e known) qs (fresh n f a) (fresh_space (sizes_of e) n f a s) (fresh-held e known n f a s d)

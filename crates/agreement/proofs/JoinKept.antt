@@ -1,5 +1,6 @@
 -- A join that is accepted leaves out none of its forms: at each turn every form before it is held, and each that is to come is
 -- held or its walk stopped, with no more tokens left than were counted.
+use Rattle.std.specs.Prelude.{Ok}
 use Prim.Native.Nat.{ℕ, zero, suc, ◌+◌, ◌<◌, ◌≤◌}
 use mathlib.Core.Path.{◌≡◌, refl, sym, ap, ◌∙◌, subst}
 use mathlib.Core.Bool.{Bool, true, false, ◌&&◌}
@@ -20,7 +21,7 @@ use Rattle.plain.proofs.Changes.{Readable, Read, all_read_lem, join-cases}
 use Rattle.plain.proofs.StoredCoding.{coding-laws}
 use Rattle.plain.specs.CodingLaws.{CodingLaws}
 use Rattle.space.specs.Layout.{Sizes, sizes_of}
-use Rattle.space.specs.Heading.{header_of, space_header}
+use Rattle.space.specs.Heading.{header_of, space_header, Header}
 use Rattle.space.specs.Judging.{node_sound}
 use Rattle.space.specs.declared.Node.{Node}
 use Rattle.space.specs.declared.Answer.{Answer}
@@ -28,8 +29,6 @@ use Rattle.space.proofs.HeaderLaws.{header-bounds}
 use Rattle.space.proofs.JudgingLaws.{node-bounds, node-sound, SubgoalBounds, subgoal-bounds}
 use Rattle.space.specs.declared.Head.{Head}
 use Rattle.space.specs.declared.Subgoal.{Subgoal}
-use Rattle.space.specs.declared.Header.{Header}
-use Rattle.space.specs.declared.Header.TheVariants as header
 use Rattle.trie.specs.Siblings.{Trie, search_children}
 use Rattle.trie.specs.Walks.{Walk, whole, stopped, damaged, Finding, root_sound, walk_from_by}
 use Rattle.trie.specs.Index.{search_indexed}
@@ -124,7 +123,7 @@ module _ (e s r stood m : ℕ) (index : List ℕ) (c : Coding) (laws : CodingLaw
   Legal u = c.legal m u ≡ true
 
   record Inv (before ws : List Word) (cs : List ℕ) (h : Head) : Type 0 where
-    header-sound : header_of z cs ≡ header.Sound h
+    header-sound : header_of z cs ≡ Ok h
     rooted : Rooted index stood s r (view_of z cs h)
     high : s ≤ h.subgoals
     last-in : ((view_of z cs h).subgoal s).last ≤ h.answers
@@ -138,13 +137,13 @@ module _ (e s r stood m : ℕ) (index : List ℕ) (c : Coding) (laws : CodingLaw
 
   record Outcome (before ws : List Word) (cs' : List ℕ) : Type 0 where
     head : Head
-    head-sound : header_of z cs' ≡ header.Sound head
+    head-sound : header_of z cs' ≡ Ok head
     rooted-there : Rooted index stood s r (view_of z cs' head)
     befores : Each (HeldAt index stood s r (view_of z cs' head)) before
     comes : Each (HeldAt index stood s r (view_of z cs' head)) ws
 
   -- from what the forms behind the first leave
-  outcome-on : (w : Word) (ws before : List Word) (cs cs₁ : List ℕ) (h : Head) → header_of z cs ≡ header.Sound h → form_given_by find z cs s w (header.Sound h) ≡ cs₁ → Outcome (w ∷ before) ws (forms_given_by find z cs₁ s ws) → Outcome before (w ∷ ws) (forms_given_by find z cs s (w ∷ ws))
+  outcome-on : (w : Word) (ws before : List Word) (cs cs₁ : List ℕ) (h : Head) → header_of z cs ≡ Ok h → form_given_by find z cs s w (Ok h) ≡ cs₁ → Outcome (w ∷ before) ws (forms_given_by find z cs₁ s ws) → Outcome before (w ∷ ws) (forms_given_by find z cs s (w ∷ ws))
   unfolding forms_given_by
   outcome-on w ws before cs cs₁ h i f o = subst (Outcome before (w ∷ ws)) (sym all) (split o.befores)
     where
@@ -156,7 +155,7 @@ module _ (e s r stood m : ℕ) (index : List ℕ) (c : Coding) (laws : CodingLaw
 
   -- ---- a form that is held
 
-  held-given : (w : Word) (cs : List ℕ) (h : Head) → Rooted index stood s r (view_of z cs h) → HeldAt index stood s r (view_of z cs h) w → form_given_by find z cs s w (header.Sound h) ≡ cs
+  held-given : (w : Word) (cs : List ℕ) (h : Head) → Rooted index stood s r (view_of z cs h) → HeldAt index stood s r (view_of z cs h) w → form_given_by find z cs s w (Ok h) ≡ cs
   unfolding form_given_by answer_given
   held-given w cs h R k = ap (λ (d : Decision). answer_given z cs h d) (held-says index stood s r (view_of z cs h) R w k)
 
@@ -222,7 +221,7 @@ module _ (e s r stood m : ℕ) (index : List ℕ) (c : Coding) (laws : CodingLaw
         let free : ltb h.answers h.answer_capacity ≡ true = lt-ltb h.answers h.answer_capacity (omega (arith, I.answers-room)) in
         rw (to-root index stood s r v I.rooted w, at, last-sound, eq-eqb _ _ I.is_open, roomy, free)
 
-    given-as : form_given_by find z cs s w (header.Sound h) ≡ change z cs h (enters_answer s q l us)
+    given-as : form_given_by find z cs s w (Ok h) ≡ change z cs h (enters_answer s q l us)
     unfolding form_given_by
     given-as = sym (given-written search_children z cs h s w (walk_to_by find v s w)) ∙ ap (change z cs h) decided
 
@@ -232,7 +231,7 @@ module _ (e s r stood m : ℕ) (index : List ℕ) (c : Coding) (laws : CodingLaw
     fits : Fits v (enters_answer s q l us)
     fits = subst (Fits v) decided (decision-leaves (indexes-find index stood) v s low I.high root-low I.last-in w).0
 
-    cells-after : (h' : Head) × (header_of z (change z cs h (enters_answer s q l us)) ≡ header.Sound h') × Alike (view_of z (change z cs h (enters_answer s q l us)) h') (changed_view v (enters_answer s q l us))
+    cells-after : (h' : Head) × (header_of z (change z cs h (enters_answer s q l us)) ≡ Ok h') × Alike (view_of z (change z cs h (enters_answer s q l us)) h') (changed_view v (enters_answer s q l us))
     cells-after = cells-change z (sizes-wide e) cs h (enters_answer s q l us) I.header-sound fits
 
     abbrev v₁ : View
@@ -337,7 +336,7 @@ unfolding reply
 shape-enters (refusing r) v room after n e = let y : ◌≡◌ {A = ℕ} 0 1 = cc in absurd (omega arith)
 shape-enters (entering ws) v room after n e = (ws, refl)
 
-step-reply : (find : Finding) (cs : List ℕ) (h : Head) (q : Request) → space_header cs ≡ header.Sound h
+step-reply : (find : Finding) (cs : List ℕ) (h : Head) (q : Request) → space_header cs ≡ Ok h
     → (let v = view_of (sizes_of h.edition) cs h in let d = decide_by find (coding_of h.edition) v q in
     (space_step_by find cs q).reply ≡ reply v d (length (lent q)) (used_answers (change_by find (sizes_of h.edition) cs h d)))
 unfolding space_step_by under_any_by under_by
@@ -468,12 +467,12 @@ unfolding AllKept
 kept_of index stood s r v R [] none = tt
 kept_of index stood s r v R (w ∷ ws) (one k ks) = (((v.node k.leaf).link, held-says index stood s r v R w k), kept_of index stood s r v R ws ks)
 
-step-state : (find : Finding) (cs : List ℕ) (h : Head) (q : Request) (s : ℕ) (ws : List Word) → space_header cs ≡ header.Sound h
+step-state : (find : Finding) (cs : List ℕ) (h : Head) (q : Request) (s : ℕ) (ws : List Word) → space_header cs ≡ Ok h
     → decide_by find (coding_of h.edition) (view_of (sizes_of h.edition) cs h) q ≡ enters_answers s ws → (space_step_by find cs q).state ≡ forms_given_by find (sizes_of h.edition) cs s ws
 unfolding space_step_by under_any_by under_by change_by
 step-state find cs h q s ws i d = rw (i, d)
 
-module _ (cs index : List ℕ) (h : Head) (f g : ℕ) (ps : List ℕ) (s : ℕ) (ks : List ℕ) (ws : List Word) (i : space_header cs ≡ header.Sound h)
+module _ (cs index : List ℕ) (h : Head) (f g : ℕ) (ps : List ℕ) (s : ℕ) (ks : List ℕ) (ws : List Word) (i : space_header cs ≡ Ok h)
     (d : decide_by (search_indexed index h.nodes) (coding_of h.edition) (view_of (sizes_of h.edition) cs h) (join f g ps s ks) ≡ enters_answers s ws) where
   abbrev given : View
   given = view_of (sizes_of h.edition) cs h
@@ -494,7 +493,7 @@ module _ (cs index : List ℕ) (h : Head) (f g : ℕ) (ps : List ℕ) (s : ℕ) 
   R₀ = let b = both_true _ _ parts.1 in record { root_is = refl; root_in = bounds.root_below; root-sound = b.0; root-own = eqb-true _ _ b.1; few = omega arith }
 
   abbrev After₀ : Type 0
-  After₀ = (h' : Head) × (space_header (forms_given_by (search_indexed index h.nodes) (sizes_of h.edition) cs s ws) ≡ header.Sound h')
+  After₀ = (h' : Head) × (space_header (forms_given_by (search_indexed index h.nodes) (sizes_of h.edition) cs s ws) ≡ Ok h')
       × AllKept (search_indexed index h.nodes) (view_of (sizes_of h.edition) (forms_given_by (search_indexed index h.nodes) (sizes_of h.edition) cs s ws) h') s ws
 
   kept-some : ((given.subgoal s).variables ≡ 0 → ⊥) → After₀
@@ -532,7 +531,7 @@ module _ (cs index : List ℕ) (h : Head) (f g : ℕ) (ps : List ℕ) (s : ℕ) 
   abbrev way : Finding
   way = search_indexed index h.nodes
 
-  held_all : (us : List Word) (ds : List ℕ) (k : Head) → header_of (sizes_of h.edition) ds ≡ header.Sound k → Rooted index h.nodes s root (view_of (sizes_of h.edition) ds k)
+  held_all : (us : List Word) (ds : List ℕ) (k : Head) → header_of (sizes_of h.edition) ds ≡ Ok k → Rooted index h.nodes s root (view_of (sizes_of h.edition) ds k)
       → Each (HeldAt index h.nodes s root (view_of (sizes_of h.edition) ds k)) us → forms_given_by way (sizes_of h.edition) ds s us ≡ ds
   unfolding forms_given_by form_given_by answer_given
   held_all [] ds k x Q none = refl
@@ -542,10 +541,10 @@ module _ (cs index : List ℕ) (h : Head) (f g : ℕ) (ps : List ℕ) (s : ℕ) 
       ∙ held_all us ds k x Q ys
 
   -- cells in which every form is held
-  settled : (ds : List ℕ) (k : Head) → forms_given_by way (sizes_of h.edition) cs s ws ≡ ds → header_of (sizes_of h.edition) ds ≡ header.Sound k → Rooted index h.nodes s root (view_of (sizes_of h.edition) ds k)
+  settled : (ds : List ℕ) (k : Head) → forms_given_by way (sizes_of h.edition) cs s ws ≡ ds → header_of (sizes_of h.edition) ds ≡ Ok k → Rooted index h.nodes s root (view_of (sizes_of h.edition) ds k)
       → Each (HeldAt index h.nodes s root (view_of (sizes_of h.edition) ds k)) ws → After₀
   settled ds k y x Q all =
-      subst (λ (bs : List ℕ). (h' : Head) × (space_header bs ≡ header.Sound h') × AllKept way (view_of (sizes_of h.edition) bs h') s ws) (sym y)
+      subst (λ (bs : List ℕ). (h' : Head) × (space_header bs ≡ Ok h') × AllKept way (view_of (sizes_of h.edition) bs h') s ws) (sym y)
       (k, (header-any h.edition (space-read cs h i).0 ds k x).0, kept_of index h.nodes s root (view_of (sizes_of h.edition) ds k) Q ws all)
 
   module _ (ground : (given.subgoal s).variables ≡ 0) where
@@ -608,13 +607,13 @@ module _ (cs index : List ℕ) (h : Head) (f g : ℕ) (ps : List ℕ) (s : ℕ) 
       fits₀ : Fits given (enters_empty s)
       fits₀ = subst (Fits given) decided₀ (decision-leaves (indexes-find index h.nodes) given s made.0 made.1 bounds.root_below bounds.last-most []).0
 
-      cells₀ : (h' : Head) × (header_of (sizes_of h.edition) cs₁ ≡ header.Sound h') × Alike (view_of (sizes_of h.edition) cs₁ h') (changed_view given (enters_empty s))
+      cells₀ : (h' : Head) × (header_of (sizes_of h.edition) cs₁ ≡ Ok h') × Alike (view_of (sizes_of h.edition) cs₁ h') (changed_view given (enters_empty s))
       cells₀ = cells-change (sizes_of h.edition) (sizes-wide h.edition) cs h (enters_empty s) (space-read cs h i).1 fits₀
 
       abbrev after₀ : View
       after₀ = view_of (sizes_of h.edition) cs₁ cells₀.0
 
-      given-as₀ : form_given_by way (sizes_of h.edition) cs s [] (header.Sound h) ≡ cs₁
+      given-as₀ : form_given_by way (sizes_of h.edition) cs s [] (Ok h) ≡ cs₁
       unfolding form_given_by
       given-as₀ = sym (given-written search_children (sizes_of h.edition) cs h s [] (walk_to_by way given s [])) ∙ ap (change (sizes_of h.edition) cs h) decided₀
 
@@ -708,6 +707,6 @@ join-keeps-all cs index h f g ps s ks ws i d =
     let same_way : search_indexed index h.nodes ≡ indexed_way index cs = ap (search_indexed index) (header-bounds cs h (sym i)).nodes-cell in
     let d' : decide_by (search_indexed index h.nodes) (coding_of h.edition) (view_of (sizes_of h.edition) cs h) (join f g ps s ks) ≡ enters_answers s ws =
     subst (λ (find : Finding). decide_by find (coding_of h.edition) (view_of (sizes_of h.edition) cs h) (join f g ps s ks) ≡ enters_answers s ws) (sym same_way) d in
-    subst (λ (find : Finding). (h' : Head) × (space_header (space_step_by find cs (join f g ps s ks)).state ≡ header.Sound h') × AllKept find (view_of (sizes_of h.edition) (space_step_by find cs (join f g ps s ks)).state h') s ws) same_way
-    (subst (λ (bs : List ℕ). (h' : Head) × (space_header bs ≡ header.Sound h') × AllKept (search_indexed index h.nodes) (view_of (sizes_of h.edition) bs h') s ws)
+    subst (λ (find : Finding). (h' : Head) × (space_header (space_step_by find cs (join f g ps s ks)).state ≡ Ok h') × AllKept find (view_of (sizes_of h.edition) (space_step_by find cs (join f g ps s ks)).state h') s ws) same_way
+    (subst (λ (bs : List ℕ). (h' : Head) × (space_header bs ≡ Ok h') × AllKept (search_indexed index h.nodes) (view_of (sizes_of h.edition) bs h') s ws)
     (sym (step-state (search_indexed index h.nodes) cs h (join f g ps s ks) s ws i d')) (kept-all cs index h f g ps s ks ws i d'))

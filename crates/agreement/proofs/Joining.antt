@@ -1,4 +1,5 @@
 -- A join: both sides read the same sources, follow one rule, count alike, and enter every form or none.
+use Rattle.std.specs.Prelude.{Ok}
 use mathlib.Core.Path.{◌≡◌, refl, sym, ap, ◌∙◌}
 use mathlib.Core.Bool.{Bool, true, false, true≢false, false≢true}
 use mathlib.Core.List.{List, []}
@@ -22,7 +23,6 @@ use Rattle.plain.proofs.Changes.{Readable, Read, all_read_lem, join-cases}
 use Rattle.space.specs.Layout.{Sizes}
 use Rattle.space.specs.Heading.{header_of}
 use Rattle.space.specs.declared.Head.{Head}
-use Rattle.space.specs.declared.Header.TheVariants as header
 use Rattle.store.specs.Views.{View, view_of}
 use Rattle.store.specs.Decisions as decisions
 use Rattle.store.specs.Decisions.{Decision, says, enters_answers, known, on_chains, side_in, nodes_needed, answers_needed, decide, decide_by}
@@ -42,7 +42,7 @@ side_same : (c : Coding) (laws : CodingLaws c) (t : Table) (v : View) (S : Same 
 unfolding side_in side_of
 side_same c laws t v S s low high = rw (subgoal-state c laws t v S s low high, (S.subgoal s low high).variables)
 
-module _ (z : Sizes) (c : Coding) (cells : Cells z) (laws : CodingLaws c) (t : Table) (cs : List ℕ) (h : Head) (e : header_of z cs ≡ header.Sound h) (S : Same c t (view_of z cs h)) where
+module _ (z : Sizes) (c : Coding) (cells : Cells z) (laws : CodingLaws c) (t : Table) (cs : List ℕ) (h : Head) (e : header_of z cs ≡ Ok h) (S : Same c t (view_of z cs h)) where
   abbrev v : View
   v = view_of z cs h
 

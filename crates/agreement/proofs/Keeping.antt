@@ -1,5 +1,6 @@
 -- On cells that hold a table, a call with a ledger that is true of them is the call without, and what was true of them is true
 -- of what any call leaves.
+use Rattle.std.specs.Prelude.{Ok}
 use Prim.Native.Nat.{ℕ}
 use mathlib.Core.Bool.{true}
 use mathlib.Core.List.{List, [], ◌∷◌, map}
@@ -13,7 +14,6 @@ use Rattle.space.specs.Layout.{sizes_of, node_in}
 use Rattle.space.specs.Heading.{header_of}
 use Rattle.space.specs.Fresh.{fresh_space}
 use Rattle.space.specs.declared.Head.{Head}
-use Rattle.space.specs.declared.Header.TheVariants as header
 use Rattle.trie.specs.Siblings.{Trie}
 use Rattle.trie.specs.Ledger.{Ledger, blank_ledger, caught_up, search_kept, trusted_kept, Complete}
 use Rattle.trie.proofs.LedgerLaws.{blank-complete, caught-again, complete-on, caught-complete, caught-usable, ledger-free, kept-as-chains, trusted-as-chains}
@@ -155,16 +155,16 @@ kept-lived cs l (q ∷ qs) =
 -- after it is the ledger caught up after it, so code may do both
 
 module _ (e : ℕ) (known : known_edition e ≡ true) where
-  nodes-read : (cs : List ℕ) (h : Head) → header_of (sizes_of e) cs ≡ header.Sound h → nodes_of cs ≡ subgoal_trie (view_of (sizes_of e) cs h)
+  nodes-read : (cs : List ℕ) (h : Head) → header_of (sizes_of e) cs ≡ Ok h → nodes_of cs ≡ subgoal_trie (view_of (sizes_of e) cs h)
   unfolding nodes_under
   nodes-read cs h s =
       let a = header-any e known cs h s in
       rw a.0 (ap (λ (i : ℕ). subgoal_trie (view_of (sizes_of i) cs h)) a.1)
 
-  ledger-read : (cs : List ℕ) (h : Head) → header_of (sizes_of e) cs ≡ header.Sound h → (l : Ledger) → ledger_of cs l ≡ caught_up (node_in (sizes_of e) cs) h.nodes l
+  ledger-read : (cs : List ℕ) (h : Head) → header_of (sizes_of e) cs ≡ Ok h → (l : Ledger) → ledger_of cs l ≡ caught_up (node_in (sizes_of e) cs) h.nodes l
   ledger-read cs h s l = ap (λ (t : Trie). caught_up t.at t.nodes l) (nodes-read cs h s)
 
-  pub ledger-again : (cs : List ℕ) (h : Head) (d : Decision) → header_of (sizes_of e) cs ≡ header.Sound h → Fits (view_of (sizes_of e) cs h) d → (l : Ledger)
+  pub ledger-again : (cs : List ℕ) (h : Head) (d : Decision) → header_of (sizes_of e) cs ≡ Ok h → Fits (view_of (sizes_of e) cs h) d → (l : Ledger)
       → ledger_of (change (sizes_of e) cs h d) (ledger_of cs l) ≡ ledger_of (change (sizes_of e) cs h d) l
   ledger-again cs h d s f l =
       let z = sizes_of e in

@@ -1,4 +1,5 @@
 -- One call on cells that hold the table: it answers as the plain table does, and leaves cells that hold the table it leaves.
+use Rattle.std.specs.Prelude.{Ok}
 use mathlib.Core.List.{List}
 use mathlib.Core.Path.{◌≡◌}
 use Prim.Native.Nat.{ℕ}
@@ -9,7 +10,6 @@ use Rattle.plain.specs.Table.{Table, step}
 use Rattle.space.specs.Layout.{Sizes}
 use Rattle.space.specs.Heading.{header_of}
 use Rattle.space.specs.declared.Head.{Head}
-use Rattle.space.specs.declared.Header.TheVariants as header
 use Rattle.store.specs.Views.{View, view_of}
 use Rattle.store.specs.Decisions.{decide}
 use Rattle.agreement.proofs.SameRecords.{Same}
@@ -21,7 +21,7 @@ use Rattle.agreement.proofs.Answering.{answer-agrees}
 use Rattle.agreement.proofs.Holding.{Cells, AnswersAlike, agrees-answers}
 use Rattle.agreement.proofs.Joining.{join-answers}
 
-module _ (z : Sizes) (c : Coding) (cells : Cells z) (laws : CodingLaws c) (t : Table) (cs : List ℕ) (h : Head) (e : header_of z cs ≡ header.Sound h) (S : Same c t (view_of z cs h)) where
+module _ (z : Sizes) (c : Coding) (cells : Cells z) (laws : CodingLaws c) (t : Table) (cs : List ℕ) (h : Head) (e : header_of z cs ≡ Ok h) (S : Same c t (view_of z cs h)) where
   abbrev v : View
   v = view_of z cs h
 

@@ -1,4 +1,6 @@
 -- Demand 3 of every edition, its consequences on the cells, and the marked terms and tables.
+use Rattle.basis.specs.declared.refusals.Refusal.TheVariants as refusal
+use Rattle.std.specs.Prelude.{Err, Ok}
 use Prim.Native.Nat.{ℕ}
 use mathlib.Core.Bool.{true}
 use mathlib.Core.List.{List}
@@ -16,8 +18,6 @@ use Rattle.space.specs.Layout.{Sizes, sizes_of}
 use Rattle.space.specs.Heading.{header_of, space_header}
 use Rattle.space.specs.Fresh.{fresh_answer, fresh_space, fresh_answer_in, fresh_space_in}
 use Rattle.space.specs.declared.Head.{Head}
-use Rattle.space.specs.declared.Header.TheVariants as header
-use Rattle.space.specs.declared.FreshAnswer.TheVariants.{Done, Refused}
 use Rattle.trie.specs.Siblings.{search_children}
 use Rattle.store.specs.Calls.{cell_step, space_step, space_step_by, under_any_by, under_by}
 use Rattle.agreement.proofs.HeaderTests.{header_read}
@@ -44,7 +44,7 @@ agreement z w c laws = lists.agreement z c (cells-hold z w) laws (cell_step z c)
 
 -- a space with a sound header of edition e is one of edition e to the code
 module _ (e : ℕ) (known : known_edition e ≡ true) where
-  pub header-any : (cs : List ℕ) (h : Head) → header_of (sizes_of e) cs ≡ header.Sound h → (space_header cs ≡ header.Sound h) × (h.edition ≡ e)
+  pub header-any : (cs : List ℕ) (h : Head) → header_of (sizes_of e) cs ≡ Ok h → (space_header cs ≡ Ok h) × (h.edition ≡ e)
   unfolding space_header
   header-any cs h s =
       let r = header_read (sizes_of e) cs h s in
@@ -56,12 +56,12 @@ module _ (e : ℕ) (known : known_edition e ≡ true) where
   deciding cs h q s = let k = header-any cs h s in rw (k.0, k.1)
 
 -- fresh takes the editions that there are, and lays the space out by them
-pub fresh_in : (e n f a : ℕ) (s : List ℕ) → fresh_answer_in e n f a s ≡ Done
-    → (known_edition e ≡ true) × (fresh_answer (sizes_of e) n f a s ≡ Done) × (fresh_space_in e n f a s ≡ fresh_space (sizes_of e) n f a s)
+pub fresh_in : (e n f a : ℕ) (s : List ℕ) → fresh_answer_in e n f a s ≡ Ok tt
+    → (known_edition e ≡ true) × (fresh_answer (sizes_of e) n f a s ≡ Ok tt) × (fresh_space_in e n f a s ≡ fresh_space (sizes_of e) n f a s)
 unfolding fresh_answer_in fresh_space_in
 fresh_in e n f a s d = by_cases (known_edition e)
     (λ k. (k, rw k at d, rw k))
-    (λ k. let r : Refused 2 ≡ Done = rw k at d in let x : ◌≡◌ {A = ℕ} 0 1 = cc in absurd (omega arith))
+    (λ k. let r : Err refusal.Fresh ≡ Ok tt = rw k at d in let x : ◌≡◌ {A = ℕ} 0 1 = cc in absurd (omega arith))
 
 pub promise : Promise
 promise e n f a s qs d =

@@ -1,4 +1,5 @@
 -- The check of a whole space on cells: what calls leave passes, and what passes answers as the table that it says.
+use Rattle.std.specs.Prelude.{Err, Ok}
 use Prim.Native.Nat.{ℕ}
 use mathlib.Core.Path.{◌≡◌, refl, sym, ap, ◌∙◌, subst}
 use mathlib.Core.Bool.{true, false≢true}
@@ -11,11 +12,9 @@ use Rattle.plain.specs.Requests.{Request, Result, left}
 use Rattle.plain.specs.Table.{Table, fresh, step}
 use Rattle.plain.proofs.StoredCoding.{coding-laws}
 use Rattle.space.specs.Layout.{Sizes, sizes_of}
-use Rattle.space.specs.Heading.{header_of, space_header}
+use Rattle.space.specs.Heading.{header_of, space_header, Header}
 use Rattle.space.specs.Fresh.{fresh_space}
 use Rattle.space.specs.declared.Head.{Head}
-use Rattle.space.specs.declared.Header.{Header}
-use Rattle.space.specs.declared.Header.TheVariants as header
 use Rattle.store.specs.Views.{View, view_of}
 use Rattle.store.specs.Calls.{cell_step, space_step}
 use Rattle.agreement.specs.Records.{Wide}
@@ -50,14 +49,14 @@ module _ (z : Sizes) (c : Coding) (cells : Cells z) (laws : CodingLaws c) (again
   -- cells that pass hold the records of the table that they say
   whole-held : (cs : List ℕ) (x : Header) → header_of z cs ≡ x → whole_under z c cs x ≡ true → Held (table_under z cs x) cs × Callable (table_under z cs x)
   unfolding whole_under table_under
-  whole-held cs (header.Sound h) e w =
+  whole-held cs (Ok h) e w =
       let v : View = view_of z cs h in
       let r = (header_read z cs h e).within in
       let W = local-facts c v (whole-local c v w) in (
         record { head = h; sound = e; same = whole_same c laws again v W r.some-node r.nodes-within r.subgoals-within r.answers-within },
         whole-callable c laws again v W r.some-node r.nodes-within r.subgoals-within r.answers-within,
       )
-  whole-held cs (header.Refused r) e w = absurd (false≢true w)
+  whole-held cs (Err r) e w = absurd (false≢true w)
 
   pub whole-holds : (cs : List ℕ) → whole_cells z c cs ≡ true → Held (table_cells z cs) cs × Callable (table_cells z cs)
   unfolding whole_cells table_cells
@@ -92,17 +91,17 @@ module _ (e : ℕ) (known : known_edition e ≡ true) where
   cells_in = cells-hold (sizes_of e) (changes.sizes-wide e)
 
   -- with a sound header of edition e the space is judged and read as one of edition e
-  whole_in : (cs : List ℕ) (h : Head) → header_of (sizes_of e) cs ≡ header.Sound h → whole_space cs ≡ whole_cells (sizes_of e) (coding_of e) cs
+  whole_in : (cs : List ℕ) (h : Head) → header_of (sizes_of e) cs ≡ Ok h → whole_space cs ≡ whole_cells (sizes_of e) (coding_of e) cs
   unfolding whole_space whole_any whole_cells
   whole_in cs h s = let k = header-any e known cs h s in
-      rw (k.0, s) (ap (λ (x : ℕ). whole_under (sizes_of x) (coding_of x) cs (header.Sound h)) k.1)
+      rw (k.0, s) (ap (λ (x : ℕ). whole_under (sizes_of x) (coding_of x) cs (Ok h)) k.1)
 
-  table-in : (cs : List ℕ) (h : Head) → header_of (sizes_of e) cs ≡ header.Sound h → table_of cs ≡ table_cells (sizes_of e) cs
+  table-in : (cs : List ℕ) (h : Head) → header_of (sizes_of e) cs ≡ Ok h → table_of cs ≡ table_cells (sizes_of e) cs
   unfolding table_of table_any table_cells
   table-in cs h s = let k = header-any e known cs h s in
-      rw (k.0, s) (ap (λ (x : ℕ). table_under (sizes_of x) cs (header.Sound h)) k.1)
+      rw (k.0, s) (ap (λ (x : ℕ). table_under (sizes_of x) cs (Ok h)) k.1)
 
-  edition-in : (cs : List ℕ) (h : Head) → header_of (sizes_of e) cs ≡ header.Sound h → edition_of cs ≡ e
+  edition-in : (cs : List ℕ) (h : Head) → header_of (sizes_of e) cs ≡ Ok h → edition_of cs ≡ e
   edition-in cs h s = (header_read (sizes_of e) cs h s).headed.edition
 
   pub held-says : (t : Table) (cs : List ℕ) → HeldIn t cs → Callable t → (whole_space cs ≡ true) × (table_of cs ≡ t) × (edition_of cs ≡ e)
@@ -114,12 +113,12 @@ module _ (e : ℕ) (known : known_edition e ≡ true) where
     edition-in cs k.head k.sound,
   )
 
-  space-both : (cs : List ℕ) (h : Head) → header_of (sizes_of e) cs ≡ header.Sound h → whole_space cs ≡ true → HeldIn (table_of cs) cs × Callable (table_of cs)
+  space-both : (cs : List ℕ) (h : Head) → header_of (sizes_of e) cs ≡ Ok h → whole_space cs ≡ true → HeldIn (table_of cs) cs × Callable (table_of cs)
   space-both cs h s w =
       subst (λ (t : Table). HeldIn t cs × Callable t) (sym (table-in cs h s))
       (whole-holds (sizes_of e) (coding_of e) cells_in (coding-laws e) (coding-again e) space_step (deciding e known) cs (sym (whole_in cs h s) ∙ w))
 
-  pub space-holds : (cs : List ℕ) (h : Head) → header_of (sizes_of e) cs ≡ header.Sound h → whole_space cs ≡ true → Holds (sizes_of e) (coding_of e) (table_of cs) cs
+  pub space-holds : (cs : List ℕ) (h : Head) → header_of (sizes_of e) cs ≡ Ok h → whole_space cs ≡ true → Holds (sizes_of e) (coding_of e) (table_of cs) cs
   space-holds cs h s w = (space-both cs h s w).0
 
   left_in : (t : Table) (cs : List ℕ) (qs : List Request) → HeldIn t cs → HeldIn (left (step (coding_of e)) t qs) (left space_step cs qs)
@@ -127,12 +126,12 @@ module _ (e : ℕ) (known : known_edition e ≡ true) where
 
 -- a space that passes names an edition that there is, and its header is sound in it
 abbrev pub KnownSpace : List ℕ → Type 0
-KnownSpace cs = (known_edition (edition_of cs) ≡ true) × ((h : Head) × (header_of (sizes_of (edition_of cs)) cs ≡ header.Sound h))
+KnownSpace cs = (known_edition (edition_of cs) ≡ true) × ((h : Head) × (header_of (sizes_of (edition_of cs)) cs ≡ Ok h))
 
-sound-header : (cs : List ℕ) (x : Header) → whole_any cs x ≡ true → (h : Head) × (x ≡ header.Sound h)
+sound-header : (cs : List ℕ) (x : Header) → whole_any cs x ≡ true → (h : Head) × (x ≡ Ok h)
 unfolding whole_any
-sound-header cs (header.Sound h) w = (h, refl)
-sound-header cs (header.Refused r) w = absurd (false≢true w)
+sound-header cs (Ok h) w = (h, refl)
+sound-header cs (Err r) w = absurd (false≢true w)
 
 pub whole-known : (cs : List ℕ) → whole_space cs ≡ true → KnownSpace cs
 unfolding whole_space space_header

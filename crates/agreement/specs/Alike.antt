@@ -1,11 +1,10 @@
 -- Spaces of two layouts and two codings, or of two editions: the same calls show the same, the nodes used apart, up to
 -- the first refusal by 10 in either (Q-13).
-use Rattle.std.specs.Prelude.{ℕ, List, map, ◌≡◌}
+use Rattle.std.specs.Prelude.{ℕ, List, map, ◌≡◌, Ok}
 use Rattle.plain.specs.Requests.{Request, Result, trace}
 use Rattle.plain.specs.Alike.{up_to_ten}
 use Rattle.space.specs.Layout.{Sizes}
 use Rattle.space.specs.Fresh.{fresh_answer, fresh_space, fresh_answer_in, fresh_space_in}
-use Rattle.space.specs.declared.FreshAnswer.TheVariants.{Done}
 use Rattle.store.specs.Calls.{space_step, counted_cells}
 use Rattle.agreement.specs.History.{Made, History, asked, seen_of}
 
@@ -14,7 +13,7 @@ use Rattle.agreement.specs.History.{Made, History, asked, seen_of}
 abbrev pub CellsAlike : Sizes → (List ℕ → Request → Result (List ℕ))
     → Sizes → (List ℕ → Request → Result (List ℕ)) → Type 0
 CellsAlike z step y other =
-    (n k f a : ℕ) (s r : List ℕ) (qs : List Request) → fresh_answer z n f a s ≡ Done → fresh_answer y k f a r ≡ Done
+    (n k f a : ℕ) (s r : List ℕ) (qs : List Request) → fresh_answer z n f a s ≡ Ok tt → fresh_answer y k f a r ≡ Ok tt
     → (let xs = trace step counted_cells (fresh_space z n f a s) qs in
     let ys = trace other counted_cells (fresh_space y k f a r) qs in
     up_to_ten xs ys ≡ up_to_ten ys xs)
@@ -22,8 +21,8 @@ CellsAlike z step y other =
 -- the calls of the code on spaces of two editions
 abbrev pub EditionsAlike : (e i : ℕ) → Type 0
 EditionsAlike e i =
-    (n k f a : ℕ) (s r : List ℕ) (qs : List Request) → fresh_answer_in e n f a s ≡ Done
-    → fresh_answer_in i k f a r ≡ Done
+    (n k f a : ℕ) (s r : List ℕ) (qs : List Request) → fresh_answer_in e n f a s ≡ Ok tt
+    → fresh_answer_in i k f a r ≡ Ok tt
     → (let xs = trace space_step counted_cells (fresh_space_in e n f a s) qs in
     let ys = trace space_step counted_cells (fresh_space_in i k f a r) qs in
     up_to_ten xs ys ≡ up_to_ten ys xs)
@@ -31,7 +30,7 @@ EditionsAlike e i =
 -- and every two histories of equal lists of calls, each call meeting its contract, alone or with an index of any cells
 abbrev pub HistoriesAlike : (e i : ℕ) → Type 0
 HistoriesAlike e i =
-    (n k f a : ℕ) (s r : List ℕ) (ms ps : List Made) → fresh_answer_in e n f a s ≡ Done
-    → fresh_answer_in i k f a r ≡ Done
+    (n k f a : ℕ) (s r : List ℕ) (ms ps : List Made) → fresh_answer_in e n f a s ≡ Ok tt
+    → fresh_answer_in i k f a r ≡ Ok tt
     → History (fresh_space_in e n f a s) ms → History (fresh_space_in i k f a r) ps → asked ms ≡ asked ps
     → up_to_ten (map seen_of ms) (map seen_of ps) ≡ up_to_ten (map seen_of ps) (map seen_of ms)

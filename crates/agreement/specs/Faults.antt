@@ -2,13 +2,11 @@
 -- then the nodes, the subgoals and the answers by number, each as Whole.antt tests it; then the chains, where the
 -- first answer is named that they leave out.
 use Rattle.std.specs.Prelude.{ℕ, zero, suc, ◌<◌, ◌≤◌, Bool, true, false, ◌||◌, List, [], ◌∷◌, ◌≡◌, eqb, ltb, length}
-use Rattle.std.specs.Prelude.{get_or}
+use Rattle.std.specs.Prelude.{get_or, Err, Ok}
 use Rattle.basis.specs.Choice.{pick}
 use Rattle.plain.specs.Coding.{Coding, coding_of}
 use Rattle.space.specs.Layout.{sizes_of, nodes_cell, subgoals_cell, answers_cell}
-use Rattle.space.specs.Heading.{space_header}
-use Rattle.space.specs.declared.Header.{Header}
-use Rattle.space.specs.declared.Header.TheVariants as header
+use Rattle.space.specs.Heading.{space_header, Header}
 use Rattle.store.specs.Views.{View, view_of}
 use Rattle.agreement.specs.Whole.{node_whole, subgoal_whole, answer_whole, chain, chains, whole_space}
 
@@ -57,8 +55,8 @@ module _ (c : Coding) (v : View) where
 -- ---- on cells
 
 unfoldable pub fault_under : List ℕ → Header → Fault
-fault_under cs (header.Sound h) = fault_in (coding_of h.edition) (view_of (sizes_of h.edition) cs h)
-fault_under cs (header.Refused r) = heading
+fault_under cs (Ok h) = fault_in (coding_of h.edition) (view_of (sizes_of h.edition) cs h)
+fault_under cs (Err r) = heading
 
 unfoldable pub fault_of : List ℕ → Fault
 fault_of cs = fault_under cs (space_header cs)

@@ -1,12 +1,11 @@
 -- What the contracts of the calls come to together: calls made one after another, each meeting its contract, with an
 -- index of any cells or without, show what the plain table shows. A reader of the code needs nothing else of
 -- `space_step`.
-use Rattle.std.specs.Prelude.{ℕ, List, [], ◌∷◌, map, ◌≡◌, true}
+use Rattle.std.specs.Prelude.{ℕ, List, [], ◌∷◌, map, ◌≡◌, true, Ok}
 use Rattle.plain.specs.Requests.{Request, Reply, Seen}
 use Rattle.plain.specs.Coding.{coding_of}
 use Rattle.plain.specs.Table.{table_trace, edition_trace}
 use Rattle.space.specs.Fresh.{fresh_answer_in, fresh_space_in}
-use Rattle.space.specs.declared.FreshAnswer.TheVariants.{Done}
 use Rattle.trie.specs.Siblings.{search_children}
 use Rattle.trie.specs.Walks.{Finding}
 use Rattle.store.specs.Calls.{AnswersBy, indexed_way, counted_cells}
@@ -54,7 +53,7 @@ seen_of m = record { reply = m.reply; counted = counted_cells m.after; out = m.o
 -- every history of a space for which fresh answered done, in every edition that fresh takes
 abbrev pub Histories : Type 0
 Histories =
-    (e n f a : ℕ) (s : List ℕ) (ms : List Made) → fresh_answer_in e n f a s ≡ Done
+    (e n f a : ℕ) (s : List ℕ) (ms : List Made) → fresh_answer_in e n f a s ≡ Ok tt
     → History (fresh_space_in e n f a s) ms
     → map seen_of ms ≡ edition_trace e n f a (asked ms)
 

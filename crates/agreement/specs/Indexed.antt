@@ -2,11 +2,10 @@
 -- space that calls leave of a fresh one, and on every space that passes the check, so they answer as the plain table
 -- does. After a build there the lookup alone gives every child of a node that has more than 8, and the search of a call
 -- finds it in as many turns as the lookup takes slots (`TurnsAsSlots`, crates/trie/specs/Turns.antt).
-use Rattle.std.specs.Prelude.{ℕ, ◌<◌, true, List, [], ◌∷◌, map, ◌≡◌}
+use Rattle.std.specs.Prelude.{ℕ, ◌<◌, true, List, [], ◌∷◌, map, ◌≡◌, Ok}
 use Rattle.plain.specs.Requests.{Request, Seen, trace, left}
 use Rattle.plain.specs.Table.{edition_trace}
 use Rattle.space.specs.Fresh.{fresh_answer_in, fresh_space_in}
-use Rattle.space.specs.declared.FreshAnswer.TheVariants.{Done}
 use Rattle.trie.specs.Index.{lookup, enters}
 use Rattle.trie.specs.Turns.{lookup_first}
 use Rattle.store.specs.Calls.{space_step, space_step_by, indexed_step, counted_cells}
@@ -22,7 +21,7 @@ space_after e n f a s qs = left space_step (fresh_space_in e n f a s) qs
 -- every index gives the call the same reply, the same out and the same cells
 abbrev pub IndexedSame : Type 0
 IndexedSame =
-    (e n f a : ℕ) (s : List ℕ) (qs : List Request) → fresh_answer_in e n f a s ≡ Done
+    (e n f a : ℕ) (s : List ℕ) (qs : List Request) → fresh_answer_in e n f a s ≡ Ok tt
     → (index : List ℕ) (q : Request)
     → indexed_step index (space_after e n f a s qs) q ≡ space_step (space_after e n f a s qs) q
 
@@ -44,7 +43,7 @@ indexed_trace cs (q ∷ qs) =
 -- demand 3 of calls that are each lent any index
 abbrev pub IndexedPromise : Type 0
 IndexedPromise =
-    (e n f a : ℕ) (s : List ℕ) (qs : List Indexed) → fresh_answer_in e n f a s ≡ Done
+    (e n f a : ℕ) (s : List ℕ) (qs : List Indexed) → fresh_answer_in e n f a s ≡ Ok tt
     → indexed_trace (fresh_space_in e n f a s) qs ≡ edition_trace e n f a (requests qs)
 
 -- the same from a space that passes the check, whoever wrote it
@@ -57,7 +56,7 @@ IndexedWhole =
 -- same: the order of the document
 abbrev pub LookupFirstSame : Type 0
 LookupFirstSame =
-    (e n f a : ℕ) (s : List ℕ) (qs : List Request) → fresh_answer_in e n f a s ≡ Done
+    (e n f a : ℕ) (s : List ℕ) (qs : List Request) → fresh_answer_in e n f a s ≡ Ok tt
     → (index : List ℕ) (q : Request)
     → indexed_step index (space_after e n f a s qs) q ≡ space_step_by (lookup_first index) (space_after e n f a s qs) q
 
@@ -86,12 +85,12 @@ FoundAgain cs index =
 
 abbrev pub BuildAnswers : Type 0
 BuildAnswers =
-    (e n f a : ℕ) (s : List ℕ) (qs : List Request) → fresh_answer_in e n f a s ≡ Done
+    (e n f a : ℕ) (s : List ℕ) (qs : List Request) → fresh_answer_in e n f a s ≡ Ok tt
     → (index : List ℕ) → Buildable (space_after e n f a s qs) index
 
 abbrev pub BuildFinds : Type 0
 BuildFinds =
-    (e n f a : ℕ) (s : List ℕ) (qs : List Request) → fresh_answer_in e n f a s ≡ Done
+    (e n f a : ℕ) (s : List ℕ) (qs : List Request) → fresh_answer_in e n f a s ≡ Ok tt
     → (index : List ℕ) → FoundAgain (space_after e n f a s qs) index
 
 -- the same of a space that passes the check, whoever wrote it

@@ -2,11 +2,10 @@
 -- what they do without, on every space that calls leave of a fresh one and on every space that passes the check: so
 -- they answer as the plain table does. All that is asked of the ledger is that nothing else wrote it since it was
 -- blank.
-use Rattle.std.specs.Prelude.{ℕ, ◌*◌, ◌≤◌, true, List, [], ◌∷◌, map, ◌≡◌, length}
+use Rattle.std.specs.Prelude.{ℕ, ◌*◌, ◌≤◌, true, List, [], ◌∷◌, map, ◌≡◌, length, Ok}
 use Rattle.plain.specs.Requests.{Request, Reply, Seen, trace}
 use Rattle.plain.specs.Table.{edition_trace}
 use Rattle.space.specs.Fresh.{fresh_answer_in, fresh_space_in}
-use Rattle.space.specs.declared.FreshAnswer.TheVariants.{Done}
 use Rattle.trie.specs.Siblings.{search_children}
 use Rattle.trie.specs.Walks.{Finding}
 use Rattle.trie.specs.Ledger.{Ledger, blank_ledger, ledger_capacity, usable, search_kept, trusted_kept, zeros, Complete}
@@ -31,7 +30,7 @@ pub record SameKept (cs : List ℕ) (k : Ledger) (q : Request) : Type 0 where
 
 abbrev pub KeptSame : Type 0
 KeptSame =
-    (e n f a : ℕ) (s : List ℕ) (qs : List Request) → fresh_answer_in e n f a s ≡ Done
+    (e n f a : ℕ) (s : List ℕ) (qs : List Request) → fresh_answer_in e n f a s ≡ Ok tt
     → (k : Ledger) → TrueOf (space_after e n f a s qs) k → (q : Request) → SameKept (space_after e n f a s qs) k q
 
 -- the same on a space that passes the check, whoever wrote it
@@ -51,7 +50,7 @@ pub record ShortKept (cs : List ℕ) (k : Ledger) : Type 0 where
 
 abbrev pub KeptShort : Type 0
 KeptShort =
-    (e n f a : ℕ) (s : List ℕ) (qs : List Request) → fresh_answer_in e n f a s ≡ Done
+    (e n f a : ℕ) (s : List ℕ) (qs : List Request) → fresh_answer_in e n f a s ≡ Ok tt
     → (k : Ledger) → TrueOf (space_after e n f a s qs) k → ShortKept (space_after e n f a s qs) k
 
 -- ---- calls one after another
@@ -109,7 +108,7 @@ seen_kept m = record { reply = m.reply; counted = counted_cells m.after; out = m
 -- demand 3: every history of a space for which fresh answered done, beside a ledger that was blank, of any size
 abbrev pub KeptHistories : Type 0
 KeptHistories =
-    (e n f a : ℕ) (s : List ℕ) (lasts slots : ℕ) (ms : List KeptMade) → fresh_answer_in e n f a s ≡ Done
+    (e n f a : ℕ) (s : List ℕ) (lasts slots : ℕ) (ms : List KeptMade) → fresh_answer_in e n f a s ≡ Ok tt
     → KeptHistory (fresh_space_in e n f a s) (blank_ledger lasts slots) ms
     → map seen_kept ms ≡ edition_trace e n f a (asked_kept ms)
 

@@ -1,5 +1,5 @@
 -- Demand 3: from a fresh space every list of calls answers as the plain table does.
-use Rattle.std.specs.Prelude.{ℕ, List, ◌≡◌}
+use Rattle.std.specs.Prelude.{ℕ, List, ◌≡◌, Ok}
 use Rattle.forms.specs.Marked.{MarkedTerms, MarkedWide}
 use Rattle.plain.specs.Examples.{MarkedTables}
 use Rattle.plain.specs.Coding.{Coding}
@@ -7,7 +7,6 @@ use Rattle.plain.specs.Requests.{Request, Result, trace}
 use Rattle.plain.specs.Table.{fresh, table_trace, edition_trace}
 use Rattle.space.specs.Layout.{Sizes}
 use Rattle.space.specs.Fresh.{fresh_answer, fresh_space, fresh_answer_in, fresh_space_in}
-use Rattle.space.specs.declared.FreshAnswer.TheVariants.{Done}
 use Rattle.store.specs.Calls.{cell_step, space_step, counted_cells}
 
 -- A library keeps the promise: for every N, F and A, every content of a space for which fresh answers done, and every
@@ -15,7 +14,7 @@ use Rattle.store.specs.Calls.{cell_step, space_step, counted_cells}
 -- with its need), the same three counts and the same cells of out as on the plain table.
 abbrev pub Kept : Sizes → Coding → (List ℕ → Request → Result (List ℕ)) → Type 0
 Kept z c step =
-    (n f a : ℕ) (s : List ℕ) (qs : List Request) → fresh_answer z n f a s ≡ Done
+    (n f a : ℕ) (s : List ℕ) (qs : List Request) → fresh_answer z n f a s ≡ Ok tt
     → trace step counted_cells (fresh_space z n f a s) qs ≡ table_trace c (fresh n f a) qs
 
 -- the calls on the cells of one edition
@@ -25,7 +24,7 @@ Agreement z c = Kept z c (cell_step z c)
 -- a library keeps it in every edition that fresh takes
 abbrev pub KeptIn : (List ℕ → Request → Result (List ℕ)) → Type 0
 KeptIn step =
-    (e n f a : ℕ) (s : List ℕ) (qs : List Request) → fresh_answer_in e n f a s ≡ Done
+    (e n f a : ℕ) (s : List ℕ) (qs : List Request) → fresh_answer_in e n f a s ≡ Ok tt
     → trace step counted_cells (fresh_space_in e n f a s) qs ≡ edition_trace e n f a qs
 
 -- the calls of the code do

@@ -1,7 +1,7 @@
 -- A check of a whole space: whether its records are those of some table, and which. What a call judges is what it
 -- reads; this reads all.
 use Rattle.std.specs.Prelude.{ℕ, zero, suc, ◌+◌, ◌-◌, Bool, true, false, not, ◌&&◌, ◌||◌, List, [], ◌∷◌, ◌++◌, ◌≡◌, eqb}
-use Rattle.std.specs.Prelude.{leb, ltb, length, get_or}
+use Rattle.std.specs.Prelude.{leb, ltb, length, get_or, Err, Ok}
 use Rattle.basis.specs.Choice.{pick}
 use Rattle.forms.specs.Numbering.{met}
 use Rattle.plain.specs.Words.{Word}
@@ -9,12 +9,9 @@ use Rattle.plain.specs.Coding.{Coding, accepted, predicate, coding_of}
 use Rattle.plain.specs.Requests.{Request, Result, trace, left}
 use Rattle.plain.specs.Table.{Table, Subgoal, Answer, fresh, step, table_trace}
 use Rattle.space.specs.Layout.{Sizes, sizes_of}
-use Rattle.space.specs.Heading.{header_of, space_header}
+use Rattle.space.specs.Heading.{header_of, space_header, Header}
 use Rattle.space.specs.Fresh.{fresh_answer, fresh_space, fresh_answer_in, fresh_space_in}
-use Rattle.space.specs.declared.Header.{Header}
 use Rattle.space.specs.declared.Node.{Node}
-use Rattle.space.specs.declared.Header.TheVariants as header
-use Rattle.space.specs.declared.FreshAnswer.TheVariants.{Done}
 use Rattle.trie.specs.Siblings.{Trie, sound, search_children}
 use Rattle.trie.specs.declared.Search.{Search}
 use Rattle.trie.specs.declared.Search.TheVariants.{Found, Last, Damaged}
@@ -192,8 +189,8 @@ module _ (c : Coding) (v : View) where
 -- ---- on cells
 
 unfoldable pub whole_under : Sizes → Coding → List ℕ → Header → Bool
-whole_under z c cs (header.Sound h) = whole_view c (view_of z cs h)
-whole_under z c cs (header.Refused r) = false
+whole_under z c cs (Ok h) = whole_view c (view_of z cs h)
+whole_under z c cs (Err r) = false
 
 -- of a space of one edition
 unfoldable pub whole_cells : Sizes → Coding → List ℕ → Bool
@@ -201,23 +198,23 @@ whole_cells z c cs = whole_under z c cs (header_of z cs)
 
 -- of a space of any edition: the one that its header names
 unfoldable pub whole_any : List ℕ → Header → Bool
-whole_any cs (header.Sound h) = whole_under (sizes_of h.edition) (coding_of h.edition) cs (header.Sound h)
-whole_any cs (header.Refused r) = false
+whole_any cs (Ok h) = whole_under (sizes_of h.edition) (coding_of h.edition) cs (Ok h)
+whole_any cs (Err r) = false
 
 unfoldable pub whole_space : List ℕ → Bool
 whole_space cs = whole_any cs (space_header cs)
 
 -- the table that the cells say
 unfoldable pub table_under : Sizes → List ℕ → Header → Table
-table_under z cs (header.Sound h) = table_read (view_of z cs h)
-table_under z cs (header.Refused r) = fresh 0 0 0
+table_under z cs (Ok h) = table_read (view_of z cs h)
+table_under z cs (Err r) = fresh 0 0 0
 
 unfoldable pub table_cells : Sizes → List ℕ → Table
 table_cells z cs = table_under z cs (header_of z cs)
 
 unfoldable pub table_any : List ℕ → Header → Table
-table_any cs (header.Sound h) = table_under (sizes_of h.edition) cs (header.Sound h)
-table_any cs (header.Refused r) = fresh 0 0 0
+table_any cs (Ok h) = table_under (sizes_of h.edition) cs (Ok h)
+table_any cs (Err r) = fresh 0 0 0
 
 unfoldable pub table_of : List ℕ → Table
 table_of cs = table_any cs (space_header cs)
@@ -241,7 +238,7 @@ module _ (z : Sizes) (c : Coding) (library : List ℕ → Request → Result (Li
   -- (a) every space that calls leave of a fresh one passes, and says the table that the same calls leave of a fresh
   -- table
   abbrev pub WholePasses : Type 0
-  WholePasses = (n f a : ℕ) (s : List ℕ) (qs : List Request) → fresh_answer z n f a s ≡ Done
+  WholePasses = (n f a : ℕ) (s : List ℕ) (qs : List Request) → fresh_answer z n f a s ≡ Ok tt
       → (let cs = left library (fresh_space z n f a s) qs in (whole_cells z c cs ≡ true)
       × (table_cells z cs ≡ left (step c) (fresh n f a) qs))
 
@@ -266,7 +263,7 @@ module _ (z : Sizes) (c : Coding) (library : List ℕ → Request → Result (Li
 
 -- of the calls of the code, in every edition: (a) that fresh takes, (b) that the space names; the edition stays
 abbrev pub SpacePasses : Type 0
-SpacePasses = (e n f a : ℕ) (s : List ℕ) (qs : List Request) → fresh_answer_in e n f a s ≡ Done
+SpacePasses = (e n f a : ℕ) (s : List ℕ) (qs : List Request) → fresh_answer_in e n f a s ≡ Ok tt
     → (let cs = left space_step (fresh_space_in e n f a s) qs in
     (whole_space cs ≡ true) × (table_of cs ≡ left (step (coding_of e)) (fresh n f a) qs) × (edition_of cs ≡ e))
 

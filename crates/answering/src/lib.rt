@@ -17,18 +17,18 @@ ghost use Rattle.store.specs.Clauses.{entered_below, answered_from, answered_ter
 ghost use Rattle.store.specs.Replies.{said_answer};
 
 use basis::limits::MOST_CELLS;
-use basis::refusals::{NODES, NUMBER, RECORDS, RECORDS_LEFT, STATE};
+use basis::refusals::Refusal;
 use basis::wide;
 use convert::buffers::{FEW_CELLS, FORM_OF_FEW, FORM_OF_MOST, cells_rung};
 use convert::read_terms;
-use forms::{Reading, refused_by};
+use forms::Form;
 use space::heading::{read_header, write_answer_counts};
 use space::records::{
     node_in, read_answer, read_node, read_subgoal, write_answer, write_first, write_last,
     write_link, write_next, write_state,
 };
-use space::{Answer, AnswerRead, Head, Header, NodeRead, Subgoal, SubgoalRead};
-use store::AnswerAnswer;
+use space::{Answer, Head, Subgoal};
+use store::Entry;
 use trie::Walked;
 use trie::appends::append_path;
 use trie::walks::walk_tokens;
@@ -41,31 +41,31 @@ pub fn last_sound(space: &[u32], h: Head, s: usize, last: usize) -> bool
     if last == 0 {
         return true;
     }
-    let AnswerRead::Sound(y) = read_answer(space, h, last) else {
+    let Some(y) = read_answer(space, h, last) else {
         return false;
     };
     y.subgoal == s && y.next == 0
 }
 
-// The refusal of a new answer that takes so many nodes more; 0 for none. A finished subgoal takes none.
-fn refusal(space: &[u32], h: Head, s: usize, g: Subgoal, more: usize) -> u32
+// Lets in a new answer that takes so many nodes more. A finished subgoal takes none.
+fn admit(space: &[u32], h: Head, s: usize, g: Subgoal, more: usize) -> Result<(), Refusal>
     requires { Held space.now h s g }
     ensures { RefusesNew space.now h s more result }
 {
     if !last_sound(space, h, s, g.last) {
-        return RECORDS;
+        return Err(Refusal::Records);
     }
     if g.state != 0 {
-        return STATE;
+        return Err(Refusal::State);
     }
     let free = h.node_capacity - h.nodes;
     if free < more {
-        return NODES;
+        return Err(Refusal::Nodes);
     }
     if h.answer_capacity <= h.answers {
-        return RECORDS_LEFT;
+        return Err(Refusal::RecordsLeft);
     }
-    0
+    Ok(())
 }
 
 // The new answer a becomes the first of subgoal s, or the next of its last.
@@ -117,18 +117,15 @@ fn enter_answer(space: &mut [u32], h: Head, s: usize, g: Subgoal, leaf: usize, n
 }
 
 // A new answer whose leaf is the answer root: that of no terms. Its subgoal has no variables, and so no other answer.
-fn answer_empty(space: &mut [u32], h: Head, s: usize, g: Subgoal) -> AnswerAnswer
+fn answer_empty(space: &mut [u32], h: Head, s: usize, g: Subgoal) -> Result<Entry, Refusal>
     requires { Held space.old h s g }
     ensures { Does space.old h (λ v. answered_new v s 0 (enters_empty s)) (said_answer result) space.new }
 {
-    let k = refusal(space, h, s, g, 0);
-    if k == 0 {
-        enter_answer(space, h, s, g, g.root, h.nodes);
-        write_state(space, h.subgoal_offset, s, 1, h.edition);
-        let a = h.answers + 1;
-        return AnswerAnswer::New(a as u32);
-    }
-    AnswerAnswer::Refused(k)
+    admit(space, h, s, g, 0)?;
+    enter_answer(space, h, s, g, g.root, h.nodes);
+    write_state(space, h.subgoal_offset, s, 1, h.edition);
+    let a = h.answers + 1;
+    Ok(Entry::New(a as u32))
 }
 
 // A new answer with a node for each token left.
@@ -140,20 +137,17 @@ fn answer_new(
     parent: usize,
     last: usize,
     tokens: &[u32],
-) -> AnswerAnswer
+) -> Result<Entry, Refusal>
     requires held { Held space.old h s g }
     requires parent_lt_nodes { (parent < h.nodes) × (last < h.nodes) }
     ensures { Does space.old h (entered_below s parent last tokens.now) (said_answer result) space.new }
 {
-    let k = refusal(space, h, s, g, tokens.len());
-    if k == 0 {
-        let nodes = h.nodes + tokens.len();
-        append_path(space, h.node_capacity, h.nodes, parent, last, tokens);
-        enter_answer(space, h, s, g, nodes - 1, nodes);
-        let a = h.answers + 1;
-        return AnswerAnswer::New(a as u32);
-    }
-    AnswerAnswer::Refused(k)
+    admit(space, h, s, g, tokens.len())?;
+    let nodes = h.nodes + tokens.len();
+    append_path(space, h.node_capacity, h.nodes, parent, last, tokens);
+    enter_answer(space, h, s, g, nodes - 1, nodes);
+    let a = h.answers + 1;
+    Ok(Entry::New(a as u32))
 }
 
 // The path was found whole at a leaf whose link is a; with no terms that is the answer root.
@@ -165,24 +159,22 @@ fn answer_old(
     tokens: &[u32],
     leaf: usize,
     a: usize,
-) -> AnswerAnswer
+) -> Result<Entry, Refusal>
     requires held { Held space.old h s g }
     requires a_le_answers { a ≤ h.answers }
     ensures { Does space.old h (λ v. answered_old v s tokens.now leaf a) (said_answer result) space.new }
 {
     if a == 0 {
-        if tokens.len() == 0 {
+        if tokens.is_empty() {
             return answer_empty(space, h, s, g);
         }
-        return AnswerAnswer::Refused(RECORDS);
+        return Err(Refusal::Records);
     }
-    let AnswerRead::Sound(y) = read_answer(space, h, a) else {
-        return AnswerAnswer::Refused(RECORDS);
-    };
+    let y = read_answer(space, h, a).ok_or(Refusal::Records)?;
     if y.leaf == leaf {
-        return AnswerAnswer::Old(a as u32);
+        return Ok(Entry::Old(a as u32));
     }
-    AnswerAnswer::Refused(RECORDS)
+    Err(Refusal::Records)
 }
 
 // Terms with this form answer subgoal s. `stood` nodes were there when the call began: all, unless a join has entered
@@ -195,7 +187,7 @@ pub fn answer_at(
     tokens: &[u32],
     index: &[u32],
     stood: usize,
-) -> AnswerAnswer
+) -> Result<Entry, Refusal>
     requires { Held space.old h s g }
     ensures { Does space.old h (answered_from (search_indexed index.now stood) s g.root tokens.now) (said_answer result)
         space.new }
@@ -209,7 +201,7 @@ pub fn answer_at(
             let from = tokens.len() - left;
             answer_new(space, h, s, g, parent, last, &tokens[from..])
         }
-        Walked::Damaged => AnswerAnswer::Refused(RECORDS),
+        Walked::Damaged => Err(Refusal::Records),
     }
 }
 
@@ -219,18 +211,18 @@ fn answer_read(
     h: Head,
     s: usize,
     g: Subgoal,
-    read: Reading,
+    read: Result<Form, Refusal>,
     form: &[u32],
     index: &[u32],
-) -> AnswerAnswer
+) -> Result<Entry, Refusal>
     requires { Held space.old h s g × FormIn form.now read }
     ensures { DoesRead (search_indexed index.now h.nodes) space.old h s g read form.now (said_answer result)
         space.new }
 {
-    let Reading::Form(n, _) = read else {
-        return AnswerAnswer::Refused(refused_by(read));
+    let Ok(size) = read else {
+        return Err(read.unwrap_err());
     };
-    answer_at(space, h, s, g, &form[..n], index, h.nodes)
+    answer_at(space, h, s, g, &form[..size.tokens], index, h.nodes)
 }
 
 // A subgoal is answered. Short terms get short buffers.
@@ -241,7 +233,7 @@ fn answer_terms(
     g: Subgoal,
     terms: &[u32],
     index: &[u32],
-) -> AnswerAnswer
+) -> Result<Entry, Refusal>
     requires { Held space.old h s g }
     ensures { Does space.old h (answered_terms (search_indexed index.now h.nodes) h s g.variables terms.now)
         (said_answer result) space.new }
@@ -259,38 +251,43 @@ fn answer_terms(
 }
 
 // In a space whose header is sound: the number, the subgoal and its answer root.
-fn answer_in(space: &mut [u32], h: Head, s: usize, terms: &[u32], index: &[u32]) -> AnswerAnswer
+fn answer_in(
+    space: &mut [u32],
+    h: Head,
+    s: usize,
+    terms: &[u32],
+    index: &[u32],
+) -> Result<Entry, Refusal>
     requires { Bounds space.old h }
     ensures { AnswersUnder (search_indexed index.now h.nodes) space.old h (request.answer s terms.now)
         (said_answer result) space.new }
 {
     if s == 0 || h.subgoals < s {
-        return AnswerAnswer::Refused(NUMBER);
+        return Err(Refusal::Number);
     }
-    let SubgoalRead::Sound(g) = read_subgoal(space, h, s) else {
-        return AnswerAnswer::Refused(RECORDS);
-    };
-    let NodeRead::Sound(y) = read_node(space, h.nodes, h.answers, g.root) else {
-        return AnswerAnswer::Refused(RECORDS);
-    };
+    let g = read_subgoal(space, h, s).ok_or(Refusal::Records)?;
+    let y = read_node(space, h.nodes, h.answers, g.root).ok_or(Refusal::Records)?;
     if y.parent != g.root {
-        return AnswerAnswer::Refused(RECORDS);
+        return Err(Refusal::Records);
     }
     answer_terms(space, h, s, g, terms, index)
 }
 
 // Enters the answer terms of an open subgoal, or finds them, in a finished one too: one term for each of its variables.
-pub fn answer_indexed(space: &mut [u32], subgoal: u32, terms: &[u32], index: &[u32]) -> AnswerAnswer
+pub fn answer_indexed(
+    space: &mut [u32],
+    subgoal: u32,
+    terms: &[u32],
+    index: &[u32],
+) -> Result<Entry, Refusal>
     ensures { AnswersIndexed index.now space.old (request.answer subgoal terms.now) (said_answer result) [] space.new }
 {
-    match read_header(space) {
-        Header::Refused(r) => AnswerAnswer::Refused(r),
-        Header::Sound(h) => answer_in(space, h, wide(subgoal), terms, index),
-    }
+    let h = read_header(space)?;
+    answer_in(space, h, wide(subgoal), terms, index)
 }
 
 // The same without an index.
-pub fn answer(space: &mut [u32], subgoal: u32, terms: &[u32]) -> AnswerAnswer
+pub fn answer(space: &mut [u32], subgoal: u32, terms: &[u32]) -> Result<Entry, Refusal>
     ensures { Answers space.old (request.answer subgoal terms.now) (said_answer result) [] space.new }
 {
     answer_indexed(space, subgoal, terms, &terms[..0])

@@ -16,7 +16,6 @@ use replies::{
     print_next, print_why,
 };
 use text::fields::{first_number, only_number, read_cells};
-use text::{CellsRead, Numeral};
 
 // A line that means something has at most so many bytes, its newline not counted.
 pub const LONGEST_LINE: usize = 4096;
@@ -30,7 +29,7 @@ pub fn ask_call(line: &[u8], at: usize, space: &mut [u32], text: &mut [u8]) -> u
     ensures { Asks (call_meant line.now at) space.old text.old result text.new space.new }
 {
     let mut cells = [0u32; LINE_CELLS];
-    let CellsRead::Cells(n) = read_cells(line, at, &mut cells) else {
+    let Some(n) = read_cells(line, at, &mut cells) else {
         return print_bad(text);
     };
     let answered = call(space, &cells[..n]);
@@ -42,14 +41,14 @@ pub fn ask_answer(line: &[u8], at: usize, space: &mut [u32], text: &mut [u8]) ->
     requires { AskableCells line.now at text.old }
     ensures { Asks (answer_meant line.now at) space.old text.old result text.new space.new }
 {
-    let Numeral::Value(subgoal, end) = first_number(line, at) else {
+    let Some(subgoal) = first_number(line, at) else {
         return print_bad(text);
     };
     let mut cells = [0u32; LINE_CELLS];
-    let CellsRead::Cells(n) = read_cells(line, end, &mut cells) else {
+    let Some(n) = read_cells(line, subgoal.end, &mut cells) else {
         return print_bad(text);
     };
-    let answered = answer(space, subgoal, &cells[..n]);
+    let answered = answer(space, subgoal.value, &cells[..n]);
     print_answer(answered, text)
 }
 
@@ -58,10 +57,10 @@ pub fn ask_finish(line: &[u8], at: usize, space: &mut [u32], text: &mut [u8]) ->
     requires { Askable line.now at text.old }
     ensures { Asks (finish_meant line.now at) space.old text.old result text.new space.new }
 {
-    let Numeral::Value(subgoal, _) = only_number(line, at) else {
+    let Some(subgoal) = only_number(line, at) else {
         return print_bad(text);
     };
-    let finished = finish(space, subgoal);
+    let finished = finish(space, subgoal.value);
     print_finish(finished, text)
 }
 
@@ -70,13 +69,13 @@ pub fn ask_next(line: &[u8], at: usize, space: &[u32], text: &mut [u8]) -> usize
     requires { Askable line.now at text.old }
     ensures { AsksReading (next_meant line.now at) space.now text.old result text.new }
 {
-    let Numeral::Value(subgoal, end) = first_number(line, at) else {
+    let Some(subgoal) = first_number(line, at) else {
         return print_bad(text);
     };
-    let Numeral::Value(after, _) = only_number(line, end) else {
+    let Some(after) = only_number(line, subgoal.end) else {
         return print_bad(text);
     };
-    let handed = next(space, subgoal, after);
+    let handed = next(space, subgoal.value, after.value);
     print_next(handed, text)
 }
 
@@ -86,10 +85,10 @@ pub fn ask_load(line: &[u8], at: usize, space: &[u32], out: &mut [u32], text: &m
     ensures load_prints { LoadPrints line.now at space.now out.old text.old result text.new }
     ensures out_value { out.new ≡ (load_said line.now at space.now out.old).out }
 {
-    let Numeral::Value(number, _) = only_number(line, at) else {
+    let Some(number) = only_number(line, at) else {
         return print_bad(text);
     };
-    let loaded = load(space, number, out);
+    let loaded = load(space, number.value, out);
     print_cells(loaded, out, text)
 }
 
@@ -105,10 +104,10 @@ pub fn ask_instance(
     ensures instance_prints { InstancePrints line.now at space.now out.old text.old result text.new }
     ensures out_value { out.new ≡ (instance_said line.now at space.now out.old).out }
 {
-    let Numeral::Value(number, _) = only_number(line, at) else {
+    let Some(number) = only_number(line, at) else {
         return print_bad(text);
     };
-    let made = instance(space, number, out);
+    let made = instance(space, number.value, out);
     print_cells(made, out, text)
 }
 
@@ -118,7 +117,7 @@ pub fn ask_why(line: &[u8], at: usize, space: &[u32], text: &mut [u8]) -> usize
     ensures { AsksReading (why_meant line.now at) space.now text.old result text.new }
 {
     let mut cells = [0u32; LINE_CELLS];
-    let CellsRead::Cells(n) = read_cells(line, at, &mut cells) else {
+    let Some(n) = read_cells(line, at, &mut cells) else {
         return print_bad(text);
     };
     let told = why(space, &cells[..n]);

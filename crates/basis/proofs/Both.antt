@@ -1,6 +1,6 @@
 -- What `&&` and `||` give, by the branch that the code takes.
 use mathlib.Core.Bool.{Bool, true, false, ◌&&◌, ◌||◌}
-use mathlib.Core.Path.{◌≡◌, sym, refl, ◌∙◌}
+use mathlib.Core.Path.{◌≡◌, ◌∙◌}
 
 pub both-on : {a b v : Bool} → a ≡ true → v ≡ b → v ≡ (a && b)
 both-on t e = rw t e

@@ -17,20 +17,20 @@ ghost use Rattle.store.specs.Clauses.{called_from};
 ghost use Rattle.store.specs.Replies.{said_state, said_call, said_finish};
 
 use basis::limits::MOST_CELLS;
-use basis::refusals::{NODES, NUMBER, PREDICATE, RECORDS, RECORDS_LEFT};
+use basis::refusals::Refusal;
 use basis::wide;
 use convert::buffers::{FEW_CELLS, FORM_OF_FEW, FORM_OF_MOST, cells_rung};
 use convert::read_terms;
-use forms::{Reading, is_callable, refused_by};
+use forms::is_callable;
 use space::heading::{read_header, write_subgoal_counts};
 use space::records::{node_in, read_subgoal, write_link, write_node, write_state, write_subgoal};
-use space::{Head, Header, Node, Subgoal, SubgoalRead};
-use store::{CallAnswer, FinishAnswer, State};
+use space::{Head, Node, Subgoal};
+use store::{CallAnswer, State};
 use trie::Walked;
 use trie::appends::append_path;
 use trie::walks::walk_tokens;
 
-// What a subgoal's state cell says.
+// What a subgoal's state cell says. No `TryFrom`: a record that was read and judged has no third state.
 fn state_of(x: usize) -> State
     ensures { said_state result ≡ state_of x }
 {
@@ -46,15 +46,15 @@ pub fn call_old(space: &[u32], h: Head, leaf: usize, s: usize) -> CallAnswer
     ensures { says (said_call result) ≡ called_old (view_in space.now h) leaf s }
 {
     if s == 0 {
-        return CallAnswer::Refused(RECORDS);
+        return CallAnswer::Refused(Refusal::Records);
     }
-    let SubgoalRead::Sound(y) = read_subgoal(space, h, s) else {
-        return CallAnswer::Refused(RECORDS);
+    let Some(y) = read_subgoal(space, h, s) else {
+        return CallAnswer::Refused(Refusal::Records);
     };
     if y.leaf == leaf {
         return CallAnswer::Old(s as u32, state_of(y.state));
     }
-    CallAnswer::Refused(RECORDS)
+    CallAnswer::Refused(Refusal::Records)
 }
 
 // The path, its leaf linked to the subgoal, the answer root behind it, the record, the counts.
@@ -102,10 +102,10 @@ fn call_new(
 {
     let free = h.node_capacity - h.nodes;
     if free <= tokens.len() {
-        return CallAnswer::Refused(NODES);
+        return CallAnswer::Refused(Refusal::Nodes);
     }
     if h.subgoal_capacity <= h.subgoals {
-        return CallAnswer::Refused(RECORDS_LEFT);
+        return CallAnswer::Refused(Refusal::RecordsLeft);
     }
     enter_subgoal(space, h, parent, last, tokens, m);
     let s = h.subgoals + 1;
@@ -127,7 +127,7 @@ pub fn call_at(space: &mut [u32], h: Head, tokens: &[u32], m: usize, index: &[u3
             let from = tokens.len() - left;
             call_new(space, h, parent, last, &tokens[from..], m)
         }
-        Walked::Damaged => CallAnswer::Refused(RECORDS),
+        Walked::Damaged => CallAnswer::Refused(Refusal::Records),
     }
 }
 
@@ -146,13 +146,13 @@ fn call_with(
         space.new }
 {
     let read = read_terms(term, 1, vars, form, h.edition);
-    let Reading::Form(n, m) = read else {
-        return CallAnswer::Refused(refused_by(read));
+    let Ok(size) = read else {
+        return CallAnswer::Refused(read.unwrap_err());
     };
     if is_callable(term[0]) {
-        return call_at(space, h, &form[..n], m, index);
+        return call_at(space, h, &form[..size.tokens], size.variables, index);
     }
-    CallAnswer::Refused(PREDICATE)
+    CallAnswer::Refused(Refusal::Predicate)
 }
 
 // Enters the subgoal that a callable term calls, or finds it.
@@ -160,8 +160,8 @@ pub fn call_indexed(space: &mut [u32], term: &[u32], index: &[u32]) -> CallAnswe
     ensures { AnswersIndexed index.now space.old (request.call term.now) (said_call result) [] space.new }
 {
     match read_header(space) {
-        Header::Refused(r) => CallAnswer::Refused(r),
-        Header::Sound(h) => {
+        Err(r) => CallAnswer::Refused(r),
+        Ok(h) => {
             if cells_rung(term.len()) <= FEW_CELLS {
                 let mut vars = [0u32; FEW_CELLS];
                 let mut form = [0u32; FORM_OF_FEW];
@@ -182,26 +182,22 @@ pub fn call(space: &mut [u32], term: &[u32]) -> CallAnswer
 }
 
 // In a space whose header is sound.
-fn finish_in(space: &mut [u32], h: Head, s: usize) -> FinishAnswer
+fn finish_in(space: &mut [u32], h: Head, s: usize) -> Result<(), Refusal>
     requires { Bounds space.old h }
     ensures { AnswersUnder search_children space.old h (request.finish s) (said_finish result) space.new }
 {
     if s == 0 || h.subgoals < s {
-        return FinishAnswer::Refused(NUMBER);
+        return Err(Refusal::Number);
     }
-    let SubgoalRead::Sound(_) = read_subgoal(space, h, s) else {
-        return FinishAnswer::Refused(RECORDS);
-    };
+    read_subgoal(space, h, s).ok_or(Refusal::Records)?;
     write_state(space, h.subgoal_offset, s, 1, h.edition);
-    FinishAnswer::Done
+    Ok(())
 }
 
 // Finishes a subgoal; to finish it again changes nothing.
-pub fn finish(space: &mut [u32], subgoal: u32) -> FinishAnswer
+pub fn finish(space: &mut [u32], subgoal: u32) -> Result<(), Refusal>
     ensures { Answers space.old (request.finish subgoal) (said_finish result) [] space.new }
 {
-    match read_header(space) {
-        Header::Refused(r) => FinishAnswer::Refused(r),
-        Header::Sound(h) => finish_in(space, h, wide(subgoal)),
-    }
+    let h = read_header(space)?;
+    finish_in(space, h, wide(subgoal))
 }

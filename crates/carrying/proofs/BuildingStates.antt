@@ -1,4 +1,5 @@
 -- Then the states, as recorded: the cells hold the table.
+use Rattle.std.specs.Prelude.{Ok}
 use Prim.Native.Nat.{ℕ, zero, suc, ◌+◌, ◌≤◌, ◌<◌}
 use mathlib.Core.Path.{◌≡◌, refl, sym, ap, ◌∙◌, subst}
 use mathlib.Core.List.{List, [], ◌∷◌, ◌++◌, append-nil}
@@ -20,7 +21,6 @@ use Rattle.plain.proofs.ReasonLaws.{lowest-forms}
 use Rattle.space.specs.Layout.{Sizes, subgoal_offset_of}
 use Rattle.space.specs.Fresh.{fresh_answer, fresh_space}
 use Rattle.space.specs.declared.Head.{Head}
-use Rattle.space.specs.declared.FreshAnswer.TheVariants.{Done}
 use Rattle.space.specs.declared.Subgoal.{Subgoal}
 use Rattle.store.specs.Views.{View, view_of}
 use Rattle.store.specs.Calls.{cell_step}
@@ -193,7 +193,7 @@ module _ (z : Sizes) (wide : Wide z) (c : Coding) (laws : CodingLaws c) (again :
           ∙ ap (λ (i : ℕ). with_state (v.subgoal (suc j)) i) y
 
   -- the cells hold the table
-  pub built-holds : (cs : List ℕ) → fresh_answer z u.N u.F u.A cs ≡ Done → Holds z c u (built z u cs)
+  pub built-holds : (cs : List ℕ) → fresh_answer z u.N u.F u.A cs ≡ Ok tt → Holds z c u (built z u cs)
   unfolding built
   built-holds cs d =
       let cells : Cells z = cells-hold z wide in

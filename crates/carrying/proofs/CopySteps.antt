@@ -1,4 +1,5 @@
 -- The loops of the copy: what each turn adds, and that the target holds a table before each.
+use Rattle.std.specs.Prelude.{Ok}
 use Prim.Native.Nat.{ℕ, zero, suc, ◌+◌, ◌≤◌}
 use mathlib.Core.Path.{◌≡◌, refl, sym, ap, ◌∙◌, subst}
 use mathlib.Core.List.{List, [], ◌∷◌, ◌++◌, map, append-nil, append_assoc, map-append}
@@ -14,7 +15,6 @@ use Rattle.plain.proofs.Soundness.{Sound}
 use Rattle.space.specs.Layout.{Sizes, subgoal_offset_of, state_cell}
 use Rattle.space.specs.Heading.{header_of}
 use Rattle.space.specs.Fresh.{fresh_answer, fresh_space}
-use Rattle.space.specs.declared.FreshAnswer.TheVariants.{Done}
 use Rattle.store.specs.Views.{View}
 use Rattle.store.specs.Decisions.{state_of}
 use Rattle.store.specs.Changes.{form_given}
@@ -147,7 +147,7 @@ module _ (z : Sizes) (r : Recoding) (v : View) (n f a : ℕ) (target : List ℕ)
 
   -- ---- before each turn the target holds a table, so its header is sound and counts what has entered
 
-  module _ (wide : Wide z) (c : Coding) (laws : CodingLaws c) (again : ReadingAgain c) (sound : Sound c (carried r n f a (table_read v))) (fresh : fresh_answer z n f a target ≡ Done) where
+  module _ (wide : Wide z) (c : Coding) (laws : CodingLaws c) (again : ReadingAgain c) (sound : Sound c (carried r n f a (table_read v))) (fresh : fresh_answer z n f a target ≡ Ok tt) where
     abbrev u : Table
     u = carried r n f a (table_read v)
 

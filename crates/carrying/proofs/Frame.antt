@@ -1,4 +1,6 @@
 -- A copy leaves every cell past the end of the target.
+use Rattle.basis.specs.declared.refusals.Refusal.TheVariants as refusal
+use Rattle.std.specs.Prelude.{Err, Ok}
 use Prim.Native.Nat.{ℕ, zero, suc, ◌+◌, ◌-◌, ◌≤◌, ◌<◌}
 use mathlib.Core.Path.{◌≡◌, refl, sym, ap, ◌∙◌, subst}
 use mathlib.Core.Bool.{Bool, true, false, ◌&&◌}
@@ -20,9 +22,7 @@ use Rattle.plain.proofs.StoredCoding.{coding-laws}
 use Rattle.plain.proofs.Soundness.{Sound, Fit}
 use Rattle.space.specs.Layout.{Sizes, sizes_of, subgoal_offset_of, end_offset, state_cell}
 use Rattle.space.specs.Heading.{in_range, header_of}
-use Rattle.space.specs.Fresh.{fresh_header, fresh_cells, fresh_fits, fresh_answer, fresh_space}
-use Rattle.space.specs.declared.FreshAnswer.{FreshAnswer}
-use Rattle.space.specs.declared.FreshAnswer.TheVariants.{Done, Refused}
+use Rattle.space.specs.Fresh.{fresh_header, fresh_cells, fresh_fits, fresh_answer, fresh_space, FreshAnswer}
 use Rattle.store.specs.Views.{View, view_of}
 use Rattle.store.specs.Decisions as decisions
 use Rattle.store.specs.Decisions.{answered_at, walk_to}
@@ -110,7 +110,7 @@ dropped ys zero j = let e : 0 + j ≡ j = omega arith in rw e refl
 dropped [] (suc n) j = refl
 dropped (y ∷ ys) (suc n) j = let e : suc n + j ≡ suc (n + j) = omega arith in rw e (dropped ys n j)
 
-fresh-framed : (z : Sizes) (n f a : ℕ) (s : List ℕ) → fresh_answer z n f a s ≡ Done → Framed (end_offset z n f a) s (fresh_space z n f a s)
+fresh-framed : (z : Sizes) (n f a : ℕ) (s : List ℕ) → fresh_answer z n f a s ≡ Ok tt → Framed (end_offset z n f a) s (fresh_space z n f a s)
 unfolding fresh_answer fresh_space fresh_cells
 fresh-framed z n f a s d = by_cases (fresh_fits z n f a s)
     (λ e.
@@ -124,7 +124,7 @@ fresh-framed z n f a s d = by_cases (fresh_fits z n f a s)
       below = λ k h. absurd (omega arith);
       above = λ k h. behind front s end k long h ∙ dropped s end (k - end) ∙ ap (λ (i : ℕ). get_or s i 0) (back end k h);
     }))
-    (λ e. let r : Refused 2 ≡ Done = rw e at d in let x : ◌≡◌ {A = ℕ} 0 1 = cc in absurd (omega arith))
+    (λ e. let r : Err refusal.Fresh ≡ Ok tt = rw e at d in let x : ◌≡◌ {A = ℕ} 0 1 = cc in absurd (omega arith))
   where
     back : (n k : ℕ) → n ≤ k → n + (k - n) ≡ k
     back n k h = omega arith
@@ -132,7 +132,7 @@ fresh-framed z n f a s d = by_cases (fresh_fits z n f a s)
 -- ---- the loops
 
 module _ (z : Sizes) (wide : Wide z) (c : Coding) (laws : CodingLaws c) (again : ReadingAgain c) (r : Recoding) (v : View) (n f a : ℕ) (target : List ℕ)
-    (sound : Sound c (carried r n f a (table_read v))) (fresh : fresh_answer z n f a target ≡ Done) where
+    (sound : Sound c (carried r n f a (table_read v))) (fresh : fresh_answer z n f a target ≡ Ok tt) where
   abbrev u : Table
   u = carried r n f a (table_read v)
 
@@ -204,13 +204,13 @@ module _ (z : Sizes) (wide : Wide z) (c : Coding) (laws : CodingLaws c) (again :
 
 module _ (e d : ℕ) (r : Recoding) (R : Recodes r (arity_of e) (arity_of d)) (alike : stores_pairs e ≡ stores_pairs d) where
   framed-by : (n f a : ℕ) (source target : List ℕ) (x : FreshAnswer) → copy_reply e d r n f a source target ≡ x → Framed (end_offset (sizes_of d) n f a) target (copy_space e d r n f a source target)
-  framed-by n f a source target Done q =
+  framed-by n f a source target (Ok tt) q =
       let w = went e d r R alike n f a source target q in
       let v : View = view_of (sizes_of e) source w.head in
       let k = fresh_in d n f a target w.fresh-done in
       subst (Framed (end_offset (sizes_of d) n f a) target) (sym (went-space e d r R alike n f a source target q w.head w.header-sound))
       (built-framed (sizes_of d) (sizes-wide d) (coding_of d) (coding-laws d) (coding-again d) r v n f a target (went-sound e d r R alike n f a source target w) k.1)
-  framed-by n f a source target (Refused k) q =
+  framed-by n f a source target (Err k) q =
       let s : copy_space e d r n f a source target ≡ target = (copies e d r R alike).refuses n f a k source target q in
       subst (Framed (end_offset (sizes_of d) n f a) target) (sym s) (framed-same (end_offset (sizes_of d) n f a) target)
 

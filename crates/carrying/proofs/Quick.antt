@@ -1,4 +1,6 @@
 -- Every node of a space that passes is on the path of a form, so what holds of all forms' tokens holds of all nodes'.
+use Rattle.space.specs.Heading.{Header}
+use Rattle.std.specs.Prelude.{Ok}
 use Prim.Native.Nat.{ℕ, zero, suc, ◌≤◌, ◌<◌}
 use mathlib.Core.Path.{◌≡◌, refl, sym, ap, ◌∙◌, subst}
 use mathlib.Core.Bool.{true, true≢false, false≢true}
@@ -24,7 +26,6 @@ use Rattle.space.specs.Layout.{sizes_of}
 use Rattle.space.specs.Heading.{header_of}
 use Rattle.space.specs.Fresh.{fresh_answer_in}
 use Rattle.space.specs.declared.Head.{Head}
-use Rattle.space.specs.declared.Header.TheVariants as header
 use Rattle.space.proofs.JudgingLaws.{node-bounds}
 use Rattle.trie.specs.Siblings.{Trie, sound}
 use Rattle.trie.specs.Paths.{Path, none, tokens, below, gather, longest}
@@ -213,12 +214,12 @@ module _ (e d : ℕ) (r : Recoding) (R : Recodes r (arity_of e) (arity_of d)) (a
       let is : edition_of source ≡ e = space-edition source h s ∙ q in
       let k = whole-known source w in
       let known-e = subst (λ (x : ℕ). known_edition x ≡ true) is k.0 in
-      let sound-e : header_of (sizes_of e) source ≡ header.Sound k.1.0 = subst (λ (x : ℕ). header_of (sizes_of x) source ≡ header.Sound k.1.0) is k.1.1 in
+      let sound-e : header_of (sizes_of e) source ≡ Ok k.1.0 = subst (λ (x : ℕ). header_of (sizes_of x) source ≡ Ok k.1.0) is k.1.1 in
       let any = header-any e known-e source k.1.0 sound-e in
       let held = space-holds e known-e source k.1.0 sound-e w in
       let same : held.head ≡ h = header-same _ _ (sym held.sound ∙ sound-e ∙ sym any.0 ∙ s) in
       let S : Same (coding_of e) (table_of source) (view_of (sizes_of e) source h) = subst (λ (y : Head). Same (coding_of e) (table_of source) (view_of (sizes_of e) source y)) same held.same in
       (copies e d r R alike).answers n f a source target w is ∙ ap (where_fresh (fresh_answer_in d n f a target)) (quick-same n f a (table_of source) (view_of (sizes_of e) source h) S)
     where
-      header-same : (x y : Head) → header.Sound x ≡ header.Sound y → x ≡ y
+      header-same : (x y : Head) → ◌≡◌ {A = Header} (Ok x) (Ok y) → x ≡ y
       header-same x y e = cc

@@ -1,4 +1,8 @@
 -- The promises of a copy, proved.
+use Rattle.basis.specs.declared.refusals.Refusal.{Refusal}
+use Rattle.basis.specs.declared.refusals.Refusal.TheVariants as refusal
+use Rattle.space.specs.Fresh.{FreshAnswer}
+use Rattle.std.specs.Prelude.{Err, Ok}
 use Prim.Native.Nat.{ℕ, suc}
 use mathlib.Core.Path.{◌≡◌, refl, sym, ap, ◌∙◌, subst}
 use mathlib.Core.Bool.{Bool, true, false}
@@ -19,13 +23,9 @@ use Rattle.plain.proofs.AfterLaws.{after_cong}
 use Rattle.plain.proofs.StoredCoding.{coding-laws}
 use Rattle.plain.proofs.Soundness.{Sound}
 use Rattle.space.specs.Layout.{sizes_of, end_offset}
-use Rattle.space.specs.Heading.{header_of, space_header}
+use Rattle.space.specs.Heading.{header_of, space_header, Header}
 use Rattle.space.specs.Fresh.{fresh_cells, fresh_fits, fresh_answer, fresh_space, fresh_answer_in, fresh_space_in}
-use Rattle.space.specs.declared.FreshAnswer.{FreshAnswer}
-use Rattle.space.specs.declared.FreshAnswer.TheVariants.{Done, Refused}
 use Rattle.space.specs.declared.Head.{Head}
-use Rattle.space.specs.declared.Header.{Header}
-use Rattle.space.specs.declared.Header.TheVariants as header
 use Rattle.store.specs.Views.{View, view_of}
 use Rattle.store.specs.Calls.{space_step}
 use Rattle.agreement.specs.Whole.{whole_space, table_read, table_under, table_any, table_of, edition_of}
@@ -49,40 +49,40 @@ use Rattle.carrying.proofs.NodeCounts.{nodes-carried}
 use Rattle.carrying.proofs.BuildingStates.{built-holds}
 use Rattle.carrying.proofs.LoadingLaws.{loads-stored, same-loads}
 
-not_done : {k : ℕ} → Refused k ≡ Done → ⊥
+not_done : {k : Refusal} → ◌≡◌ {A = FreshAnswer} (Err k) (Ok tt) → ⊥
 not_done e = let z : ◌≡◌ {A = ℕ} 0 1 = cc in omega arith
 
-picked : (b : Bool) (x : FreshAnswer) (k : ℕ) → pick b x (Refused k) ≡ Done → (b ≡ true) × (x ≡ Done)
+picked : (b : Bool) (x : FreshAnswer) (k : Refusal) → pick b x (Err k) ≡ Ok tt → (b ≡ true) × (x ≡ Ok tt)
 picked true x k e = (refl, e)
 picked false x k e = absurd (not_done e)
 
-freshened : (x y : FreshAnswer) → where_fresh x y ≡ Done → (x ≡ Done) × (y ≡ Done)
-freshened Done y e = (refl, e)
-freshened (Refused k) y e = absurd (not_done e)
+freshened : (x y : FreshAnswer) → where_fresh x y ≡ Ok tt → (x ≡ Ok tt) × (y ≡ Ok tt)
+freshened (Ok tt) y e = (refl, e)
+freshened (Err k) y e = absurd (not_done e)
 
-pub carrying-done : (r : Recoding) (n f a : ℕ) (t : Table) → carrying r n f a t ≡ Done → (takes_table r t ≡ true) × (holdable (carried r n f a t) ≡ true)
+pub carrying-done : (r : Recoding) (n f a : ℕ) (t : Table) → carrying r n f a t ≡ Ok tt → (takes_table r t ≡ true) × (holdable (carried r n f a t) ≡ true)
 unfolding carrying
 carrying-done r n f a t e =
-    let p = picked (takes_table r t) _ 18 e in
-    let q = picked (holdable (carried r n f a t)) Done 19 p.1 in
+    let p = picked (takes_table r t) _ refusal.Functor e in
+    let q = picked (holdable (carried r n f a t)) (Ok tt) refusal.Capacity p.1 in
     (p.0, q.0)
 
 -- the table that the cells say, where the header is sound
-table-says : (source : List ℕ) (h : Head) (e : ℕ) → space_header source ≡ header.Sound h → h.edition ≡ e → table_of source ≡ table_read (view_of (sizes_of e) source h)
+table-says : (source : List ℕ) (h : Head) (e : ℕ) → space_header source ≡ Ok h → h.edition ≡ e → table_of source ≡ table_read (view_of (sizes_of e) source h)
 unfolding table_of table_any table_under
 table-says source h e s q = rw s (ap (λ (x : ℕ). table_read (view_of (sizes_of x) source h)) q)
 
-pub space-edition : (source : List ℕ) (h : Head) → space_header source ≡ header.Sound h → edition_of source ≡ h.edition
+pub space-edition : (source : List ℕ) (h : Head) → space_header source ≡ Ok h → edition_of source ≡ h.edition
 unfolding space_header
 space-edition source h s = by_cases (known_edition (edition_of source))
-    (λ k. let q : header_of (sizes_of (edition_of source)) source ≡ header.Sound h = rw k at s in
+    (λ k. let q : header_of (sizes_of (edition_of source)) source ≡ Ok h = rw k at s in
     let p = header_read (sizes_of (edition_of source)) source h q in
     sym (header-any (edition_of source) k source h q).1)
-    (λ k. let q : header.Refused 1 ≡ header.Sound h = rw k at s in let z : ◌≡◌ {A = ℕ} 0 1 = cc in absurd (omega arith))
+    (λ k. let q : Err refusal.Header ≡ Ok h = rw k at s in let z : ◌≡◌ {A = ℕ} 0 1 = cc in absurd (omega arith))
 
-fits_fresh : (d n f a : ℕ) (s : List ℕ) → fresh_answer (sizes_of d) n f a s ≡ Done → fresh_space (sizes_of d) n f a s ≡ fresh_cells (sizes_of d) n f a s
+fits_fresh : (d n f a : ℕ) (s : List ℕ) → fresh_answer (sizes_of d) n f a s ≡ Ok tt → fresh_space (sizes_of d) n f a s ≡ fresh_cells (sizes_of d) n f a s
 unfolding fresh_answer fresh_space
-fits_fresh d n f a s e = let p = picked (fresh_fits (sizes_of d) n f a s) Done 2 e in rw p.0
+fits_fresh d n f a s e = let p = picked (fresh_fits (sizes_of d) n f a s) (Ok tt) refusal.Fresh e in rw p.0
 
 cells_same : (d n f a : ℕ) (s t : List ℕ) → drop (end_offset (sizes_of d) n f a) s ≡ drop (end_offset (sizes_of d) n f a) t → fresh_cells (sizes_of d) n f a s ≡ fresh_cells (sizes_of d) n f a t
 unfolding fresh_cells
@@ -98,27 +98,27 @@ module _ (e d : ℕ) (r : Recoding) (R : Recodes r (arity_of e) (arity_of d)) (a
 
   pub record Went (n f a : ℕ) (source target : List ℕ) : Type 0 where
     pub head : Head
-    pub header-sound : space_header source ≡ header.Sound head
+    pub header-sound : space_header source ≡ Ok head
     pub edition : head.edition ≡ e
-    pub fresh-done : fresh_answer_in d n f a target ≡ Done
+    pub fresh-done : fresh_answer_in d n f a target ≡ Ok tt
     pub all-load : source_loads (coding_of e) (view_of (sizes_of e) source head) ≡ true
-    pub carries : carrying r n f a (table_read (view_of (sizes_of e) source head)) ≡ Done
+    pub carries : carrying r n f a (table_read (view_of (sizes_of e) source head)) ≡ Ok tt
 
-  went-under : (n f a : ℕ) (source target : List ℕ) (x : Header) → space_header source ≡ x → copy_under e d r n f a source target x ≡ Done → Went n f a source target
+  went-under : (n f a : ℕ) (source target : List ℕ) (x : Header) → space_header source ≡ x → copy_under e d r n f a source target x ≡ Ok tt → Went n f a source target
   unfolding copy_under
-  went-under n f a source target (header.Sound h) s q =
+  went-under n f a source target (Ok h) s q =
       let v : View = view_of (sizes_of e) source h in
-      let p1 = picked (eqb h.edition e) _ 1 q in
+      let p1 = picked (eqb h.edition e) _ refusal.Header q in
       let p2 = freshened (fresh_answer_in d n f a target) _ p1.1 in
-      let p3 = picked (source_loads (coding_of e) v) _ 9 p2.1 in
+      let p3 = picked (source_loads (coding_of e) v) _ refusal.Records p2.1 in
       record { head = h; header-sound = s; edition = eqb-true _ _ p1.0; fresh-done = p2.0; all-load = p3.0; carries = p3.1 }
-  went-under n f a source target (header.Refused k) s q = absurd (not_done q)
+  went-under n f a source target (Err k) s q = absurd (not_done q)
 
   pub went : (n f a : ℕ) (source target : List ℕ) → Copied e d r n f a source target → Went n f a source target
   unfolding copy_reply
   went n f a source target q = went-under n f a source target (space_header source) refl q
 
-  pub went-space : (n f a : ℕ) (source target : List ℕ) → Copied e d r n f a source target → (h : Head) → space_header source ≡ header.Sound h
+  pub went-space : (n f a : ℕ) (source target : List ℕ) → Copied e d r n f a source target → (h : Head) → space_header source ≡ Ok h
       → copy_space e d r n f a source target ≡ built (sizes_of d) (carried r n f a (table_read (view_of (sizes_of e) source h))) target
   unfolding copy_space copy_built
   went-space n f a source target q h s = rw (q, s)
@@ -175,7 +175,7 @@ module _ (e d : ℕ) (r : Recoding) (R : Recodes r (arity_of e) (arity_of d)) (a
   unfolding copy_space
   copy-refused n f a k source target q = rw q
 
-  fresh-same : (n f a : ℕ) (target other : List ℕ) → fresh_answer_in d n f a target ≡ Done → fresh_answer_in d n f a other ≡ Done
+  fresh-same : (n f a : ℕ) (target other : List ℕ) → fresh_answer_in d n f a target ≡ Ok tt → fresh_answer_in d n f a other ≡ Ok tt
       → drop (end_offset (sizes_of d) n f a) target ≡ drop (end_offset (sizes_of d) n f a) other → fresh_space (sizes_of d) n f a target ≡ fresh_space (sizes_of d) n f a other
   fresh-same n f a target other p q h =
       let x = fresh_in d n f a target p in
@@ -198,7 +198,7 @@ module _ (e d : ℕ) (r : Recoding) (R : Recodes r (arity_of e) (arity_of d)) (a
   copy-answers n f a source target w is =
       let k = whole-known source w in
       let known-e : known_edition e ≡ true = subst (λ (x : ℕ). known_edition x ≡ true) is k.0 in
-      let sound-e : header_of (sizes_of e) source ≡ header.Sound k.1.0 = subst (λ (x : ℕ). header_of (sizes_of x) source ≡ header.Sound k.1.0) is k.1.1 in
+      let sound-e : header_of (sizes_of e) source ≡ Ok k.1.0 = subst (λ (x : ℕ). header_of (sizes_of x) source ≡ Ok k.1.0) is k.1.1 in
       let any = header-any e known-e source k.1.0 sound-e in
       let held = space-holds e known-e source k.1.0 sound-e w in
       let v : View = view_of (sizes_of e) source held.head in
@@ -208,7 +208,7 @@ module _ (e d : ℕ) (r : Recoding) (R : Recodes r (arity_of e) (arity_of d)) (a
       let load : source_loads (coding_of e) v' ≡ true = same-loads (coding_of e) (coding-laws e) (table_of source) v' S (sound-stored (coding_of e) (table_of source) S.sound) in
       rw (any.0, eq-eqb _ _ any.1, load, table-says source k.1.0 e any.0 any.1)
     where
-      header-same : (x y : Head) → header.Sound x ≡ header.Sound y → x ≡ y
+      header-same : (x y : Head) → ◌≡◌ {A = Header} (Ok x) (Ok y) → x ≡ y
       header-same x y e = cc
 
   copy-passes : CopyPasses e d r

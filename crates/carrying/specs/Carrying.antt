@@ -1,10 +1,10 @@
 -- A plain table carried over: the same subgoals and answers, by number, with the new payloads and capacities.
-use Rattle.std.specs.Prelude.{ℕ, Bool, true, ◌&&◌, not, List, [], ◌∷◌, map, leb, length}
+use Rattle.basis.specs.declared.refusals.Refusal.TheVariants as refusal
+use Rattle.space.specs.Fresh.{FreshAnswer}
+use Rattle.std.specs.Prelude.{ℕ, Bool, true, ◌&&◌, not, List, [], ◌∷◌, map, leb, length, Err, Ok}
 use Rattle.basis.specs.Choice.{pick}
 use Rattle.plain.specs.Words.{Word, has}
 use Rattle.plain.specs.Table.{Table, Subgoal, Answer, called_forms, nodes}
-use Rattle.space.specs.declared.FreshAnswer.{FreshAnswer}
-use Rattle.space.specs.declared.FreshAnswer.TheVariants.{Done, Refused}
 use Rattle.carrying.specs.Recoding.{Recoding, recoded, takes_word}
 
 abbrev pub carried_subgoal : Recoding → Subgoal → Subgoal
@@ -40,7 +40,9 @@ unfoldable pub holdable : Table → Bool
 holdable t = leb (nodes t) t.N && leb (length t.subgoals) t.F && leb (length t.answers) t.A
 
 unfoldable pub carrying : Recoding → ℕ → ℕ → ℕ → Table → FreshAnswer
-carrying r n f a t = pick (takes_table r t) (pick (holdable (carried r n f a t)) Done (Refused 19)) (Refused 18)
+carrying r n f a t =
+    pick (takes_table r t) (pick (holdable (carried r n f a t)) (Ok tt) (Err refusal.Capacity))
+    (Err refusal.Functor)
 
 -- ---- none alike
 

@@ -3,8 +3,7 @@ use Rattle.std.specs.Prelude.{ℕ, suc, ◌+◌, ◌≡◌, Bool, ◌&&◌, List
 use Rattle.plain.specs.Words.{brings}
 use Rattle.plain.specs.Table.{Subgoal, Answer, called_forms}
 use Rattle.space.specs.Layout.{Sizes, subgoal_offset_of}
-use Rattle.space.specs.Fresh.{fresh_space}
-use Rattle.space.specs.declared.FreshAnswer.{FreshAnswer}
+use Rattle.space.specs.Fresh.{fresh_space, FreshAnswer}
 use Rattle.store.specs.Views.{View}
 use Rattle.agreement.specs.Whole.{up_to, subgoal_read, answer_read, table_read}
 use Rattle.carrying.specs.Recoding.{Recoding}

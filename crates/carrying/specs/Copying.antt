@@ -1,5 +1,6 @@
 -- A space copied into another, on any cells: what the copy answers and what it leaves of the target.
-use Rattle.std.specs.Prelude.{ℕ, suc, Bool, ◌&&◌, List, [], ◌∷◌, eqb, length, set}
+use Rattle.basis.specs.declared.refusals.Refusal.TheVariants as refusal
+use Rattle.std.specs.Prelude.{ℕ, suc, Bool, ◌&&◌, List, [], ◌∷◌, eqb, length, set, Err, Ok}
 use Rattle.basis.specs.Choice.{pick}
 use Rattle.forms.specs.Numbering.{met}
 use Rattle.plain.specs.Words.{Word}
@@ -7,12 +8,8 @@ use Rattle.plain.specs.Coding.{Coding, coding_of, accepted}
 use Rattle.plain.specs.Requests.{State, Open, Finished}
 use Rattle.plain.specs.Table.{Table, Subgoal, Answer}
 use Rattle.space.specs.Layout.{Sizes, sizes_of, subgoal_offset_of, state_cell}
-use Rattle.space.specs.Heading.{header_of, space_header}
-use Rattle.space.specs.Fresh.{fresh_space, fresh_answer_in}
-use Rattle.space.specs.declared.FreshAnswer.{FreshAnswer}
-use Rattle.space.specs.declared.FreshAnswer.TheVariants.{Done, Refused}
-use Rattle.space.specs.declared.Header.{Header}
-use Rattle.space.specs.declared.Header.TheVariants as header
+use Rattle.space.specs.Heading.{header_of, space_header, Header}
+use Rattle.space.specs.Fresh.{fresh_space, fresh_answer_in, FreshAnswer}
 use Rattle.store.specs.Views.{View, view_of}
 use Rattle.store.specs.Decisions.{sound_subgoal, sound_pair, called}
 use Rattle.store.specs.Changes.{form_given, change}
@@ -46,8 +43,8 @@ module _ (c : Coding) (v : View) where
 
 -- a subgoal's form enters as by a call of its term, whatever that comes to
 unfoldable pub subgoal_given : Sizes → List ℕ → Word → ℕ → Header → List ℕ
-subgoal_given z cs w m (header.Sound h) = change z cs h (called (view_of z cs h) (accepted w m))
-subgoal_given z cs w m (header.Refused r) = cs
+subgoal_given z cs w m (Ok h) = change z cs h (called (view_of z cs h) (accepted w m))
+subgoal_given z cs w m (Err r) = cs
 
 -- all subgoals by number, each on the cells as the one before left them
 unfoldable pub subgoals_given : Sizes → List ℕ → List Subgoal → List ℕ
@@ -79,31 +76,31 @@ built z t cs =
 
 -- done or a refusal by 2, from fresh
 abbrev pub where_fresh : FreshAnswer → FreshAnswer → FreshAnswer
-where_fresh Done r = r
-where_fresh (Refused k) r = Refused k
+where_fresh (Ok y) r = r
+where_fresh (Err k) r = Err k
 
 abbrev pub where_done : FreshAnswer → List ℕ → List ℕ → List ℕ
-where_done Done after before = after
-where_done (Refused k) after before = before
+where_done (Ok y) after before = after
+where_done (Err k) after before = before
 
 module _ (e d : ℕ) (r : Recoding) (n f a : ℕ) where
   -- 1 by the header, and where its edition is another; 2; 9; 18; 19
   unfoldable pub copy_under : List ℕ → List ℕ → Header → FreshAnswer
-  copy_under source target (header.Sound h) =
+  copy_under source target (Ok h) =
       let v = view_of (sizes_of e) source h in
       pick (eqb h.edition e)
       (where_fresh (fresh_answer_in d n f a target)
-      (pick (source_loads (coding_of e) v) (carrying r n f a (table_read v)) (Refused 9)))
-      (Refused 1)
-  copy_under source target (header.Refused k) = Refused k
+      (pick (source_loads (coding_of e) v) (carrying r n f a (table_read v)) (Err refusal.Records)))
+      (Err refusal.Header)
+  copy_under source target (Err k) = Err k
 
   unfoldable pub copy_reply : List ℕ → List ℕ → FreshAnswer
   copy_reply source target = copy_under source target (space_header source)
 
   unfoldable pub copy_built : List ℕ → List ℕ → Header → List ℕ
-  copy_built source target (header.Sound h) =
+  copy_built source target (Ok h) =
       built (sizes_of d) (carried r n f a (table_read (view_of (sizes_of e) source h))) target
-  copy_built source target (header.Refused k) = target
+  copy_built source target (Err k) = target
 
   -- the target after it: every cell as it was where the copy is refused
   unfoldable pub copy_space : List ℕ → List ℕ → List ℕ

@@ -1,5 +1,6 @@
 -- The copy on small spaces: what it leaves, each refusal in its place, states as recorded, damage that it passes by.
-use Rattle.std.specs.Prelude.{true, false, List, [], ◌∷◌, ◌≡◌, refl, ℕ, ◌+◌, ◌*◌, set}
+use Rattle.basis.specs.declared.refusals.Refusal.TheVariants as refusal
+use Rattle.std.specs.Prelude.{true, false, List, [], ◌∷◌, ◌≡◌, refl, ℕ, ◌+◌, ◌*◌, set, Err, Ok}
 use Rattle.basis.specs.Editions.{known_edition}
 use Rattle.forms.specs.Cells.{tag, arity_of, callable, shape_of, symbolic, token_of}
 use Rattle.forms.specs.Terms.{pairs, every}
@@ -15,7 +16,6 @@ use Rattle.space.specs.Layout.{subgoal_width, answer_width}
 use Rattle.space.specs.Heading as heading
 use Rattle.space.specs.Heading.{in_range, capacity, counted, header_of, space_header}
 use Rattle.space.specs.Fresh.{fresh_cells, fresh_fits, fresh_answer, fresh_space, fresh_answer_in}
-use Rattle.space.specs.declared.FreshAnswer.TheVariants.{Done, Refused}
 use Rattle.space.specs.Judging.{follows, node_sound, both_or_neither, subgoal_sound, answer_sound}
 use Rattle.trie.specs.Siblings.{search_siblings, search_children}
 use Rattle.trie.specs.Walks.{walk_by, walk_from_by}
@@ -99,29 +99,29 @@ uncalled =
 abbrev pub CopyExamples : Type 0
 CopyExamples =
     -- states are written as they were, also an open ground subgoal that holds its answer
-    (carry_reply 7 2 2 (running (fun 1 1) 1) lent ≡ Done)
+    (carry_reply 7 2 2 (running (fun 1 1) 1) lent ≡ Ok tt)
     × (carry_space 7 2 2 (running (fun 1 1) 1) lent ≡ copied 1)
     × (carry_space 7 2 2 (running (fun 1 1) 0) lent ≡ copied 0)
     × (whole_space (copied 0) ≡ true)
     -- a source of another edition, before a target that is too short, before two alike
-    × (carry_reply 7 2 2 (copied 1) small ≡ Refused 1)
-    × (carry_reply 7 2 2 twice small ≡ Refused 2)
-    × (carry_reply 7 2 2 twice lent ≡ Refused 9)
+    × (carry_reply 7 2 2 (copied 1) small ≡ Err refusal.Header)
+    × (carry_reply 7 2 2 twice small ≡ Err refusal.Fresh)
+    × (carry_reply 7 2 2 twice lent ≡ Err refusal.Records)
     × (carry_space 7 2 2 twice lent ≡ lent)
     -- the largest name, and one more: before a capacity that is too small
-    × (carry_reply 7 2 2 (running (fun 1048575 1) 1) lent ≡ Done)
-    × (carry_reply 6 2 2 (running (fun 1048576 1) 1) lent ≡ Refused 18)
-    × (carry_reply 6 2 2 (running (fun 1 1) 1) lent ≡ Refused 19)
-    × (carry_reply 7 1 2 (running (fun 1 1) 1) lent ≡ Refused 19)
-    × (carry_reply 7 2 1 (running (fun 1 1) 1) lent ≡ Refused 19)
+    × (carry_reply 7 2 2 (running (fun 1048575 1) 1) lent ≡ Ok tt)
+    × (carry_reply 6 2 2 (running (fun 1048576 1) 1) lent ≡ Err refusal.Functor)
+    × (carry_reply 6 2 2 (running (fun 1 1) 1) lent ≡ Err refusal.Capacity)
+    × (carry_reply 7 1 2 (running (fun 1 1) 1) lent ≡ Err refusal.Capacity)
+    × (carry_reply 7 2 1 (running (fun 1 1) 1) lent ≡ Err refusal.Capacity)
     -- damage that is not read does no harm: the copy is whole again
     × (whole_space unchained ≡ false)
     × (carry_space 7 2 2 unchained lent ≡ copied 1)
     -- what no call made is copied too, and fails the check as it did before
-    × (carry_reply 3 1 0 uncalled lent ≡ Done)
+    × (carry_reply 3 1 0 uncalled lent ≡ Ok tt)
     × (whole_space (carry_space 3 1 0 uncalled lent) ≡ false)
     -- a space into other capacities of its own edition
-    × (resize_reply 2 7 2 2 (copied 1) lent ≡ Done)
+    × (resize_reply 2 7 2 2 (copied 1) lent ≡ Ok tt)
     × (resize_space 2 7 2 2 (copied 1) lent ≡ copied 1)
 
 pub examples : CopyExamples

@@ -1,13 +1,13 @@
 -- What a copy promises, for every source, sound or damaged, and every target: afterwards the target answers every list
 -- of calls as the table does that loads from the source, with the new payloads and capacities.
-use Rattle.std.specs.Prelude.{ℕ, ◌≤◌, ◌<◌, ◌≡◌, true, List, map, length, get_or, drop}
+use Rattle.basis.specs.declared.refusals.Refusal.{Refusal}
+use Rattle.std.specs.Prelude.{ℕ, ◌≤◌, ◌<◌, ◌≡◌, true, List, map, length, get_or, drop, Err, Ok}
 use Rattle.forms.specs.Stored.{stores_pairs}
 use Rattle.plain.specs.Coding.{predicate, coding_of}
 use Rattle.plain.specs.Requests.{Request, next, trace, left}
 use Rattle.plain.specs.Table.{Table, fresh, subgoal_at, nodes, step, table_trace}
 use Rattle.space.specs.Layout.{sizes_of, end_offset}
 use Rattle.space.specs.Fresh.{fresh_answer_in, fresh_space_in}
-use Rattle.space.specs.declared.FreshAnswer.TheVariants.{Done, Refused}
 use Rattle.store.specs.Calls.{space_step, counted_cells}
 use Rattle.agreement.specs.Whole.{whole_space, table_of, edition_of}
 use Rattle.agreement.specs.History.{Made, History, asked, seen_of}
@@ -26,7 +26,7 @@ Says d t cs = (whole_space cs ≡ true) × (table_of cs ≡ t) × (edition_of cs
 -- for every source, sound or damaged, every content of the target, and all capacities
 module _ (e d : ℕ) (r : Recoding) where
   abbrev pub Copied : ℕ → ℕ → ℕ → List ℕ → List ℕ → Type 0
-  Copied n f a source target = copy_reply e d r n f a source target ≡ Done
+  Copied n f a source target = copy_reply e d r n f a source target ≡ Ok tt
 
   -- the plain table that is due afterwards
   abbrev pub due : ℕ → ℕ → ℕ → List ℕ → Table
@@ -52,7 +52,7 @@ module _ (e d : ℕ) (r : Recoding) where
 
   -- refused, it leaves the target as it was
   abbrev pub CopyRefused : Type 0
-  CopyRefused = (n f a k : ℕ) (source target : List ℕ) → copy_reply e d r n f a source target ≡ Refused k
+  CopyRefused = (n f a : ℕ) (k : Refusal) (source target : List ℕ) → copy_reply e d r n f a source target ≡ Err k
       → copy_space e d r n f a source target ≡ target
 
   -- what the target held up to its new end has no part in what it holds afterwards
@@ -87,7 +87,7 @@ module _ (e d : ℕ) (r : Recoding) where
 
   -- what calls made of a fresh space is such a source, and says the table that the same calls made
   abbrev pub CopyOfCalls : Type 0
-  CopyOfCalls = (m g b : ℕ) (cs : List ℕ) (qs : List Request) → fresh_answer_in e m g b cs ≡ Done
+  CopyOfCalls = (m g b : ℕ) (cs : List ℕ) (qs : List Request) → fresh_answer_in e m g b cs ≡ Ok tt
       → (n f a : ℕ) (target : List ℕ)
       → (let source = left space_step (fresh_space_in e m g b cs) qs in
       let t = left (step (coding_of e)) (fresh m g b) qs in

@@ -1,4 +1,6 @@
 -- One law for each answer of the function that loads terms.
+use Rattle.forms.specs.Places.{placed}
+use Rattle.std.specs.Prelude.{None, Some}
 use Prim.Native.Nat.{ℕ, suc, zero, ◌*◌, ◌≤◌, ◌<◌}
 use mathlib.Core.List.{List, [], ◌∷◌, ◌++◌, append-nil}
 use mathlib.Core.Bool.{Bool, true, false}
@@ -11,8 +13,6 @@ use lib.Seq.{sets, take_all}
 use lib.Dec.{eqb, leb}
 use borrow.Author.Tests.{eqb-true, eq-eqb, ne_eqb, le-leb, lt-leb, leb-true, leb-false}
 use Rattle.basis.specs.Choice.{pick}
-use Rattle.forms.specs.declared.Step.TheVariants.{Done, Malformed}
-use Rattle.forms.specs.declared.Loading.TheVariants.{Terms, NoForm}
 use Rattle.forms.specs.Cells.{kind, payload, tag, variable, token_of}
 use Rattle.forms.specs.Terms.{Term, pairs, every}
 use Rattle.forms.specs.Numbering.{rank, seen, met, renamed, numbered}
@@ -187,15 +187,15 @@ unordered-numbered cs h e =
 
 module _ (arity : ℕ → ℕ) (m : ℕ) (s : List ℕ) where
   -- what is no legal form
-  none : (LegalParts arity m s → ⊥) → NoForm ≡ loading (compact_stored arity) m s
+  none : (LegalParts arity m s → ⊥) → None ≡ loading (compact_stored arity) m s
   unfolding loading
   none f = go (legal_form arity m s) refl
     where
-      go : (b : Bool) → legal_form arity m s ≡ b → NoForm ≡ pick (legal_form arity m s) (Terms (length (pair_form arity s))) NoForm
+      go : (b : Bool) → legal_form arity m s ≡ b → None ≡ pick (legal_form arity m s) (Some (length (pair_form arity s))) None
       go true e = absurd (f (legal-parts arity m s e))
       go false e = rw e
 
-  pub loading-long : 383 < length s → NoForm ≡ loading (compact_stored arity) m s
+  pub loading-long : 383 < length s → None ≡ loading (compact_stored arity) m s
   loading-long h = none (λ p.
       let w = forms-compact arity m s p.forms in
       let l : length (every pairs (form_terms arity s)) ≤ 256 = unfold pair_form in p.cells in
@@ -215,10 +215,10 @@ module _ (arity : ℕ → ℕ) (m : ℕ) (s : List ℕ) where
       within false q a l = let e : limit ≡ room = g (leb-false 256 limit q) in omega (arith, leb-false 256 limit q, h (omega (arith, leb-false 256 limit q)))
 
   module _ (limit room : ℕ) (h : room < 256 → 2 * length s ≤ room) (g : limit < 256 → limit ≡ room) where
-    pub loading-many : limit < m → NoForm ≡ loading (compact_stored arity) m s
+    pub loading-many : limit < m → None ≡ loading (compact_stored arity) m s
     loading-many l = none (λ p. omega (arith, legal-cells limit room h g p))
 
-    pub loading-malformed : (out out' : List ℕ) → FormsRan arity s limit 0 m 0 out 0 out' Malformed → NoForm ≡ loading (compact_stored arity) m s
+    pub loading-malformed : (out out' : List ℕ) → FormsRan arity s limit 0 m 0 out 0 out' None → None ≡ loading (compact_stored arity) m s
     unfolding form_terms
     loading-malformed out out' (inl l) = none (λ p.
         let w = forms-compact arity m s p.forms in
@@ -226,7 +226,7 @@ module _ (arity : ℕ → ℕ) (m : ℕ) (s : List ℕ) where
         omega (arith, legal-cells limit room h g p, l (omega (arith, w.0)), ap (λ (ts : List Term). length (every pairs ts)) q))
     loading-malformed out out' (inr l) = none (λ p. unordered-numbered s l p.numbers)
 
-  module _ (limit : ℕ) (out out' : List ℕ) (next end known : ℕ) (v : FormsRan arity s limit 0 m 0 out 0 out' (Done next end known)) where
+  module _ (limit : ℕ) (out out' : List ℕ) (next end known : ℕ) (v : FormsRan arity s limit 0 m 0 out 0 out' (Some (placed next end known))) where
     abbrev ts : List Term
     ts = v.0
 
@@ -234,7 +234,7 @@ module _ (arity : ℕ → ℕ) (m : ℕ) (s : List ℕ) where
     unfolding form_terms
     the-terms = ap (λ (l : List ℕ). front (items (token_of arity) l)) v.3.cells ∙ front-every arity ts (drop next s) v.1
 
-    pub loading-left : next < length s → NoForm ≡ loading (compact_stored arity) m s
+    pub loading-left : next < length s → None ≡ loading (compact_stored arity) m s
     loading-left h = none (λ p.
         let w = forms-compact arity m s p.forms in
         let z : form_terms arity (drop next s) ≡ [] = same-length-empty ts (form_terms arity (drop next s)) (sym (ap length the-terms) ∙ w.0 ∙ sym v.2) in
@@ -264,10 +264,10 @@ module _ (arity : ℕ → ℕ) (m : ℕ) (s : List ℕ) where
       pub variables : known ≡ length (met [] s)
       variables = v.3.known ∙ ap (met_in 0) (sym the_form) ∙ (ordered-numbered s order_kept).1
 
-      pub loading-crowded : 32 < known → NoForm ≡ loading (compact_stored arity) m s
+      pub loading-crowded : 32 < known → None ≡ loading (compact_stored arity) m s
       loading-crowded h = none (λ p. omega (arith, p.variables, variables))
 
-      pub loading-terms : known ≤ 32 → limit ≤ 256 → limit ≤ length out → (Terms end ≡ loading (compact_stored arity) m s) × HoldsTerms (compact_stored arity) s out' (Terms end)
+      pub loading-terms : known ≤ 32 → limit ≤ 256 → limit ≤ length out → (Some end ≡ loading (compact_stored arity) m s) × HoldsTerms (compact_stored arity) s out' (Some end)
       unfolding loading
       loading-terms h b k =
           let l : legal_form arity m s ≡ true =

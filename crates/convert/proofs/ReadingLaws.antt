@@ -1,4 +1,9 @@
 -- One law for each answer of the function that reads terms.
+use Rattle.basis.specs.declared.refusals.Refusal.{Refusal}
+use Rattle.basis.specs.Refusals.{number_of}
+use Rattle.basis.specs.declared.refusals.Refusal.TheVariants as refusal
+use Rattle.forms.specs.Places.{placed}
+use Rattle.std.specs.Prelude.{Err, Ok, Some}
 use Prim.Native.Nat.{ℕ, ◌+◌, ◌*◌, ◌≤◌, ◌<◌}
 use mathlib.Core.List.{List, [], ◌∷◌, ◌++◌, map}
 use mathlib.Core.Bool.{Bool, true, false}
@@ -9,14 +14,12 @@ use lib.Seq.{sets, take_all, take_at, sets-eq}
 use lib.Dec.{leb, ltb}
 use borrow.Author.Tests.{eq-eqb, lt-ltb, le-ltb}
 use Rattle.basis.specs.Choice.{pick}
-use Rattle.forms.specs.declared.Step.TheVariants.{Done}
-use Rattle.forms.specs.declared.Reading.TheVariants.{Form, Refusal}
 use Rattle.forms.specs.Cells.{variable, shape_of, tag}
 use Rattle.forms.specs.Terms.{Term, pairs, every, reads, are_terms}
 use Rattle.forms.specs.Numbering.{rank, seen, met, renamed, numbered}
 use Rattle.forms.specs.Compact.{compact, compact_form}
 use Rattle.forms.specs.Stored.{StoredForm, compact_stored}
-use Rattle.forms.specs.Converting.{reading}
+use Rattle.forms.specs.Converting.{reading, formed}
 use Rattle.forms.proofs.ShapeLaws.{pair-cell-of}
 use Rattle.forms.proofs.ReadLaws.{reads-within}
 use Rattle.forms.proofs.NumberingLaws.{In, rank-append, in-seen, in-seen-self}
@@ -30,13 +33,13 @@ use Rattle.pair_reader.proofs.PairSteps.{at_after, at-end}
 
 -- ---- the reader's refusals are small numbers
 
-refusal-tests : (r k w : ℕ) (a b c : Bool) → Refusal r ≡ pick a (Refusal 4) (pick b (pick c (Refusal 5) (Form k w)) (Refusal 3)) → r ≤ 5
-refusal-tests r k w true b c e = let z : r ≡ 4 = cc in omega arith
-refusal-tests r k w false true true e = let z : r ≡ 5 = cc in omega arith
+refusal-tests : (r : Refusal) (k w : ℕ) (a b c : Bool) → Err r ≡ pick a (Err refusal.Length) (pick b (pick c (Err refusal.Variables) (Ok (formed k w))) (Err refusal.Term)) → number_of r ≤ 5
+refusal-tests r k w true b c e = let z : number_of r ≡ 4 = cc in omega arith
+refusal-tests r k w false true true e = let z : number_of r ≡ 5 = cc in omega arith
 refusal-tests r k w false true false e = let z : ◌≡◌ {A = ℕ} 0 1 = cc in absurd (omega arith)
-refusal-tests r k w false false c e = let z : r ≡ 3 = cc in omega arith
+refusal-tests r k w false false c e = let z : number_of r ≡ 3 = cc in omega arith
 
-pub refusal-small : (arity : ℕ → ℕ) (form : StoredForm) (m r : ℕ) (s : List ℕ) → Refusal r ≡ reading arity form m s → r ≤ 5
+pub refusal-small : (arity : ℕ → ℕ) (form : StoredForm) (m : ℕ) (r : Refusal) (s : List ℕ) → Err r ≡ reading arity form m s → number_of r ≤ 5
 unfolding reading
 refusal-small arity form m r s e = refusal-tests r (length (form.form s)) (length (met [] s)) (ltb 256 (length s)) (are_terms arity m s) (ltb 32 (length (met [] s))) e
 
@@ -84,40 +87,40 @@ sets-taken form form₀ F end q l k =
 
 -- what is refused, in any stored form
 module _ (arity : ℕ → ℕ) (stored : StoredForm) (m : ℕ) (s : List ℕ) where
-  pub reading-long : 256 < length s → Refusal 4 ≡ reading arity stored m s
+  pub reading-long : 256 < length s → Err refusal.Length ≡ reading arity stored m s
   unfolding reading
   reading-long h = rw (lt-ltb 256 (length s) h)
 
   module _ (short : length s ≤ 256) where
     -- what is not m terms is 3
-    pub malformed : (are_terms arity m s ≡ true → ⊥) → Refusal 3 ≡ reading arity stored m s
+    pub malformed : (are_terms arity m s ≡ true → ⊥) → Err refusal.Term ≡ reading arity stored m s
     unfolding reading
     malformed f = go (are_terms arity m s) refl
       where
         go : (b : Bool) → are_terms arity m s ≡ b
-            → Refusal 3 ≡ pick (ltb 256 (length s)) (Refusal 4) (pick (are_terms arity m s) (pick (ltb 32 (length (met [] s))) (Refusal 5) (Form (length (stored.form s)) (length (met [] s)))) (Refusal 3))
+            → Err refusal.Term ≡ pick (ltb 256 (length s)) (Err refusal.Length) (pick (are_terms arity m s) (pick (ltb 32 (length (met [] s))) (Err refusal.Variables) (Ok (formed (length (stored.form s)) (length (met [] s))))) (Err refusal.Term))
         go true e = absurd (f e)
         go false e = rw (le-ltb 256 (length s) short, e)
 
-    pub reading-few : length s < m → Refusal 3 ≡ reading arity stored m s
+    pub reading-few : length s < m → Err refusal.Term ≡ reading arity stored m s
     reading-few h = malformed (λ e. let w = terms-pairs arity m s e in omega (arith, every-pairs-least (reads (shape_of arity) s), ap length w.1, w.0))
 
-    pub crowded : are_terms arity m s ≡ true → 32 < length (met [] s) → Refusal 5 ≡ reading arity stored m s
+    pub crowded : are_terms arity m s ≡ true → 32 < length (met [] s) → Err refusal.Variables ≡ reading arity stored m s
     unfolding reading
     crowded e h = rw (le-ltb 256 (length s) short, e, lt-ltb 32 (length (met [] s)) h)
 
-    pub accepted : are_terms arity m s ≡ true → length (met [] s) ≤ 32 → Form (length (stored.form s)) (length (met [] s)) ≡ reading arity stored m s
+    pub accepted : are_terms arity m s ≡ true → length (met [] s) ≤ 32 → Ok (formed (length (stored.form s)) (length (met [] s))) ≡ reading arity stored m s
     unfolding reading
     accepted e h = rw (le-ltb 256 (length s) short, e, le-ltb 32 (length (met [] s)) h)
 
 -- the reader of compact form
 module _ (arity : ℕ → ℕ) (m : ℕ) (s : List ℕ) where
   module _ (short : length s ≤ 256) where
-    pub reading-malformed : length (terms_at arity s 0) < m → Refusal 3 ≡ reading arity (compact_stored arity) m s
+    pub reading-malformed : length (terms_at arity s 0) < m → Err refusal.Term ≡ reading arity (compact_stored arity) m s
     reading-malformed h = malformed arity (compact_stored arity) m s short (λ e. let w = terms-pairs arity m s e in omega (arith, w.0))
 
-    module _ (vars form₀ vars' form : List ℕ) (next end known : ℕ) (v : TermsRan arity s 0 m vars 0 form₀ 0 vars' form (Done next end known)) where
-      pub reading-left : next < length s → Refusal 3 ≡ reading arity (compact_stored arity) m s
+    module _ (vars form₀ vars' form : List ℕ) (next end known : ℕ) (v : TermsRan arity s 0 m vars 0 form₀ 0 vars' form (Some (placed next end known))) where
+      pub reading-left : next < length s → Err refusal.Term ≡ reading arity (compact_stored arity) m s
       reading-left h = malformed arity (compact_stored arity) m s short (λ e.
           let w = terms-pairs arity m s e in
           let t : take m (reads (shape_of arity) s) ≡ reads (shape_of arity) s = take_all m (reads (shape_of arity) s) (omega (arith, w.0)) in
@@ -155,13 +158,13 @@ module _ (arity : ℕ → ℕ) (m : ℕ) (s : List ℕ) where
         form-end : length (compact_form arity s) ≡ end
         form-end = ap length the_form ∙ numbered-length (every compact (reads (shape_of arity) s)) [] ∙ (omega (arith, is-stored.end-at))
 
-        pub reading-crowded : 32 < known → Refusal 5 ≡ reading arity (compact_stored arity) m s
+        pub reading-crowded : 32 < known → Err refusal.Variables ≡ reading arity (compact_stored arity) m s
         unfolding reading
         reading-crowded h =
             let g : 32 < length (met [] s) = omega (arith, variables) in
             rw (le-ltb 256 (length s) short, are-terms, lt-ltb 32 (length (met [] s)) g)
 
-        pub reading-form : known ≤ 32 → 3 * length s ≤ 2 * length form₀ → (Form end known ≡ reading arity (compact_stored arity) m s) × HoldsForm (compact_stored arity) s form (Form end known) × HoldsVariables s vars' (Form end known)
+        pub reading-form : known ≤ 32 → 3 * length s ≤ 2 * length form₀ → (Ok (formed end known) ≡ reading arity (compact_stored arity) m s) × HoldsForm (compact_stored arity) s form (Ok (formed end known)) × HoldsVariables s vars' (Ok (formed end known))
         unfolding reading
         reading-form h k =
             let g : length (met [] s) ≤ 32 = omega (arith, variables) in (

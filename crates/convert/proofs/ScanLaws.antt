@@ -1,5 +1,7 @@
 -- Laws of the scan over cells of pair form: each step, and what it tells of the terms.
-use Prim.Native.Nat.{ℕ, suc, ◌+◌, ◌*◌, ◌-◌, ◌≤◌, ◌<◌}
+use Rattle.basis.specs.declared.refusals.Refusal.TheVariants as refusal
+use Rattle.std.specs.Prelude.{Err, None, Ok, Some}
+use Prim.Native.Nat.{ℕ, suc, ◌+◌, ◌*◌, ◌≤◌, ◌<◌}
 use mathlib.Core.List.{List, [], ◌∷◌, ◌++◌}
 use mathlib.Core.Bool.{true, false}
 use mathlib.Core.Path.{◌≡◌, refl, sym, ap, ◌∙◌, subst}
@@ -11,14 +13,12 @@ use borrow.Author.Tests.{eqb-true, eqb-false, ltb-true, ltb-false}
 use Rattle.basis.proofs.Cases.{by_cases}
 use Rattle.forms.specs.declared.Shape.{Shape}
 use Rattle.forms.specs.declared.Shape.TheVariants.{Symbol, Pair, Illegal}
-use Rattle.forms.specs.declared.Reading.TheVariants.{Form, Refusal}
-use Rattle.forms.specs.declared.Loading.TheVariants.{Terms, NoForm}
 use Rattle.forms.specs.Cells.{shape_of}
 use Rattle.forms.specs.Terms.{reads, are_terms}
 use Rattle.forms.specs.Due.{arguments, due_after, due_of}
 use Rattle.forms.specs.Numbering.{met, numbered}
 use Rattle.forms.specs.Stored.{pair_stored, legal_pairs}
-use Rattle.forms.specs.Converting.{reading, loading}
+use Rattle.forms.specs.Converting.{reading, loading, formed}
 use Rattle.forms.specs.Promises.{Legal}
 use Rattle.forms.proofs.FormLaws.{every-pairs-least}
 use Rattle.forms.proofs.NumberingLaws.{numbered-length, met-length}
@@ -37,16 +37,16 @@ use Rattle.convert.proofs.CopyLaws.{take-grow, copy_step}
 
 -- ---- what is due after a cell
 
-pub behind-some : (due : ℕ) (q : Shape) → (due_past due q ≡ 0 → ⊥) → (q ≡ Illegal → ⊥) × (due_past due q ≡ due_after due (arguments q) + 1)
+pub behind-some : (due : ℕ) (q : Shape) (next : ℕ) → Some next ≡ due_past due q → (q ≡ Illegal → ⊥) × (next ≡ due_after due (arguments q))
 unfolding due_past arguments
-behind-some due (Symbol k) n = ((λ e. let z : ◌≡◌ {A = ℕ} 0 1 = cc in omega arith), refl)
-behind-some due Pair n = ((λ e. let z : ◌≡◌ {A = ℕ} 0 1 = cc in omega arith), refl)
-behind-some due Illegal n = absurd (n refl)
+behind-some due (Symbol k) next e = ((λ e. let z : ◌≡◌ {A = ℕ} 0 1 = cc in omega arith), cc)
+behind-some due Pair next e = ((λ e. let z : ◌≡◌ {A = ℕ} 0 1 = cc in omega arith), cc)
+behind-some due Illegal next e = absurd (let z : ◌≡◌ {A = ℕ} 0 1 = cc in omega arith)
 
-pub behind-none : (due : ℕ) (q : Shape) → due_past due q ≡ 0 → q ≡ Illegal
+pub behind-none : (due : ℕ) (q : Shape) → None ≡ due_past due q → q ≡ Illegal
 unfolding due_past
-behind-none due (Symbol k) e = absurd (omega arith)
-behind-none due Pair e = absurd (omega arith)
+behind-none due (Symbol k) e = absurd (let z : ◌≡◌ {A = ℕ} 0 1 = cc in omega arith)
+behind-none due Pair e = absurd (let z : ◌≡◌ {A = ℕ} 0 1 = cc in omega arith)
 behind-none due Illegal e = refl
 
 module _ (arity : ℕ → ℕ) (m : ℕ) (s : List ℕ) where
@@ -61,16 +61,15 @@ module _ (arity : ℕ → ℕ) (m : ℕ) (s : List ℕ) where
 
   module _ (at due : ℕ) (scan : Scanned arity m s at due) where
     -- a cell more
-    pub scan-next : at < length s → 0 < due → (more : ℕ) → more ≡ due_past due (shape_of arity (get_or s at 0)) → (more ≡ 0 → ⊥) → more ≤ due + 255
-        → Scanned arity m s (at + 1) (more - 1)
+    pub scan-next : at < length s → 0 < due → (next : ℕ) → Some next ≡ due_past due (shape_of arity (get_or s at 0)) → next ≤ due + 254
+        → Scanned arity m s (at + 1) next
     unfolding due_of
-    scan-next h some more e n few =
+    scan-next h some next e few =
         let c : ℕ = get_or s at 0 in
-        let w = behind-some due (shape_of arity c) (λ z. n (e ∙ z)) in
-        let x : more - 1 ≡ due_after due (arguments (shape_of arity c)) = omega (arith, e, w.1) in
+        let w = behind-some due (shape_of arity c) next e in
         record {
           inside = omega arith;
-          sum = x ∙ ap (λ (d : ℕ). due_after d (arguments (shape_of arity c))) scan.sum ∙ sym (due-append arity (take at s) (c ∷ []) m) ∙ ap (due_of arity m) (sym (take-grow s at h));
+          sum = w.1 ∙ ap (λ (d : ℕ). due_after d (arguments (shape_of arity c))) scan.sum ∙ sym (due-append arity (take at s) (c ∷ []) m) ∙ ap (due_of arity m) (sym (take-grow s at h));
           few = omega (arith, scan.few);
           legal = λ k l. last_or k at l (λ z. subst (λ (i : ℕ). shape_of arity (get_or s i 0) ≡ Illegal → ⊥) (sym z) w.0) (scan.legal k);
           earlier = λ k l. last_or k at l (λ z. subst (λ (i : ℕ). 0 < due_of arity m (take i s)) (sym z) (omega (arith, scan.sum))) (scan.earlier k);
@@ -83,7 +82,7 @@ module _ (arity : ℕ → ℕ) (m : ℕ) (s : List ℕ) where
     scan-over h z e = let w = (terms-end arity m s e).1.earlier at h in omega (arith, scan.sum)
 
     -- a cell that stands in no term
-    pub scan-illegal : at < length s → due_past due (shape_of arity (get_or s at 0)) ≡ 0 → are_terms arity m s ≡ true → ⊥
+    pub scan-illegal : at < length s → None ≡ due_past due (shape_of arity (get_or s at 0)) → are_terms arity m s ≡ true → ⊥
     scan-illegal h z e = (terms-end arity m s e).0 at h (behind-none due (shape_of arity (get_or s at 0)) z)
 
     module _ (all : length s ≤ at) where
@@ -109,7 +108,7 @@ module _ (arity : ℕ → ℕ) (m : ℕ) (s : List ℕ) (short : length s ≤ 25
   pub few-cells : length s < m → are_terms arity m s ≡ true → ⊥
   few-cells h e = let w = terms-pairs arity m s e in omega (arith, every-pairs-least (reads (shape_of arity) s), ap length w.1, w.0)
 
-  pub cells-refused : (are_terms arity m s ≡ true → ⊥) → Refusal 3 ≡ reading arity (pair_stored arity) m s
+  pub cells-refused : (are_terms arity m s ≡ true → ⊥) → Err refusal.Term ≡ reading arity (pair_stored arity) m s
   cells-refused f = malformed arity (pair_stored arity) m s short f
 
   module _ (vars form₀ vars' form : List ℕ) (at known : ℕ) (whole : at ≡ length s) (v : Stored (take at s) vars 0 form₀ 0 vars' known form at) (terms : are_terms arity m s ≡ true) where
@@ -119,13 +118,13 @@ module _ (arity : ℕ → ℕ) (m : ℕ) (s : List ℕ) (short : length s ≤ 25
     known_is : known ≡ length (met [] s)
     known_is = v.count_at ∙ ap (λ (l : List ℕ). length (met [] l)) all-cells
 
-    pub cells-crowded : 32 < known → Refusal 5 ≡ reading arity (pair_stored arity) m s
+    pub cells-crowded : 32 < known → Err refusal.Variables ≡ reading arity (pair_stored arity) m s
     cells-crowded h = crowded arity (pair_stored arity) m s short terms (omega (arith, known_is))
 
-    pub cells-form : known ≤ 32 → length s ≤ length form₀ → (n : ℕ) → n ≡ length s → (Form n known ≡ reading arity (pair_stored arity) m s) × HoldsForm (pair_stored arity) s form (Form n known) × HoldsVariables s vars' (Form n known)
+    pub cells-form : known ≤ 32 → length s ≤ length form₀ → (n : ℕ) → n ≡ length s → (Ok (formed n known) ≡ reading arity (pair_stored arity) m s) × HoldsForm (pair_stored arity) s form (Ok (formed n known)) × HoldsVariables s vars' (Ok (formed n known))
     cells-form h room n e =
         let l : length (numbered s) ≡ n = numbered-length s ∙ sym e in (
-          ap (λ (k : ℕ). Form k known) (sym l) ∙ ap (Form (length (numbered s))) known_is ∙ accepted arity (pair_stored arity) m s short terms (omega (arith, known_is)),
+          ap (λ (k : ℕ). Ok (formed k known)) (sym l) ∙ ap (λ (k : ℕ). Ok (formed (length (numbered s)) k)) known_is ∙ accepted arity (pair_stored arity) m s short terms (omega (arith, known_is)),
           sets-taken form form₀ (numbered s) n (v.cells ∙ ap (λ (x : List ℕ). sets form₀ 0 (numbered_from [] x)) all-cells ∙ ap (sets form₀ 0) (sym (numbered-whole s))) l (omega (arith, e)),
           v.known ∙ ap (met []) all-cells,
         )
@@ -178,7 +177,7 @@ count-few s cells₀ at count cells o h = omega (arith, o.known, met-in-most (ta
 
 module _ (arity : ℕ → ℕ) (m : ℕ) (s : List ℕ) where
   -- what is no legal form
-  pub cells-none : (Legal arity m s → s ≡ numbered s → ⊥) → NoForm ≡ loading (pair_stored arity) m s
+  pub cells-none : (Legal arity m s → s ≡ numbered s → ⊥) → None ≡ loading (pair_stored arity) m s
   unfolding loading
   cells-none f = by_cases (legal_pairs arity m s) (λ e. let p = legal-pairs arity m s e in absurd (f p.0 p.1)) (λ e. rw e)
 
@@ -192,11 +191,11 @@ module _ (arity : ℕ → ℕ) (m : ℕ) (s : List ℕ) where
     pub count-is : count ≡ length (met [] s)
     count-is = o.known ∙ ap (met_in 0) all-passed ∙ order_kept.1
 
-    pub load-crowded : 32 < count → NoForm ≡ loading (pair_stored arity) m s
+    pub load-crowded : 32 < count → None ≡ loading (pair_stored arity) m s
     load-crowded h = cells-none (λ l e. omega (arith, l.variables, count-is))
 
     pub load-terms : are_terms arity m s ≡ true → length s ≤ 256 → count ≤ 32 → (n : ℕ) → n ≡ length s
-        → (Terms n ≡ loading (pair_stored arity) m s) × HoldsTerms (pair_stored arity) s cells (Terms n)
+        → (Some n ≡ loading (pair_stored arity) m s) × HoldsTerms (pair_stored arity) s cells (Some n)
     unfolding loading
     load-terms t short few n e =
         let l : legal_pairs arity m s ≡ true = pairs-legal arity m s (record { terms = t; cells = short; variables = omega (arith, count-is) }) order_kept.0 in (
@@ -240,18 +239,18 @@ module _ (arity : ℕ → ℕ) (m : ℕ) (s vars₀ form₀ : List ℕ) (n : ℕ
     short-cells : length s ≤ 256
     short-cells = omega (arith, turn.whole, turn.short)
 
-    pub read-over : at < n → due ≡ 0 → (Refusal 3 ≡ reading arity (pair_stored arity) m s) × HoldsForm (pair_stored arity) s form (Refusal 3) × HoldsVariables s vars (Refusal 3)
+    pub read-over : at < n → due ≡ 0 → (Err refusal.Term ≡ reading arity (pair_stored arity) m s) × HoldsForm (pair_stored arity) s form (Err refusal.Term) × HoldsVariables s vars (Err refusal.Term)
     read-over h z = (cells-refused arity m s short-cells (scan-over arity m s at due turn.scan (omega (arith, turn.whole)) z), tt, tt)
 
-    pub read-illegal : at < n → (more : ℕ) → more ≡ due_past due (shape_of arity (get_or s at 0)) → more ≡ 0 → (Refusal 3 ≡ reading arity (pair_stored arity) m s) × HoldsForm (pair_stored arity) s form (Refusal 3) × HoldsVariables s vars (Refusal 3)
-    read-illegal h more e z = (cells-refused arity m s short-cells (scan-illegal arity m s at due turn.scan (omega (arith, turn.whole)) (sym e ∙ z)), tt, tt)
+    pub read-illegal : at < n → None ≡ due_past due (shape_of arity (get_or s at 0)) → (Err refusal.Term ≡ reading arity (pair_stored arity) m s) × HoldsForm (pair_stored arity) s form (Err refusal.Term) × HoldsVariables s vars (Err refusal.Term)
+    read-illegal h e = (cells-refused arity m s short-cells (scan-illegal arity m s at due turn.scan (omega (arith, turn.whole)) e), tt, tt)
 
-    pub read_next : at < n → 0 < due → (more : ℕ) → more ≡ due_past due (shape_of arity (get_or s at 0)) → (more ≡ 0 → ⊥) → more ≤ due + 255 → m ≤ n
+    pub read_next : at < n → 0 < due → (next : ℕ) → Some next ≡ due_past due (shape_of arity (get_or s at 0)) → next ≤ due + 254 → m ≤ n
         → (vars' : List ℕ) (count' : ℕ) (form' : List ℕ) → Stored (get_or s at 0 ∷ []) vars count form at vars' count' form' (at + 1) → length form' ≡ length form
-        → ReadTurn arity m s vars₀ form₀ n vars' form' (at + 1) (more - 1) count'
-    read_next h some more e nz b mn vars' count' form' st k =
+        → ReadTurn arity m s vars₀ form₀ n vars' form' (at + 1) next count'
+    read_next h some next e b mn vars' count' form' st k =
         let inside : at < length s = omega (arith, turn.whole) in
-        let next : Scanned arity m s (at + 1) (more - 1) = scan-next arity m s at due turn.scan inside some more e nz b in
+        let scan : Scanned arity m s (at + 1) next = scan-next arity m s at due turn.scan inside some next e b in
         let both : Stored (take (at + 1) s) vars₀ 0 form₀ 0 vars' count' form' (at + 1) =
         subst (λ (l : List ℕ). Stored l vars₀ 0 form₀ 0 vars' count' form' (at + 1)) (sym (take-grow s at inside))
         (stored-append (take at s) (get_or s at 0 ∷ []) vars₀ 0 form₀ 0 vars count form at vars' count' form' (at + 1) turn.stored st) in
@@ -259,8 +258,8 @@ module _ (arity : ℕ → ℕ) (m : ℕ) (s vars₀ form₀ : List ℕ) (n : ℕ
           whole = turn.whole;
           short = turn.short;
           within = omega arith;
-          most = omega (arith, next.few, turn.short);
-          scan = next;
+          most = omega (arith, scan.few, turn.short);
+          scan = scan;
           stored = both;
           few = stored-few s vars₀ form₀ vars' form' (at + 1) count' (omega arith) both;
           vars-room = omega (arith, st.kept, turn.vars-room);
@@ -273,14 +272,14 @@ module _ (arity : ℕ → ℕ) (m : ℕ) (s vars₀ form₀ : List ℕ) (n : ℕ
       ended : at ≡ length s
       ended = omega (arith, turn.whole, turn.within)
 
-      pub read_short : 0 < due → (Refusal 3 ≡ reading arity (pair_stored arity) m s) × HoldsForm (pair_stored arity) s form (Refusal 3) × HoldsVariables s vars (Refusal 3)
+      pub read_short : 0 < due → (Err refusal.Term ≡ reading arity (pair_stored arity) m s) × HoldsForm (pair_stored arity) s form (Err refusal.Term) × HoldsVariables s vars (Err refusal.Term)
       read_short l = (cells-refused arity m s short-cells (scan-short arity m s at due turn.scan (omega (arith, ended)) l), tt, tt)
 
-      pub read-crowded : due ≤ 0 → 32 < count → (Refusal 5 ≡ reading arity (pair_stored arity) m s) × HoldsForm (pair_stored arity) s form (Refusal 5) × HoldsVariables s vars (Refusal 5)
+      pub read-crowded : due ≤ 0 → 32 < count → (Err refusal.Variables ≡ reading arity (pair_stored arity) m s) × HoldsForm (pair_stored arity) s form (Err refusal.Variables) × HoldsVariables s vars (Err refusal.Variables)
       read-crowded z h =
           (cells-crowded arity m s short-cells vars₀ form₀ vars form at count ended turn.stored (scan-whole arity m s at due turn.scan (omega (arith, ended)) (omega arith)) h, tt, tt)
 
-      pub read-form : due ≤ 0 → count ≤ 32 → (Form n count ≡ reading arity (pair_stored arity) m s) × HoldsForm (pair_stored arity) s form (Form n count) × HoldsVariables s vars (Form n count)
+      pub read-form : due ≤ 0 → count ≤ 32 → (Ok (formed n count) ≡ reading arity (pair_stored arity) m s) × HoldsForm (pair_stored arity) s form (Ok (formed n count)) × HoldsVariables s vars (Ok (formed n count))
       read-form z h =
           cells-form arity m s short-cells vars₀ form₀ vars form at count ended turn.stored (scan-whole arity m s at due turn.scan (omega (arith, ended)) (omega arith)) h
           (omega (arith, turn.whole, turn.form-room, turn.form-kept)) n turn.whole
@@ -299,7 +298,7 @@ pub record LoadTurn (arity : ℕ → ℕ) (m : ℕ) (s cells₀ : List ℕ) (n :
 
 -- what no legal form leaves
 abbrev pub LoadsNone : (ℕ → ℕ) → ℕ → List ℕ → Type 0
-LoadsNone arity m s = NoForm ≡ loading (pair_stored arity) m s
+LoadsNone arity m s = None ≡ loading (pair_stored arity) m s
 
 pub load-long : (arity : ℕ → ℕ) (m : ℕ) (s : List ℕ) → 256 < length s → LoadsNone arity m s
 load-long arity m s h = cells-none arity m s (λ l e. omega (arith, l.cells))
@@ -325,26 +324,26 @@ module _ (arity : ℕ → ℕ) (m : ℕ) (s cells₀ : List ℕ) (n : ℕ) where
     pub load-over : at < n → due ≡ 0 → LoadsNone arity m s
     load-over h z = cells-none arity m s (λ l e. scan-over arity m s at due turn.scan (omega (arith, turn.whole)) z l.terms)
 
-    pub load-illegal : at < n → (more : ℕ) → more ≡ due_past due (shape_of arity (get_or s at 0)) → more ≡ 0 → LoadsNone arity m s
-    load-illegal h more e z = cells-none arity m s (λ l x. scan-illegal arity m s at due turn.scan (omega (arith, turn.whole)) (sym e ∙ z) l.terms)
+    pub load-illegal : at < n → None ≡ due_past due (shape_of arity (get_or s at 0)) → LoadsNone arity m s
+    load-illegal h e = cells-none arity m s (λ l x. scan-illegal arity m s at due turn.scan (omega (arith, turn.whole)) e l.terms)
 
     pub load-unordered : at < n → false ≡ in_order count (get_or s at 0) → LoadsNone arity m s
     load-unordered h e = cells-none arity m s (λ l x. unordered s cells₀ at count cells turn.order (omega (arith, turn.whole)) (sym e) x)
 
-    pub load-next : at < n → 0 < due → (more : ℕ) → more ≡ due_past due (shape_of arity (get_or s at 0)) → (more ≡ 0 → ⊥) → more ≤ due + 255 → m ≤ n
+    pub load-next : at < n → 0 < due → (next : ℕ) → Some next ≡ due_past due (shape_of arity (get_or s at 0)) → next ≤ due + 254 → m ≤ n
         → true ≡ in_order count (get_or s at 0) → (count' : ℕ) → count' ≡ met_after count (get_or s at 0)
-        → LoadTurn arity m s cells₀ n (set cells at (get_or s at 0)) (at + 1) (more - 1) count'
-    load-next h some more e nz b mn i count' g =
+        → LoadTurn arity m s cells₀ n (set cells at (get_or s at 0)) (at + 1) next count'
+    load-next h some next e b mn i count' g =
         let inside : at < length s = omega (arith, turn.whole) in
-        let next : Scanned arity m s (at + 1) (more - 1) = scan-next arity m s at due turn.scan inside some more e nz b in
+        let scan : Scanned arity m s (at + 1) next = scan-next arity m s at due turn.scan inside some next e b in
         let o : Ordered s cells₀ (at + 1) count' (set cells at (get_or s at 0)) =
         ordered-next s cells₀ at count cells turn.order inside (omega (arith, turn.room, turn.kept)) (sym i) count' g in
         record {
           whole = turn.whole;
           short = turn.short;
           within = omega arith;
-          most = omega (arith, next.few, turn.short);
-          scan = next;
+          most = omega (arith, scan.few, turn.short);
+          scan = scan;
           order = o;
           few = count-few s cells₀ (at + 1) count' (set cells at (get_or s at 0)) o (omega arith);
           room = omega (arith, turn.room, length-set cells at (get_or s at 0));
@@ -361,7 +360,7 @@ module _ (arity : ℕ → ℕ) (m : ℕ) (s cells₀ : List ℕ) (n : ℕ) where
       pub load_many : 32 < count → LoadsNone arity m s
       load_many h = load-crowded arity m s cells₀ cells at count turn.order at_last h
 
-      pub load-form : due ≤ 0 → count ≤ 32 → ((Terms n ≡ loading (pair_stored arity) m s) × HoldsTerms (pair_stored arity) s cells (Terms n)) × (count ≡ length (met [] s))
+      pub load-form : due ≤ 0 → count ≤ 32 → ((Some n ≡ loading (pair_stored arity) m s) × HoldsTerms (pair_stored arity) s cells (Some n)) × (count ≡ length (met [] s))
       load-form z h = (
         load-terms arity m s cells₀ cells at count turn.order at_last (scan-whole arity m s at due turn.scan (omega (arith, at_last)) (omega arith)) (omega (arith, turn.whole, turn.short)) h n turn.whole,
         count-is arity m s cells₀ cells at count turn.order at_last,

@@ -1,12 +1,7 @@
 -- What buffers have room for and hold after reading or loading, and what the converters leave: the contracts' parts.
-use Rattle.std.specs.Prelude.{ℕ, ◌*◌, ◌≤◌, ◌<◌, List, [], ◌≡◌, length, take}
-use Rattle.forms.specs.declared.Reading.{Reading}
-use Rattle.forms.specs.declared.Reading.TheVariants.{Form, Refusal}
-use Rattle.forms.specs.declared.Loading.{Loading}
-use Rattle.forms.specs.declared.Loading.TheVariants.{Terms, NoForm}
-use Rattle.forms.specs.declared.Answer.{Answer}
 use Rattle.convert.specs.declared.Loaded.{Loaded}
-use Rattle.convert.specs.declared.Loaded.TheVariants.{Counted, Nothing}
+use Rattle.forms.specs.Converting.{Answer, Loading, Reading}
+use Rattle.std.specs.Prelude.{ℕ, ◌*◌, ◌≤◌, ◌<◌, List, [], ◌≡◌, length, take, Err, None, Ok, Option, Some}
 use Rattle.forms.specs.Cells.{arity_of}
 use Rattle.forms.specs.Numbering.{met}
 use Rattle.forms.specs.Compact.{compact_form, pair_form}
@@ -15,18 +10,18 @@ use Rattle.forms.specs.Converting.{reading, loading, compacting, expanding, in_e
 
 -- the form of the cells stands at the start of the buffer, if they were read
 abbrev pub HoldsForm : StoredForm → List ℕ → List ℕ → Reading → Type 0
-HoldsForm s cs buffer (Form n v) = take n buffer ≡ s.form cs
-HoldsForm s cs buffer (Refusal r) = Unit {0}
+HoldsForm s cs buffer (Ok read) = take read.tokens buffer ≡ s.form cs
+HoldsForm s cs buffer (Err r) = Unit {0}
 
 -- the variables of the cells stand in order of rank at the start of the buffer, if the cells were read
 abbrev pub HoldsVariables : List ℕ → List ℕ → Reading → Type 0
-HoldsVariables cs buffer (Form n v) = take v buffer ≡ met [] cs
-HoldsVariables cs buffer (Refusal r) = Unit {0}
+HoldsVariables cs buffer (Ok read) = take read.variables buffer ≡ met [] cs
+HoldsVariables cs buffer (Err r) = Unit {0}
 
 -- the pair form of the form's terms stands at the start of the buffer, if it was loaded
 abbrev pub HoldsTerms : StoredForm → List ℕ → List ℕ → Loading → Type 0
-HoldsTerms s fs buffer (Terms n) = take n buffer ≡ s.cells fs
-HoldsTerms s fs buffer NoForm = Unit {0}
+HoldsTerms s fs buffer (Some n) = take n buffer ≡ s.cells fs
+HoldsTerms s fs buffer None = Unit {0}
 
 -- ---- reading and loading
 
@@ -59,25 +54,29 @@ LoadsAs s m form buffer r = (r ≡ loading s m form) × HoldsTerms s form buffer
 abbrev pub Loads : (e m : ℕ) (form buffer : List ℕ) → Loading → Type 0
 Loads e = LoadsAs (stored_of e)
 
+-- so many cells and variables
+abbrev pub counted : ℕ → ℕ → Loaded
+counted n m = record { cells = n; variables = m }
+
 -- what was loaded, and that the variables of the form were counted
-abbrev pub loading_of : Loaded → Loading
-loading_of (Counted n v) = Terms n
-loading_of Nothing = NoForm
+abbrev pub loading_of : Option Loaded → Loading
+loading_of (Some loaded) = Some loaded.cells
+loading_of None = None
 
-abbrev pub CountsVariables : List ℕ → Loaded → Type 0
-CountsVariables form (Counted n v) = v ≡ length (met [] form)
-CountsVariables form Nothing = Unit {0}
+abbrev pub CountsVariables : List ℕ → Option Loaded → Type 0
+CountsVariables form (Some loaded) = loaded.variables ≡ length (met [] form)
+CountsVariables form None = Unit {0}
 
-abbrev pub CountedAs : StoredForm → (m : ℕ) (form buffer : List ℕ) → Loaded → Type 0
+abbrev pub CountedAs : StoredForm → (m : ℕ) (form buffer : List ℕ) → Option Loaded → Type 0
 CountedAs s m form buffer r = LoadsAs s m form buffer (loading_of r) × CountsVariables form r
 
-abbrev pub LoadsCounted : (e m : ℕ) (form buffer : List ℕ) → Loaded → Type 0
+abbrev pub LoadsCounted : (e m : ℕ) (form buffer : List ℕ) → Option Loaded → Type 0
 LoadsCounted e = CountedAs (stored_of e)
 
-abbrev pub CountsLists : (e m : ℕ) (form buffer : List ℕ) → Loaded → Type 0
+abbrev pub CountsLists : (e m : ℕ) (form buffer : List ℕ) → Option Loaded → Type 0
 CountsLists e = CountedAs (compact_stored (arity_of e))
 
-abbrev pub CountsPairs : (e m : ℕ) (form buffer : List ℕ) → Loaded → Type 0
+abbrev pub CountsPairs : (e m : ℕ) (form buffer : List ℕ) → Option Loaded → Type 0
 CountsPairs e = CountedAs (pair_stored (arity_of e))
 
 -- ---- converting

@@ -1,16 +1,16 @@
 -- The scan over cells of pair form that are stored as they are numbered: what is due after the cells passed, and what
 -- is known of them.
-use Rattle.std.specs.Prelude.{ℕ, ◌+◌, ◌*◌, ◌≤◌, ◌<◌, List, ◌≡◌, length, take, get_or}
+use Rattle.std.specs.Prelude.{ℕ, ◌+◌, ◌*◌, ◌≤◌, ◌<◌, Option, Some, None, List, ◌≡◌, length, take, get_or}
 use Rattle.forms.specs.declared.Shape.{Shape}
 use Rattle.forms.specs.declared.Shape.TheVariants.{Symbol, Pair, Illegal}
 use Rattle.forms.specs.Cells.{shape_of}
 use Rattle.forms.specs.Due.{due_after, due_of}
 
--- one more than what is due after a cell of this shape; 0 where it stands in no term
-unfoldable pub due_past : ℕ → Shape → ℕ
-due_past due (Symbol k) = due_after due k + 1
-due_past due Pair = due_after due 2 + 1
-due_past due Illegal = 0
+-- what is due after a cell of this shape, where it stands in a term
+unfoldable pub due_past : ℕ → Shape → Option ℕ
+due_past due (Symbol k) = Some (due_after due k)
+due_past due Pair = Some (due_after due 2)
+due_past due Illegal = None
 
 -- the first `at` cells of s were passed on the way through m terms, and so many are due
 pub record Scanned (arity : ℕ → ℕ) (m : ℕ) (s : List ℕ) (at due : ℕ) : Type 0 where

@@ -1,5 +1,5 @@
 // Numbered pair form, whose tokens are the cells of the terms: read and loaded by one scan with one sum of what is due.
-ghost use Rattle.std.specs.Prelude.{◌≡◌, ◌+◌, ◌*◌, ◌^◌, ◌≤◌, ◌<◌};
+ghost use Rattle.std.specs.Prelude.{◌≡◌, ◌+◌, ◌*◌, ◌^◌, ◌≤◌, ◌<◌, IfSome};
 ghost use Rattle.forms.specs.Cells.{shape_of, arity_of};
 ghost use Rattle.form_reader.specs.Loading.{in_order};
 ghost use Rattle.convert.specs.Scans.{due_past};
@@ -7,18 +7,18 @@ ghost use Rattle.convert.specs.Holds.{RoomForForm, RoomForTerms, ReadsPairs, Cou
 
 use super::Loaded;
 use basis::limits::{MOST_CELLS, MOST_VARIABLES};
-use basis::refusals::{LENGTH, TERM, VARIABLES};
-use forms::{Reading, Shape, due_after};
+use basis::refusals::Refusal;
+use forms::{Form, Shape, due_after};
 
-// One more than what is due after the cell c; 0 where it stands in no term.
-fn due_past(due: usize, c: u32, edition: u32) -> usize
+// What is due after the cell c; None where it stands in no term.
+fn due_past(due: usize, c: u32, edition: u32) -> Option<usize>
     requires { (0 < due) × (due ≤ 2 ^ 20) }
-    ensures { (result ≡ due_past due (shape_of (arity_of edition) c)) × (result ≤ due + 255) }
+    ensures { (result ≡ due_past due (shape_of (arity_of edition) c)) × IfSome result (λ next. next ≤ due + 254) }
 {
     match forms::shape_of(c, edition) {
-        Shape::Symbol(k) => due_after(due, k) + 1,
-        Shape::Pair => due_after(due, 2) + 1,
-        Shape::Illegal => 0,
+        Shape::Symbol(k) => Some(due_after(due, k)),
+        Shape::Pair => Some(due_after(due, 2)),
+        Shape::Illegal => None,
     }
 }
 
@@ -30,64 +30,71 @@ fn in_order(c: u32, count: usize) -> bool
 }
 
 // Reads the m terms in s, and leaves them numbered at the start of form.
-pub fn read_cells(s: &[u32], m: usize, vars: &mut [u32], form: &mut [u32], edition: u32) -> Reading
+pub fn read_cells(
+    s: &[u32],
+    m: usize,
+    vars: &mut [u32],
+    form: &mut [u32],
+    edition: u32,
+) -> Result<Form, Refusal>
     requires { RoomForForm s.now vars.old form.old }
     ensures { ReadsPairs edition m s.now vars.new form.new result }
 {
     let n = s.len();
     if MOST_CELLS < n {
-        return Reading::Refusal(LENGTH);
+        return Err(Refusal::Length);
     }
     if n < m {
-        return Reading::Refusal(TERM);
+        return Err(Refusal::Term);
     }
     let mut due = m;
     let mut count = 0;
     for (at, &c) in s.iter().enumerate() {
         if due == 0 {
-            return Reading::Refusal(TERM);
+            return Err(Refusal::Term);
         }
-        let more = due_past(due, c, edition);
-        if more == 0 {
-            return Reading::Refusal(TERM);
-        }
+        due = due_past(due, c, edition).ok_or(Refusal::Term)?;
         count = pair_reader::store(c, vars, count, form, at);
-        due = more - 1;
     }
     if 0 < due {
-        return Reading::Refusal(TERM);
+        return Err(Refusal::Term);
     }
     if MOST_VARIABLES < count {
-        return Reading::Refusal(VARIABLES);
+        return Err(Refusal::Variables);
     }
-    Reading::Form(n, count)
+    Ok(Form {
+        tokens: n,
+        variables: count,
+    })
 }
 
 // Loads the m terms that stand numbered in s, and leaves them at the start of cells.
-pub fn load_cells(s: &[u32], m: usize, cells: &mut [u32], edition: u32) -> Loaded
+pub fn load_cells(s: &[u32], m: usize, cells: &mut [u32], edition: u32) -> Option<Loaded>
     requires { RoomForTerms s.now cells.old }
     ensures { CountsPairs edition m s.now cells.new result }
 {
     let n = s.len();
     if MOST_CELLS < n || n < m {
-        return Loaded::Nothing;
+        return None;
     }
     let mut due = m;
     let mut count = 0;
     for (at, &c) in s.iter().enumerate() {
         if due == 0 {
-            return Loaded::Nothing;
+            return None;
         }
-        let more = due_past(due, c, edition);
-        if more == 0 || !in_order(c, count) {
-            return Loaded::Nothing;
+        due = due_past(due, c, edition)?;
+        if !in_order(c, count) {
+            return None;
         }
         cells[at] = c;
         count = form_reader::met_after(c, count);
-        due = more - 1;
     }
     if 0 < due || MOST_VARIABLES < count {
-        return Loaded::Nothing;
+        return None;
     }
-    Loaded::Counted(n, count)
+    Some(Loaded {
+        cells: n,
+        variables: count,
+    })
 }

@@ -10,23 +10,29 @@ ghost use Rattle.convert.specs.Holds.{LoadsCounted, CountsLists};
 ghost use Rattle.convert.specs.Holds.{Compacts, CompactsIn, Expands, ExpandsIn};
 
 use basis::limits::{MOST_CELLS, MOST_VARIABLES};
-use basis::refusals::{FORM, HEADER, LENGTH, TERM, VARIABLES};
+use basis::refusals::Refusal;
 use buffers::{
     FEW_CELLS, FEW_TOKENS, FORM_OF_FEW, FORM_OF_MOST, SOME_TOKENS, TERMS_OF_FEW, TERMS_OF_MOST,
     TERMS_OF_SOME, cells_rung, tokens_rung,
 };
-use forms::{Answer, Loading, Place, Reading, Step};
+use forms::{Form, Place, Unwritten};
 
-// What loading comes to: the cells written and how many variables there are; or that the cells are no legal form.
+// What was loaded: the cells written, and how many variables there are.
 #[derive(Clone, Copy)]
-pub enum Loaded {
-    Counted(usize, usize),
-    Nothing,
+pub struct Loaded {
+    pub cells: usize,
+    pub variables: usize,
 }
 
 // Reads the m terms in s, and leaves the form of them that the edition stores at the start of form, and their variables
 // in order of rank at the start of vars.
-pub fn read_terms(s: &[u32], m: usize, vars: &mut [u32], form: &mut [u32], edition: u32) -> Reading
+pub fn read_terms(
+    s: &[u32],
+    m: usize,
+    vars: &mut [u32],
+    form: &mut [u32],
+    edition: u32,
+) -> Result<Form, Refusal>
     requires { RoomForForm s.now vars.old form.old }
     ensures { Reads edition m s.now vars.new form.new result }
 {
@@ -37,27 +43,36 @@ pub fn read_terms(s: &[u32], m: usize, vars: &mut [u32], form: &mut [u32], editi
 }
 
 // The same in compact form.
-fn read_compact(s: &[u32], m: usize, vars: &mut [u32], form: &mut [u32], edition: u32) -> Reading
+fn read_compact(
+    s: &[u32],
+    m: usize,
+    vars: &mut [u32],
+    form: &mut [u32],
+    edition: u32,
+) -> Result<Form, Refusal>
     requires { RoomForForm s.now vars.old form.old }
     ensures { ReadsLists edition m s.now vars.new form.new result }
 {
     let n = s.len();
     if MOST_CELLS < n {
-        return Reading::Refusal(LENGTH);
+        return Err(Refusal::Length);
     }
     if n < m {
-        return Reading::Refusal(TERM);
+        return Err(Refusal::Term);
     }
-    let Step::Done(next, end, variables) = pair_reader::terms(s, m, vars, form, edition) else {
-        return Reading::Refusal(TERM);
+    let Some(read) = pair_reader::terms(s, m, vars, form, edition) else {
+        return Err(Refusal::Term);
     };
-    if next < n {
-        return Reading::Refusal(TERM);
+    if read.at < n {
+        return Err(Refusal::Term);
     }
-    if MOST_VARIABLES < variables {
-        return Reading::Refusal(VARIABLES);
+    if MOST_VARIABLES < read.count {
+        return Err(Refusal::Variables);
     }
-    Reading::Form(end, variables)
+    Ok(Form {
+        tokens: read.to,
+        variables: read.count,
+    })
 }
 
 // How far a buffer of so many cells is written: no further than the cells of legal terms.
@@ -68,7 +83,7 @@ fn limit_of(room: usize) -> usize
 }
 
 // Loads the m terms whose form in the edition is s, and leaves their pair form at the start of cells.
-pub fn load_counted(s: &[u32], m: usize, cells: &mut [u32], edition: u32) -> Loaded
+pub fn load_counted(s: &[u32], m: usize, cells: &mut [u32], edition: u32) -> Option<Loaded>
     requires { RoomForTerms s.now cells.old }
     ensures { LoadsCounted edition m s.now cells.new result }
 {
@@ -79,37 +94,36 @@ pub fn load_counted(s: &[u32], m: usize, cells: &mut [u32], edition: u32) -> Loa
 }
 
 // The same of compact form.
-fn load_compact(s: &[u32], m: usize, cells: &mut [u32], edition: u32) -> Loaded
+fn load_compact(s: &[u32], m: usize, cells: &mut [u32], edition: u32) -> Option<Loaded>
     requires { RoomForTerms s.now cells.old }
     ensures { CountsLists edition m s.now cells.new result }
 {
     let limit = limit_of(cells.len());
     if limit < m {
-        return Loaded::Nothing;
+        return None;
     }
     let start = Place {
         at: 0,
         to: 0,
         count: 0,
     };
-    let Step::Done(next, end, met) = form_reader::terms(s, start, m, cells, edition, limit) else {
-        return Loaded::Nothing;
-    };
-    if next < s.len() || MOST_VARIABLES < met {
-        return Loaded::Nothing;
+    let read = form_reader::terms(s, start, m, cells, edition, limit)?;
+    if read.at < s.len() || MOST_VARIABLES < read.count {
+        return None;
     }
-    Loaded::Counted(end, met)
+    Some(Loaded {
+        cells: read.to,
+        variables: read.count,
+    })
 }
 
 // The same without the count of variables.
-pub fn load_terms(s: &[u32], m: usize, cells: &mut [u32], edition: u32) -> Loading
+pub fn load_terms(s: &[u32], m: usize, cells: &mut [u32], edition: u32) -> Option<usize>
     requires { RoomForTerms s.now cells.old }
     ensures { Loads edition m s.now cells.new result }
 {
-    let Loaded::Counted(n, _) = load_counted(s, m, cells, edition) else {
-        return Loading::NoForm;
-    };
-    Loading::Terms(n)
+    let loaded = load_counted(s, m, cells, edition)?;
+    Some(loaded.cells)
 }
 
 // Copies the first n cells.
@@ -128,23 +142,24 @@ fn compact_with(
     form: &mut [u32],
     out: &mut [u32],
     edition: u32,
-) -> Answer
+) -> Result<usize, Unwritten>
     requires { RoomForForm s.now vars.old form.old }
     ensures { Compacts edition m s.now out.old result out.new }
 {
     let read = read_terms(s, m, vars, form, edition);
-    let Reading::Form(n, _) = read else {
-        return Answer::Refused(forms::refused_by(read));
+    let Ok(size) = read else {
+        return Err(Unwritten::Refused(read.unwrap_err()));
     };
+    let n = size.tokens;
     if out.len() < n {
-        return Answer::Short(n);
+        return Err(Unwritten::Short(n));
     }
     copy(form, n, out);
-    Answer::Cells(n)
+    Ok(n)
 }
 
 // Compacts in an edition that there is. Short terms get short buffers.
-fn compact_terms(s: &[u32], m: usize, out: &mut [u32], edition: u32) -> Answer
+fn compact_terms(s: &[u32], m: usize, out: &mut [u32], edition: u32) -> Result<usize, Unwritten>
     ensures { Compacts edition m s.now out.old result out.new }
 {
     if cells_rung(s.len()) <= FEW_CELLS {
@@ -158,32 +173,38 @@ fn compact_terms(s: &[u32], m: usize, out: &mut [u32], edition: u32) -> Answer
 }
 
 // Compacts the m terms in s into out, in the edition of this number.
-pub fn compact(s: &[u32], m: usize, out: &mut [u32], edition: u32) -> Answer
+pub fn compact(s: &[u32], m: usize, out: &mut [u32], edition: u32) -> Result<usize, Unwritten>
     ensures { CompactsIn edition m s.now out.old result out.new }
 {
     if forms::is_converter_edition(edition) {
         return compact_terms(s, m, out, edition);
     }
-    Answer::Refused(HEADER)
+    Err(Unwritten::Refused(Refusal::Header))
 }
 
 // Expands with a buffer that is long enough for s.
-fn expand_with(s: &[u32], m: usize, cells: &mut [u32], out: &mut [u32], edition: u32) -> Answer
+fn expand_with(
+    s: &[u32],
+    m: usize,
+    cells: &mut [u32],
+    out: &mut [u32],
+    edition: u32,
+) -> Result<usize, Unwritten>
     requires { RoomForTerms s.now cells.old }
     ensures { Expands edition m s.now out.old result out.new }
 {
-    let Loading::Terms(k) = load_terms(s, m, cells, edition) else {
-        return Answer::Refused(FORM);
+    let Some(k) = load_terms(s, m, cells, edition) else {
+        return Err(Unwritten::Refused(Refusal::Form));
     };
     if out.len() < k {
-        return Answer::Short(k);
+        return Err(Unwritten::Short(k));
     }
     copy(cells, k, out);
-    Answer::Cells(k)
+    Ok(k)
 }
 
 // Expands in an edition that there is, as a sound header names one. Short forms get short buffers.
-pub fn expand_terms(s: &[u32], m: usize, out: &mut [u32], edition: u32) -> Answer
+pub fn expand_terms(s: &[u32], m: usize, out: &mut [u32], edition: u32) -> Result<usize, Unwritten>
     ensures { Expands edition m s.now out.old result out.new }
 {
     let rung = tokens_rung(s.len());
@@ -200,11 +221,11 @@ pub fn expand_terms(s: &[u32], m: usize, out: &mut [u32], edition: u32) -> Answe
 }
 
 // Expands the form of m terms in s into out, in the edition of this number.
-pub fn expand(s: &[u32], m: usize, out: &mut [u32], edition: u32) -> Answer
+pub fn expand(s: &[u32], m: usize, out: &mut [u32], edition: u32) -> Result<usize, Unwritten>
     ensures { ExpandsIn edition m s.now out.old result out.new }
 {
     if forms::is_converter_edition(edition) {
         return expand_terms(s, m, out, edition);
     }
-    Answer::Refused(HEADER)
+    Err(Unwritten::Refused(Refusal::Header))
 }

@@ -1,18 +1,18 @@
 -- A law for each case of what a copy answers, and that both ways of telling it come to the same.
+use Rattle.basis.specs.declared.refusals.Refusal.TheVariants as refusal
+use Rattle.std.specs.Prelude.{Err, Ok}
+use Rattle.basis.specs.declared.refusals.Refusal.{Refusal}
 use Prim.Native.Nat.{ℕ}
 use mathlib.Core.Path.{◌≡◌, refl, sym, ap, ◌∙◌}
-use mathlib.Core.Bool.{true, false, ◌&&◌}
+use mathlib.Core.Bool.{true, false, false≢true}
 use mathlib.Core.List.{List}
-use lib.Dec.{leb}
 use borrow.Author.Tests.{ne_eqb, eq-eqb}
 use Rattle.basis.specs.Editions.{known_edition}
 use Rattle.plain.specs.Coding.{coding_of}
 use Rattle.space.specs.Layout.{sizes_of}
 use Rattle.space.specs.Heading.{space_header}
 use Rattle.space.specs.Fresh.{fresh_fits, fresh_answer, fresh_answer_in}
-use Rattle.space.specs.declared.FreshAnswer.TheVariants.{Done, Refused}
 use Rattle.space.specs.declared.Head.{Head}
-use Rattle.space.specs.declared.Header.TheVariants as header
 use Rattle.store.specs.Views.{View, view_of}
 use Rattle.store.specs.Clauses.{view_in}
 use Rattle.agreement.specs.Whole.{table_read, whole_space}
@@ -22,68 +22,59 @@ use Rattle.carrying.specs.Recoding.{widening}
 use Rattle.carrying.specs.Carrying.{takes_table, carrying}
 use Rattle.carrying.specs.Copying.{source_loads, copy_under, copy_reply, carry_reply, carry_space, copy_space}
 use Rattle.carrying.specs.Clauses.{CopiesInto, slow_fits}
-use Rattle.carrying.specs.Quick.{takes_nodes, quick_reply}
+use Rattle.carrying.specs.Quick.{quick_reply}
 use Rattle.carrying.proofs.CopyCases.{copy-headless, copy-other, copy-unfresh, slow-holdable}
 use Rattle.carrying.proofs.Quick.{copy-quick}
 use Rattle.carrying.proofs.Theorems.{carry-recodes}
+use Rattle.integrity.specs.Tests.{CheckAnswer, said_check}
+use Rattle.std.specs.Result.{is_ok}
 use Rattle.copying.specs.Clauses.{loaded_reply}
 
--- ---- a source that passes the check
+-- ---- any source
 
 module _ (n f a : ℕ) (v : View) where
-  pub whole-unnamed : takes_nodes widening v ≡ false → Refused 18 ≡ quick_reply widening n f a v
-  unfolding quick_reply
-  whole-unnamed e = simp e
-
-  pub whole-small : takes_nodes widening v ≡ true → (leb v.nodes n && leb v.subgoals f && leb v.answers a) ≡ false
-      → Refused 19 ≡ quick_reply widening n f a v
-  unfolding quick_reply
-  whole-small e g = rw (e, g)
-
-  pub whole-done : takes_nodes widening v ≡ true → (leb v.nodes n && leb v.subgoals f && leb v.answers a) ≡ true
-      → Done ≡ quick_reply widening n f a v
-  unfolding quick_reply
-  whole-done e g = rw (e, g)
-
-  -- ---- any source
-
-  pub loaded-broken : source_loads (coding_of 1) v ≡ false → Refused 9 ≡ loaded_reply n f a v
+  pub loaded-broken : source_loads (coding_of 1) v ≡ false → Err refusal.Records ≡ loaded_reply n f a v
   unfolding loaded_reply
   loaded-broken e = simp e
 
   module _ (load : source_loads (coding_of 1) v ≡ true) where
-    pub loaded-unnamed : takes_table widening (table_read v) ≡ false → Refused 18 ≡ loaded_reply n f a v
+    pub loaded-unnamed : takes_table widening (table_read v) ≡ false → Err refusal.Functor ≡ loaded_reply n f a v
     unfolding loaded_reply carrying
     loaded-unnamed e = rw (load, e)
 
     module _ (takes : takes_table widening (table_read v) ≡ true) where
-      pub loaded-small : slow_fits n f a v ≡ false → Refused 19 ≡ loaded_reply n f a v
+      pub loaded-small : slow_fits n f a v ≡ false → Err refusal.Capacity ≡ loaded_reply n f a v
       unfolding loaded_reply carrying
       loaded-small e = rw (load, takes, slow-holdable 1 2 widening carry-recodes n f a v load takes, e)
 
-      pub loaded-done : slow_fits n f a v ≡ true → Done ≡ loaded_reply n f a v
+      pub loaded-done : slow_fits n f a v ≡ true → Ok tt ≡ loaded_reply n f a v
       unfolding loaded_reply carrying
       loaded-done e = rw (load, takes, slow-holdable 1 2 widening carry-recodes n f a v load takes, e)
 
 -- ---- a copy
 
+-- what the check answers of a whole space
+pub whole-said : (r : CheckAnswer) → true ≡ is_ok r → nothing ≡ said_check r
+whole-said (Ok y) e = refl
+whole-said (Err b) e = absurd (false≢true (sym e))
+
 module _ (n f a : ℕ) (source target : List ℕ) where
-  pub decided-headless : (k : ℕ) → header.Refused k ≡ space_header source → Refused k ≡ carry_reply n f a source target
+  pub decided-headless : (k : Refusal) → Err k ≡ space_header source → Err k ≡ carry_reply n f a source target
   decided-headless k s = (copy-headless 1 2 widening n f a source target k (sym s)).0
 
-  module _ (h : Head) (s : header.Sound h ≡ space_header source) where
-    pub decided-other : (h.edition ≡ 1 → ⊥) → Refused 1 ≡ carry_reply n f a source target
+  module _ (h : Head) (s : Ok h ≡ space_header source) where
+    pub decided-other : (h.edition ≡ 1 → ⊥) → Err refusal.Header ≡ carry_reply n f a source target
     decided-other q = (copy-other 1 2 widening n f a source target h (sym s) (ne_eqb h.edition 1 q)).0
 
     module _ (is : h.edition ≡ 1) (x y z : ℕ) (ex : x ≡ n) (ey : y ≡ f) (ez : z ≡ a) where
       fits-are : fresh_fits (sizes_of 2) x y z target ≡ fresh_fits (sizes_of 2) n f a target
       fits-are = rw (ex, ey, ez)
 
-      pub decided-unfresh : fresh_fits (sizes_of 2) x y z target ≡ false → Refused 2 ≡ carry_reply n f a source target
-      decided-unfresh q = (copy-unfresh 1 2 widening n f a source target h (sym s) is 2 (unfold fresh_answer_in fresh_answer known_edition in rw (sym fits-are ∙ q))).0
+      pub decided-unfresh : fresh_fits (sizes_of 2) x y z target ≡ false → Err refusal.Fresh ≡ carry_reply n f a source target
+      decided-unfresh q = (copy-unfresh 1 2 widening n f a source target h (sym s) is refusal.Fresh (unfold fresh_answer_in fresh_answer known_edition in rw (sym fits-are ∙ q))).0
 
       module _ (q : fresh_fits (sizes_of 2) x y z target ≡ true) where
-        fresh-done : fresh_answer_in 2 n f a target ≡ Done
+        fresh-done : fresh_answer_in 2 n f a target ≡ Ok tt
         unfolding fresh_answer_in fresh_answer known_edition
         fresh-done = rw (sym fits-are ∙ q)
 
@@ -102,10 +93,10 @@ module _ (n f a : ℕ) (source target : List ℕ) where
 
 -- decided, then written
 module _ (n f a : ℕ) (source target : List ℕ) where
-  pub carried-done : (after : List ℕ) → Done ≡ carry_reply n f a source target → after ≡ carry_space n f a source target
-      → CopiesInto 1 2 widening n f a source target Done after
+  pub carried-done : (after : List ℕ) → Ok tt ≡ carry_reply n f a source target → after ≡ carry_space n f a source target
+      → CopiesInto 1 2 widening n f a source target (Ok tt) after
   carried-done after e w = (e, w)
 
-  pub carried-refused : (k : ℕ) → Refused k ≡ carry_reply n f a source target → CopiesInto 1 2 widening n f a source target (Refused k) target
+  pub carried-refused : (k : Refusal) → Err k ≡ carry_reply n f a source target → CopiesInto 1 2 widening n f a source target (Err k) target
   unfolding copy_space
   carried-refused k e = (e, rw (← e))

@@ -1,4 +1,6 @@
 -- Laws of entering a subgoal by its form, and of the path that it is gathered from.
+use Rattle.std.specs.Prelude.{Err, Ok}
+use Rattle.basis.specs.declared.refusals.Refusal.{Refusal}
 use Prim.Native.Nat.{ℕ, zero, suc, ◌+◌, ◌-◌, ◌≤◌, ◌<◌}
 use mathlib.Core.Path.{◌≡◌, refl, sym, ap, ◌∙◌, subst}
 use mathlib.Core.List.{List, [], ◌∷◌}
@@ -13,7 +15,6 @@ use Rattle.space.proofs.HeaderLaws.{header-bounds}
 use Rattle.space.specs.declared.Head.{Head}
 use Rattle.space.specs.declared.Subgoal.{Subgoal}
 use Rattle.space.specs.declared.Answer.{Answer}
-use Rattle.space.specs.declared.Header.TheVariants as header
 use Rattle.trie.specs.Walks.{Walk}
 use Rattle.trie.specs.Paths.{Path, gather, longest}
 use Rattle.trie.specs.Runs.{path_to}
@@ -36,15 +37,15 @@ use Rattle.carrying.proofs.CopySteps.{up_to-suc, subgoals-snoc, answers-snoc}
 use Rattle.copying.specs.Clauses.{PathCarried, RecodedAt, with_first, SubgoalReady, TakesAnswer, with_answers, AnswerReady}
 
 module _ (cs w : List ℕ) (m : ℕ) (two : space_header cs ≡ header_of (sizes_of 2) cs) where
-  pub given-refused : (r : ℕ) → header.Refused r ≡ space_header cs → cs ≡ subgoal_given (sizes_of 2) cs w m (header_of (sizes_of 2) cs)
+  pub given-refused : (r : Refusal) → Err r ≡ space_header cs → cs ≡ subgoal_given (sizes_of 2) cs w m (header_of (sizes_of 2) cs)
   unfolding subgoal_given
   given-refused r e = rw (sym (e ∙ two)) refl
 
-  pub given-entered : (h : Head) → header.Sound h ≡ space_header cs → (x : Reply) (after : List ℕ) → Does cs h (called_from (search_indexed [] h.nodes) w m) x after
+  pub given-entered : (h : Head) → Ok h ≡ space_header cs → (x : Reply) (after : List ℕ) → Does cs h (called_from (search_indexed [] h.nodes) w m) x after
       → after ≡ subgoal_given (sizes_of 2) cs w m (header_of (sizes_of 2) cs)
   unfolding subgoal_given called_by
   given-entered h e x after d =
-      let s : header_of (sizes_of 2) cs ≡ header.Sound h = sym (e ∙ two) in
+      let s : header_of (sizes_of 2) cs ≡ Ok h = sym (e ∙ two) in
       let r = header_read (sizes_of 2) cs h s in
       let i : h.edition ≡ 2 = ap (λ (k : Head). k.edition) r.is ∙ r.headed.edition in
       rw s (d.1 ∙ ap (λ (k : ℕ). change (sizes_of k) cs h (called_from (search_indexed [] h.nodes) w m (view_of (sizes_of k) cs h))) i
@@ -105,15 +106,15 @@ first_ended source h target now i l m e = let z : i ≡ h.subgoals = omega arith
 -- ---- an answer by its form
 
 module _ (cs w : List ℕ) (s : ℕ) (two : space_header cs ≡ header_of (sizes_of 2) cs) where
-  pub form-refused : (r : ℕ) → header.Refused r ≡ space_header cs → cs ≡ form_given (sizes_of 2) cs s w (header_of (sizes_of 2) cs)
+  pub form-refused : (r : Refusal) → Err r ≡ space_header cs → cs ≡ form_given (sizes_of 2) cs s w (header_of (sizes_of 2) cs)
   unfolding form_given_by
   form-refused r e = rw (sym (e ∙ two)) refl
 
-  pub form-entered : (h : Head) → header.Sound h ≡ space_header cs → (g : Subgoal) → g ≡ subgoal_under cs h s → (x : Reply) (after : List ℕ)
+  pub form-entered : (h : Head) → Ok h ≡ space_header cs → (g : Subgoal) → g ≡ subgoal_under cs h s → (x : Reply) (after : List ℕ)
       → Does cs h (answered_from (search_indexed [] h.nodes) s g.root w) x after → after ≡ form_given (sizes_of 2) cs s w (header_of (sizes_of 2) cs)
   unfolding form_given_by
   form-entered h e g q x after d =
-      let t : header_of (sizes_of 2) cs ≡ header.Sound h = sym (e ∙ two) in
+      let t : header_of (sizes_of 2) cs ≡ Ok h = sym (e ∙ two) in
       let r = header_read (sizes_of 2) cs h t in
       let i : h.edition ≡ 2 = ap (λ (k : Head). k.edition) r.is ∙ r.headed.edition in
       let own : g.root ≡ ((view_of (sizes_of 2) cs h).subgoal s).root = ap (λ (y : Subgoal). y.root) q ∙ ap (λ (k : ℕ). ((view_of (sizes_of k) cs h).subgoal s).root) i in
@@ -124,10 +125,10 @@ module _ (cs w : List ℕ) (s : ℕ) (two : space_header cs ≡ header_of (sizes
       ∙ given-written search_children (sizes_of 2) cs h s w (walk_to (view_of (sizes_of 2) cs h) s w))
 
 -- what an answer asks of the space
-pub takes-used : (cs : List ℕ) (s : ℕ) (h : Head) → header.Sound h ≡ space_header cs → TakesAnswer cs s → Bounds cs h × (1 ≤ s) × (s ≤ h.subgoals)
+pub takes-used : (cs : List ℕ) (s : ℕ) (h : Head) → Ok h ≡ space_header cs → TakesAnswer cs s → Bounds cs h × (1 ≤ s) × (s ≤ h.subgoals)
 takes-used cs s h e t = let k = t h e in (header-bounds cs h e, k.0, k.1)
 
-pub takes-held : (cs : List ℕ) (s : ℕ) (h : Head) (g : Subgoal) → header.Sound h ≡ space_header cs → TakesAnswer cs s → g ≡ subgoal_under cs h s → Held cs h s g
+pub takes-held : (cs : List ℕ) (s : ℕ) (h : Head) (g : Subgoal) → Ok h ≡ space_header cs → TakesAnswer cs s → g ≡ subgoal_under cs h s → Held cs h s g
 takes-held cs s h g e t q =
     let k = t h e in
     (header-bounds cs h e, k.0, k.1, q, subst (λ (y : Subgoal). y.last ≤ h.answers) (sym q) k.3, subst (λ (y : Subgoal). y.root < h.nodes) (sym q) k.2)

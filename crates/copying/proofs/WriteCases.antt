@@ -1,4 +1,6 @@
 -- Laws of writing a copy: what is known of a source that nothing refuses, and so what each loop asks for.
+use Rattle.std.specs.Prelude.{Err, Ok}
+use Rattle.basis.specs.declared.refusals.Refusal.{Refusal}
 use Prim.Native.Nat.{ℕ, suc, ◌+◌, ◌*◌, ◌≤◌, ◌<◌}
 use mathlib.Core.Path.{◌≡◌, refl, sym, ap, ◌∙◌, subst}
 use mathlib.Core.Bool.{Bool, true, ◌&&◌, false≢true}
@@ -16,12 +18,10 @@ use Rattle.plain.specs.Table.{Table}
 use Rattle.plain.proofs.Soundness.{Sound}
 use Rattle.plain.proofs.StoredCoding.{coding-laws}
 use Rattle.space.specs.Layout.{sizes_of, subgoal_width, subgoal_offset_of, subgoal_in}
-use Rattle.space.specs.Heading.{header_of, space_header}
+use Rattle.space.specs.Heading.{header_of, space_header, Header}
 use Rattle.space.specs.Sound.{Bounds, subgoal_under}
 use Rattle.space.specs.Fresh.{fresh_answer, fresh_space, fresh_space_in}
-use Rattle.space.specs.declared.FreshAnswer.TheVariants.{Done}
 use Rattle.space.specs.declared.Head.{Head}
-use Rattle.space.specs.declared.Header.TheVariants as header
 use Rattle.space.proofs.HeaderLaws.{header-bounds}
 use Rattle.space.proofs.JudgingLaws.{AnswerBounds, subgoal-bounds, answer-bounds}
 use Rattle.trie.specs.Paths.{Path, none, tokens}
@@ -48,10 +48,10 @@ use Rattle.carrying.proofs.LoadingLaws.{subgoal-loads, answer-loads}
 use Rattle.carrying.proofs.Theorems.{went, went-space, went-sound, carrying-done, carry-recodes}
 use Rattle.copying.specs.Clauses.{PathCarried, with_first, SubgoalsReady, TakesAnswer, with_answers, AnswersReady, with_states, StatesReady}
 
-pub sound-same : {x y : Head} → header.Sound x ≡ header.Sound y → x ≡ y
+pub sound-same : {x y : Head} → ◌≡◌ {A = Header} (Ok x) (Ok y) → x ≡ y
 sound-same e = cc
 
-sound-not-refused : {x : Head} {k : ℕ} → header.Sound x ≡ header.Refused k → ⊥
+sound-not-refused : {x : Head} {k : Refusal} → ◌≡◌ {A = Header} (Ok x) (Err k) → ⊥
 sound-not-refused e = let z : ◌≡◌ {A = ℕ} 0 1 = cc in omega arith
 
 -- ---- a source that nothing refuses
@@ -62,11 +62,11 @@ pub record Accepted (n f a : ℕ) (source target : List ℕ) (h : Head) : Type 0
   pub loads : source_loads (coding_of 1) (view_in source h) ≡ true
   pub takes : takes_table widening (table_read (view_in source h)) ≡ true
   pub sound : Sound (coding_of 2) (carried widening n f a (table_read (view_in source h)))
-  pub fresh : fresh_answer (sizes_of 2) n f a target ≡ Done
+  pub fresh : fresh_answer (sizes_of 2) n f a target ≡ Ok tt
   pub freshened : fresh_space_in 2 n f a target ≡ fresh_space (sizes_of 2) n f a target
   pub leaves : built (sizes_of 2) (carried widening n f a (table_read (view_in source h))) target ≡ carry_space n f a source target
 
-pub accepted : (n f a : ℕ) (source target : List ℕ) (h : Head) → carry_reply n f a source target ≡ Done → header.Sound h ≡ space_header source
+pub accepted : (n f a : ℕ) (source target : List ℕ) (h : Head) → carry_reply n f a source target ≡ Ok tt → Ok h ≡ space_header source
     → Accepted n f a source target h
 accepted n f a source target h done s =
     let w = went 1 2 widening carry-recodes refl n f a source target done in
@@ -91,7 +91,7 @@ accepted n f a source target h done s =
     }
 
 -- its header is sound
-pub not-refused : (n f a : ℕ) (source target : List ℕ) → carry_reply n f a source target ≡ Done → (k : ℕ) → header.Refused k ≡ space_header source → ⊥
+pub not-refused : (n f a : ℕ) (source target : List ℕ) → carry_reply n f a source target ≡ Ok tt → (k : Refusal) → Err k ≡ space_header source → ⊥
 not-refused n f a source target done k e =
     let w = went 1 2 widening carry-recodes refl n f a source target done in sound-not-refused (sym w.header-sound ∙ sym e)
 
@@ -120,7 +120,7 @@ module _ (known : known_edition 2 ≡ true) (t : Table) (cs : List ℕ) (k : Hol
       )
 
   -- where its subgoals begin, and that the first so many stand in the cells
-  held-offset : (g : Head) → header.Sound g ≡ space_header cs
+  held-offset : (g : Head) → Ok g ≡ space_header cs
       → (g.subgoal_offset ≡ subgoal_offset_of (sizes_of 2) t.N) × ((s : ℕ) → s ≤ t.F → g.subgoal_offset + subgoal_width 2 * s ≤ length cs)
   held-offset g e =
       let any = header-any 2 known cs k.head k.sound in
@@ -230,12 +230,12 @@ module _ (n f a : ℕ) (source target : List ℕ) (h : Head) (x : Accepted n f a
             let k = held-answers h.answers (omega arith) in
             (k.0, k.1, subst (Holds (sizes_of 2) (coding_of 2) k.0) (sym answers-in) k.2)
 
-        pub not-headless : (k : ℕ) → header.Refused k ≡ space_header answered → ⊥
+        pub not-headless : (k : Refusal) → Err k ≡ space_header answered → ⊥
         not-headless k q =
             let m = held_all in
             sound-not-refused (sym (header-any 2 x.known answered m.2.head m.2.sound).0 ∙ sym q)
 
-        module _ (to : Head) (q : header.Sound to ≡ space_header answered) where
+        module _ (to : Head) (q : Ok to ≡ space_header answered) where
           begins-at : to.subgoal_offset ≡ subgoal_offset_of (sizes_of 2) n
           begins-at =
               let m = held_all in

@@ -1,15 +1,14 @@
 -- What the functions of a copy ask for: paths whose tokens can all be stored in edition 2, and the records of a source
 -- as they enter a target. And what is told of a source that need not pass the check.
-use Rattle.std.specs.Prelude.{ℕ, suc, ◌≤◌, ◌<◌, ◌≡◌, true, List, length, drop}
+use Rattle.basis.specs.declared.refusals.Refusal.TheVariants as refusal
+use Rattle.space.specs.Fresh.{FreshAnswer}
+use Rattle.std.specs.Prelude.{ℕ, suc, ◌≤◌, ◌<◌, ◌≡◌, true, List, length, drop, Err, Ok}
 use Rattle.basis.specs.Choice.{pick}
 use Rattle.plain.specs.Coding.{coding_of}
 use Rattle.space.specs.Layout.{sizes_of}
 use Rattle.space.specs.Heading.{header_of, space_header}
 use Rattle.space.specs.Sound.{subgoal_under, subgoals_end}
-use Rattle.space.specs.declared.FreshAnswer.{FreshAnswer}
-use Rattle.space.specs.declared.FreshAnswer.TheVariants.{Refused}
 use Rattle.space.specs.declared.Head.{Head}
-use Rattle.space.specs.declared.Header.TheVariants as header
 use Rattle.trie.specs.Paths.{Path, tokens}
 use Rattle.trie.specs.Runs.{path_cells, path_to}
 use Rattle.trie.specs.declared.End.{End}
@@ -50,7 +49,7 @@ SubgoalsReady source h target = (i : ℕ) → i < h.subgoals → SubgoalReady so
 -- a space in which an answer can be given to subgoal s
 abbrev pub TakesAnswer : List ℕ → ℕ → Type 0
 TakesAnswer cs s =
-    (h : Head) → header.Sound h ≡ space_header cs
+    (h : Head) → Ok h ≡ space_header cs
     → (1 ≤ s) × (s ≤ h.subgoals) × ((subgoal_under cs h s).root < h.nodes) × ((subgoal_under cs h s).last ≤ h.answers)
 
 -- the target with the first i answers of the source
@@ -84,4 +83,5 @@ pub record StatesReady (source : List ℕ) (h : Head) (offset cells : ℕ) : Typ
 
 -- 9, 18, 19 or done, by the forms that load
 unfoldable pub loaded_reply : ℕ → ℕ → ℕ → View → FreshAnswer
-loaded_reply n f a v = pick (source_loads (coding_of 1) v) (carrying widening n f a (table_read v)) (Refused 9)
+loaded_reply n f a v =
+    pick (source_loads (coding_of 1) v) (carrying widening n f a (table_read v)) (Err refusal.Records)

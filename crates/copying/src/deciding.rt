@@ -1,9 +1,8 @@
 // What a copy answers, told on the cells as they are lent: nothing is written. A source that passes the check is judged
 // by the tokens of its nodes and by its counts; of any other every form is gathered.
-ghost use Rattle.std.specs.Prelude.{◌≡◌, ◌&&◌, leb};
+ghost use Rattle.std.specs.Prelude.{◌≡◌, ◌&&◌, leb, Ok};
 ghost use Rattle.space.specs.Heading.{space_header};
 ghost use Rattle.space.specs.Sound.{Bounds};
-ghost use Rattle.space.specs.declared.Header.TheVariants as header;
 ghost use Rattle.store.specs.Clauses.{view_in};
 ghost use Rattle.carrying.specs.Recoding.{widening};
 ghost use Rattle.carrying.specs.Copying.{carry_reply};
@@ -13,13 +12,13 @@ ghost use Rattle.copying.specs.Clauses.{loaded_reply};
 
 use super::tokens::are_named;
 use super::{EDITION, SOURCE_EDITION};
-use basis::refusals::{CAPACITY, FRESH, FUNCTOR, HEADER, RECORDS};
+use basis::refusals::Refusal;
 use basis::wide;
-use integrity::{CheckAnswer, check};
+use integrity::check;
 use sources::{forms_fit, forms_named, loads};
+use space::Head;
 use space::fresh::fits;
 use space::heading::read_header;
-use space::{FreshAnswer, Head, Header};
 
 // Are the capacities enough for the counts of a space?
 fn counts_fit(h: Head, nodes: u32, subgoals: u32, answers: u32) -> bool
@@ -29,36 +28,47 @@ fn counts_fit(h: Head, nodes: u32, subgoals: u32, answers: u32) -> bool
 }
 
 // Of a source that passes the check.
-fn whole_answer(source: &[u32], h: Head, nodes: u32, subgoals: u32, answers: u32) -> FreshAnswer
+#[tactic(auto, unfolding(carrying::specs::Quick::quick_reply))]
+fn whole_answer(
+    source: &[u32],
+    h: Head,
+    nodes: u32,
+    subgoals: u32,
+    answers: u32,
+) -> Result<(), Refusal>
     requires { Bounds source.now h }
     ensures { result ≡ quick_reply widening nodes subgoals answers (view_in source.now h) }
 {
-    let named = are_named(source, h);
-    let fit = counts_fit(h, nodes, subgoals, answers);
-    if named {
-        if fit {
-            return FreshAnswer::Done;
-        }
-        return FreshAnswer::Refused(CAPACITY);
+    if !are_named(source, h) {
+        return Err(Refusal::Functor);
     }
-    FreshAnswer::Refused(FUNCTOR)
+    if !counts_fit(h, nodes, subgoals, answers) {
+        return Err(Refusal::Capacity);
+    }
+    Ok(())
 }
 
 // Of any source.
-fn loaded_answer(source: &[u32], h: Head, nodes: u32, subgoals: u32, answers: u32) -> FreshAnswer
+fn loaded_answer(
+    source: &[u32],
+    h: Head,
+    nodes: u32,
+    subgoals: u32,
+    answers: u32,
+) -> Result<(), Refusal>
     requires { FirstEdition source.now h }
     ensures { result ≡ loaded_reply nodes subgoals answers (view_in source.now h) }
 {
     if !loads(source, h) {
-        return FreshAnswer::Refused(RECORDS);
+        return Err(Refusal::Records);
     }
     if !forms_named(source, h) {
-        return FreshAnswer::Refused(FUNCTOR);
+        return Err(Refusal::Functor);
     }
-    if forms_fit(source, h, nodes, subgoals, answers) {
-        return FreshAnswer::Done;
+    if !forms_fit(source, h, nodes, subgoals, answers) {
+        return Err(Refusal::Capacity);
     }
-    FreshAnswer::Refused(CAPACITY)
+    Ok(())
 }
 
 // Under a sound header of the source.
@@ -69,17 +79,17 @@ fn decide_in(
     nodes: u32,
     subgoals: u32,
     answers: u32,
-) -> FreshAnswer
-    requires { header.Sound h ≡ space_header source.now }
+) -> Result<(), Refusal>
+    requires { Ok h ≡ space_header source.now }
     ensures { result ≡ carry_reply nodes subgoals answers source.now target.now }
 {
     if h.edition != SOURCE_EDITION {
-        return FreshAnswer::Refused(HEADER);
+        return Err(Refusal::Header);
     }
     if !fits(wide(nodes), wide(subgoals), wide(answers), target, EDITION) {
-        return FreshAnswer::Refused(FRESH);
+        return Err(Refusal::Fresh);
     }
-    if let CheckAnswer::Whole = check(source) {
+    if check(source).is_ok() {
         return whole_answer(source, h, nodes, subgoals, answers);
     }
     loaded_answer(source, h, nodes, subgoals, answers)
@@ -92,11 +102,9 @@ pub fn decide(
     nodes: u32,
     subgoals: u32,
     answers: u32,
-) -> FreshAnswer
+) -> Result<(), Refusal>
     ensures { result ≡ carry_reply nodes subgoals answers source.now target.now }
 {
-    match read_header(source) {
-        Header::Sound(h) => decide_in(source, h, target, nodes, subgoals, answers),
-        Header::Refused(k) => FreshAnswer::Refused(k),
-    }
+    let h = read_header(source)?;
+    decide_in(source, h, target, nodes, subgoals, answers)
 }

@@ -9,8 +9,8 @@ pub mod writing;
 ghost use Rattle.carrying.specs.Recoding.{widening};
 ghost use Rattle.carrying.specs.Clauses.{CopiesInto};
 
+use basis::refusals::Refusal;
 use deciding::decide;
-use space::FreshAnswer;
 use writing::write;
 
 // Of the source, and of the copy.
@@ -25,14 +25,10 @@ pub fn carry(
     nodes: u32,
     subgoals: u32,
     answers: u32,
-) -> FreshAnswer
+) -> Result<(), Refusal>
     ensures { CopiesInto 1 2 widening nodes subgoals answers source.now target.old result target.new }
 {
-    match decide(source, target, nodes, subgoals, answers) {
-        FreshAnswer::Done => {
-            write(source, target, nodes, subgoals, answers);
-            FreshAnswer::Done
-        }
-        FreshAnswer::Refused(k) => FreshAnswer::Refused(k),
-    }
+    decide(source, target, nodes, subgoals, answers)?;
+    write(source, target, nodes, subgoals, answers);
+    Ok(())
 }

@@ -1,10 +1,9 @@
 // What a copy writes: a fresh space of edition 2, the subgoals of the source by number, its answers by number, and its
 // states last, since a ground subgoal is finished by its one answer.
-ghost use Rattle.std.specs.Prelude.{◌≡◌, ◌≤◌, length};
+ghost use Rattle.std.specs.Prelude.{◌≡◌, ◌≤◌, length, Ok};
 ghost use Rattle.space.specs.Layout.{sizes_of};
 ghost use Rattle.space.specs.Heading.{header_of, space_header};
 ghost use Rattle.space.specs.Sound.{Bounds};
-ghost use Rattle.space.specs.declared.FreshAnswer.TheVariants.{Done};
 ghost use Rattle.trie.specs.Runs.{Ends, path_cells, path_to};
 ghost use Rattle.store.specs.Changes.{form_given};
 ghost use Rattle.agreement.specs.Whole.{word_of};
@@ -18,11 +17,12 @@ use super::tokens::recode;
 use answering::answer_at;
 use calling::call_at;
 use sources::loading::gather;
+use space::Head;
 use space::fresh::fresh;
 use space::heading::read_header;
 use space::records::{answer_in, subgoal_in, write_state};
-use space::{Head, Header};
 use trie::End;
+use trie::ends::{answer_end, subgoal_end};
 use trie::paths::CELLS;
 
 // The path that ends here, recoded, in the cells of a whole one: where it starts.
@@ -41,7 +41,7 @@ pub fn give_subgoal(target: &mut [u32], form: &[u32], m: usize)
     requires { (space_header target.old ≡ header_of (sizes_of 2) target.old) × (m ≤ 32) }
     ensures { target.new ≡ subgoal_given (sizes_of 2) target.old form.now m (header_of (sizes_of 2) target.old) }
 {
-    let Header::Sound(h) = read_header(target) else {
+    let Ok(h) = read_header(target) else {
         return;
     };
     call_at(target, h, form, m, &[]);
@@ -66,13 +66,7 @@ pub fn carry_subgoals(source: &[u32], h: Head, target: &mut [u32])
 {
     for i in 0..h.subgoals {
         let g = subgoal_in(source, h, i + 1);
-        let end = End {
-            nodes: h.nodes,
-            links: h.subgoals,
-            root: 0,
-            leaf: g.leaf,
-        };
-        carry_subgoal(source, end, target, g.variables);
+        carry_subgoal(source, subgoal_end(h, g), target, g.variables);
     }
 }
 
@@ -81,11 +75,12 @@ pub fn give_answer(target: &mut [u32], s: usize, form: &[u32])
     requires { (space_header target.old ≡ header_of (sizes_of 2) target.old) × TakesAnswer target.old s }
     ensures { target.new ≡ form_given (sizes_of 2) target.old s form.now (header_of (sizes_of 2) target.old) }
 {
-    let Header::Sound(h) = read_header(target) else {
+    let Ok(h) = read_header(target) else {
         return;
     };
     let g = subgoal_in(target, h, s);
-    answer_at(target, h, s, g, form, &[], h.nodes);
+    // The cells say it all: whether it is new or refused is not asked.
+    let _ = answer_at(target, h, s, g, form, &[], h.nodes);
 }
 
 // An answer of the source to subgoal s, by the end of its path, enters the target.
@@ -108,13 +103,7 @@ pub fn carry_answers(source: &[u32], h: Head, target: &mut [u32])
     for i in 0..h.answers {
         let y = answer_in(source, h, i + 1);
         let g = subgoal_in(source, h, y.subgoal);
-        let end = End {
-            nodes: h.nodes,
-            links: h.answers,
-            root: g.root,
-            leaf: y.leaf,
-        };
-        carry_answer(source, end, target, y.subgoal);
+        carry_answer(source, answer_end(h, g, y), target, y.subgoal);
     }
 }
 
@@ -131,16 +120,17 @@ pub fn carry_states(source: &[u32], h: Head, target: &mut [u32], offset: usize)
 
 // The copy of a source that nothing refuses.
 pub fn write(source: &[u32], target: &mut [u32], nodes: u32, subgoals: u32, answers: u32)
-    requires { carry_reply nodes subgoals answers source.now target.old ≡ Done }
+    requires { carry_reply nodes subgoals answers source.now target.old ≡ Ok tt }
     ensures { target.new ≡ carry_space nodes subgoals answers source.now target.old }
 {
-    let Header::Sound(h) = read_header(source) else {
+    let Ok(h) = read_header(source) else {
         return;
     };
-    fresh(target, nodes, subgoals, answers, EDITION);
+    // Decided already: nothing refuses it.
+    let _ = fresh(target, nodes, subgoals, answers, EDITION);
     carry_subgoals(source, h, target);
     carry_answers(source, h, target);
-    let Header::Sound(to) = read_header(target) else {
+    let Ok(to) = read_header(target) else {
         return;
     };
     carry_states(source, h, target, to.subgoal_offset);

@@ -7,7 +7,7 @@ ghost use Rattle.trie.specs.Runs.{Ends};
 
 use space::heading::read_header;
 use space::records::{read_answer, read_node, read_subgoal};
-use space::{Answer, AnswerRead, Head, Header, Node, NodeRead, Subgoal, SubgoalRead};
+use space::{Answer, Head, Node, Subgoal};
 use std::io;
 use trie::paths::{CELLS, LEVELS, few_path, whole_path};
 use trie::walks::walk_tokens;
@@ -152,28 +152,17 @@ fn with_tokens(t: Tally, tokens: &[u32]) -> Tally {
     )
 }
 
-fn one_node(t: Tally, r: NodeRead) -> Tally {
-    match r {
-        NodeRead::Sound(y) => with_node(t, y),
-        NodeRead::Damaged => with_damage(t),
-    }
-}
-
 fn nodes_of(space: &[u32], nodes: usize, links: usize, start: Tally) -> Tally
     requires { NodesIn space.now nodes }
 {
     let mut t = start;
     for n in 0..nodes {
-        t = one_node(t, read_node(space, nodes, links, n));
+        t = match read_node(space, nodes, links, n) {
+            Some(y) => with_node(t, y),
+            None => with_damage(t),
+        };
     }
     t
-}
-
-fn one_subgoal(t: Tally, r: SubgoalRead) -> Tally {
-    match r {
-        SubgoalRead::Sound(y) => with_subgoal(t, y),
-        SubgoalRead::Damaged => with_damage(t),
-    }
 }
 
 fn subgoals_of(space: &[u32], h: Head) -> Tally
@@ -181,16 +170,12 @@ fn subgoals_of(space: &[u32], h: Head) -> Tally
 {
     let mut t = started();
     for s in 1..=h.subgoals {
-        t = one_subgoal(t, read_subgoal(space, h, s));
+        t = match read_subgoal(space, h, s) {
+            Some(y) => with_subgoal(t, y),
+            None => with_damage(t),
+        };
     }
     t
-}
-
-fn one_answer(t: Tally, r: AnswerRead) -> Tally {
-    match r {
-        AnswerRead::Sound(y) => with_answer(t, y),
-        AnswerRead::Damaged => with_damage(t),
-    }
 }
 
 fn answers_of(space: &[u32], h: Head) -> Tally
@@ -198,7 +183,10 @@ fn answers_of(space: &[u32], h: Head) -> Tally
 {
     let mut t = started();
     for a in 1..=h.answers {
-        t = one_answer(t, read_answer(space, h, a));
+        t = match read_answer(space, h, a) {
+            Some(y) => with_answer(t, y),
+            None => with_damage(t),
+        };
     }
     t
 }
@@ -306,7 +294,7 @@ fn records(rt: &impl Print, space: &[u32], h: Head) -> io::Result<()>
 
 // What every reader answers on the space.
 fn readings(rt: &impl Print, space: &[u32]) -> io::Result<()> {
-    let Header::Sound(h) = read_header(space) else {
+    let Ok(h) = read_header(space) else {
         return println!(rt; " refused 1");
     };
     show(rt, with_head(started(), h))?;

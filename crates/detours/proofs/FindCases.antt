@@ -1,4 +1,7 @@
 -- A law for each case of what a search found, and of detours as a call.
+use Rattle.std.specs.Prelude.{Err, Ok}
+use Rattle.basis.specs.Refusals.{number_of}
+use Rattle.basis.specs.declared.refusals.Refusal.{Refusal}
 use Prim.Native.Nat.{ℕ, zero, suc, ◌-◌, ◌≤◌}
 use mathlib.Core.Path.{◌≡◌, refl, sym, ap, ◌∙◌}
 use mathlib.Core.Bool.{Bool, true, false}
@@ -11,7 +14,6 @@ use Rattle.plain.specs.Requests.{Reply, Best, none_found, found, detours, detour
 use Rattle.plain.specs.Detours.{Option, diverts, total_of, Progress, trying, tries, search, detour, all_within}
 use Rattle.space.specs.Heading.{space_header}
 use Rattle.space.specs.declared.Head.{Head}
-use Rattle.space.specs.declared.Header.TheVariants as header
 use Rattle.store.specs.Clauses.{view_in}
 use Rattle.store.specs.Changes.{change_by}
 use Rattle.store.specs.Decisions.{says, refuses, decide, decide_by, goals_in, detours_in}
@@ -108,17 +110,17 @@ module _ (cs : List ℕ) (h : Head) (ss : List ℕ) (budget : ℕ) where
     unfolding decide_by
     decides-on = sym (rw e refl)
 
-    pub decides-refused : (r : ℕ) → GoalsTold cs h ss r → (r ≡ 0 → ⊥) → refuses r ≡ decide (coding_of h.edition) (view_in cs h) (detours ss budget)
-    decides-refused r t z = sym (t.refusing z budget) ∙ decides-on
+    pub decides-refused : (r : Refusal) → GoalsTold cs h ss (Err r) → refuses (number_of r) ≡ decide (coding_of h.edition) (view_in cs h) (detours ss budget)
+    decides-refused r t = sym (t budget) ∙ decides-on
 
     pub decides-found : (x : Reply) → Ready cs h ss → x ≡ detoured (detour (goals_from cs h ss 0) budget) → says x ≡ decide (coding_of h.edition) (view_in cs h) (detours ss budget)
     decides-found x t f = ap says f ∙ sym (t.told budget) ∙ decides-on
 
 module _ (cs : List ℕ) (ss : List ℕ) (budget : ℕ) where
-  pub detours-declined : (r : ℕ) → header.Refused r ≡ space_header cs → Answers cs (detours ss budget) (refused r) [] cs
+  pub detours-declined : (r : Refusal) → Err r ≡ space_header cs → Answers cs (detours ss budget) (refused (number_of r)) [] cs
   unfolding space_step_by under_any_by lent
   detours-declined r e = rw (← e) (refl, refl, refl)
 
-  pub detours-answered : (h : Head) → header.Sound h ≡ space_header cs → (x : Reply) → says x ≡ decide (coding_of h.edition) (view_in cs h) (detours ss budget) → Answers cs (detours ss budget) x [] cs
+  pub detours-answered : (h : Head) → Ok h ≡ space_header cs → (x : Reply) → says x ≡ decide (coding_of h.edition) (view_in cs h) (detours ss budget) → Answers cs (detours ss budget) x [] cs
   unfolding space_step_by under_any_by under_by reply out_after change_by lent
   detours-answered h e x d = rw (← e, ← d) (refl, refl, refl)

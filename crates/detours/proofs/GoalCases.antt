@@ -1,4 +1,8 @@
 -- A law for each case of judging goals.
+use Rattle.std.specs.Prelude as std
+use Rattle.std.specs.Prelude.{None, Some, Result, Ok, Err}
+use Rattle.basis.specs.declared.refusals.Refusal.{Refusal}
+use Rattle.basis.specs.declared.refusals.Refusal.TheVariants as refusal
 use Prim.Native.Nat.{ℕ, zero, suc, ◌≤◌, ◌<◌}
 use mathlib.Core.Path.{◌≡◌, refl, sym, ap, ◌∙◌, subst}
 use mathlib.Core.Bool.{Bool, true, false, ◌&&◌, ◌||◌, false≢true}
@@ -18,7 +22,6 @@ use Rattle.plain.specs.Detours.{Live, Goal, Option, options_of, all_offer, goals
 use Rattle.space.specs.Sound.{subgoal_under}
 use Rattle.space.specs.declared.Head.{Head}
 use Rattle.space.specs.declared.Subgoal.{Subgoal}
-use Rattle.space.specs.declared.SubgoalRead.TheVariants as subgoal
 use Rattle.space.proofs.JudgingLaws.{subgoal-bounds, read-subgoal-sound}
 use Rattle.store.specs.Clauses.{view_in}
 use Rattle.store.specs.Decisions.{says, state_of, sound_subgoal, Lives, severed, lives, lives_of, Goals, unsound, goals, goal_before, goals_in, detours_in}
@@ -26,7 +29,6 @@ use Rattle.store.proofs.CallsRecords.{reads-subgoal, read-subgoal-damaged}
 use Rattle.detours.specs.Searching.{Searched, lives_in, answers_in, options_in, goals_from}
 use Rattle.detours.specs.Judging.{variables_of, goal_fits, AnswersHeld, goal_in, goal_severed, GoalSevered, GoalSound, GoalTold, ruled, GoalsTold}
 use Rattle.detours.specs.declared.GoalJudged.{GoalJudged}
-use Rattle.detours.specs.declared.GoalJudged.TheVariants as goal
 
 -- ---- a goal
 
@@ -48,13 +50,13 @@ unfolding lives_in
 lives-in x ls e = rw e refl
 
 module _ (cs : List ℕ) (h : Head) (s : ℕ) where
-  pub goal-damaged : subgoal.Damaged ≡ reads-subgoal (view_in cs h) s → GoalSevered cs h s
+  pub goal-damaged : None ≡ reads-subgoal (view_in cs h) s → GoalSevered cs h s
   goal-damaged e = severed-record (sound_subgoal (view_in cs h) s) (lives_of (coding_of h.edition) (view_in cs h) s) (read-subgoal-damaged h.nodes h.answers (view_in cs h).subgoal s e)
 
   pub goal-severed : lives_of (coding_of h.edition) (view_in cs h) s ≡ severed → GoalSevered cs h s
   goal-severed e = severed-answers (sound_subgoal (view_in cs h) s) (lives_of (coding_of h.edition) (view_in cs h) s) e
 
-  module _ (g : Subgoal) (e : subgoal.Sound g ≡ reads-subgoal (view_in cs h) s) where
+  module _ (g : Subgoal) (e : Some g ≡ reads-subgoal (view_in cs h) s) where
     goal-read : (g ≡ subgoal_under cs h s) × (sound_subgoal (view_in cs h) s ≡ true)
     goal-read = read-subgoal-sound h.nodes h.answers (view_in cs h).subgoal s e
 
@@ -70,7 +72,7 @@ module _ (cs : List ℕ) (h : Head) (s : ℕ) where
     pub goal-root : g.root < h.nodes
     goal-root = omega (arith, ap (λ (x : Subgoal). x.root) goal-is, (subgoal-bounds h.nodes h.answers (subgoal_under cs h s) goal-read.1).root_below)
 
-    pub goal-sound : (o b : Bool) → o ≡ eqb g.state 0 → AnswersHeld cs h s b → GoalTold cs h s (goal.Sound o b)
+    pub goal-sound : (o b : Bool) → o ≡ eqb g.state 0 → AnswersHeld cs h s b → GoalTold cs h s (Some (record { is_open = o; fits = b }))
     goal-sound o b f a =
         let ls : answers_in cs h s ≡ a.0 = lives-in (lives_of (coding_of h.edition) (view_in cs h) s) a.0 a.1 in (
           record { record-sound = goal-read.1; answers-sound = a.1 ∙ ap lives (sym ls) },
@@ -79,12 +81,12 @@ module _ (cs : List ℕ) (h : Head) (s : ℕ) where
         )
 
 -- of the number that it is
-pub told-goal : (cs : List ℕ) (h : Head) {s t : ℕ} (j : GoalJudged) → s ≡ t → GoalTold cs h s j → GoalTold cs h t j
+pub told-goal : (cs : List ℕ) (h : Head) {s t : ℕ} (j : std.Option GoalJudged) → s ≡ t → GoalTold cs h s j → GoalTold cs h t j
 told-goal cs h j e x = subst (λ (k : ℕ). GoalTold cs h k j) e x
 
 -- ---- the rule
 
-pub ruled-open : (o b : Bool) (n : ℕ) → o ≡ true → 14 ≡ ruled o b n
+pub ruled-open : (o b : Bool) (n : ℕ) → o ≡ true → Err refusal.SourceOpen ≡ ruled o b n
 unfolding ruled
 ruled-open o b n e = rw e refl
 
@@ -93,19 +95,19 @@ and-false true = refl
 and-false false = refl
 
 module _ (o b : Bool) (n : ℕ) (e : o ≡ false) where
-  pub ruled-none : n ≡ 0 → 22 ≡ ruled o b n
+  pub ruled-none : n ≡ 0 → Err refusal.Goals ≡ ruled o b n
   unfolding ruled
   ruled-none z = rw (e, z) refl
 
-  pub ruled-many : 6 < n → 22 ≡ ruled o b n
+  pub ruled-many : 6 < n → Err refusal.Goals ≡ ruled o b n
   unfolding ruled
   ruled-many l = rw (e, lt-leb n 6 l, and-false (leb 1 n)) refl
 
-  pub ruled-fit : (n ≡ 0 → ⊥) → n ≤ 6 → b ≡ true → 0 ≡ ruled o b n
+  pub ruled-fit : (n ≡ 0 → ⊥) → n ≤ 6 → b ≡ true → Ok tt ≡ ruled o b n
   unfolding ruled
   ruled-fit z l f = rw (e, f, le-leb 1 n (omega (arith, z)), le-leb n 6 l) refl
 
-  pub ruled-unfit : b ≡ false → 22 ≡ ruled o b n
+  pub ruled-unfit : b ≡ false → Err refusal.Goals ≡ ruled o b n
   unfolding ruled
   ruled-unfit f = rw (e, f, and-false (leb 1 n && leb n 6)) refl
 
@@ -231,15 +233,12 @@ module _ (cs : List ℕ) (h : Head) where
   judging-begun ss = record { within = omega arith; sound = λ j l. absurd (omega arith); opened = refl; fit = refl }
 
   module _ (ss : List ℕ) (i : ℕ) (o b : Bool) (g : Judging ss i o b) where
-    pub judging-damaged : i < length ss → GoalSevered cs h (get_or ss i 0) → GoalsTold cs h ss 9
+    pub judging-damaged : i < length ss → GoalSevered cs h (get_or ss i 0) → GoalsTold cs h ss (Err refusal.Records)
     unfolding detours_in
-    judging-damaged l e = record {
-      ready = λ z. absurd (omega arith);
-      refusing = λ z budget. rw (goals-unsound ss i l e) refl;
-    }
+    judging-damaged l e budget = rw (goals-unsound ss i l e) refl
 
-    pub judging-on : (next : ℕ) → next ≡ suc i → (o' b' p q : Bool) → i < length ss → GoalTold cs h (get_or ss i 0) (goal.Sound p q) → o' ≡ (o || p) → b' ≡ (b && q) → Judging ss next o' b'
-    judging-on next is o' b' p q l e f k = rw is record {
+    pub judging-on : (next : ℕ) → next ≡ suc i → (o' b' : Bool) (x : GoalJudged) → i < length ss → GoalTold cs h (get_or ss i 0) (Some x) → o' ≡ (o || x.is_open) → b' ≡ (b && x.fits) → Judging ss next o' b'
+    judging-on next is o' b' x l e f k = rw is record {
       within = omega arith;
       sound = λ j m. by_cases (eqb j i)
           (λ t. rw (eqb-true j i t) e.0)
@@ -282,23 +281,20 @@ module _ (cs : List ℕ) (h : Head) where
           }
 
       ruled-told : all_within h.subgoals ss ≡ true → (p : Bool) → o ≡ p → (q : Bool) → ((leb 1 (length ss) && leb (length ss) 6) && b) ≡ q
-          → GoalsTold cs h ss (pick p 14 (pick q 0 22))
-      ruled-told w true e q f = record { ready = λ z. absurd (omega arith); refusing = λ z budget. said budget ∙ rw e refl }
-      ruled-told w false e false f = record { ready = λ z. absurd (omega arith); refusing = λ z budget. said budget ∙ rw (e, f) refl }
+          → GoalsTold cs h ss (pick p (Err refusal.SourceOpen) (pick q (Ok tt) (Err refusal.Goals)))
+      ruled-told w true e q f = λ budget. said budget ∙ rw e refl
+      ruled-told w false e false f = λ budget. said budget ∙ rw (e, f) refl
       ruled-told w false e true f =
           let x = both_true (leb 1 (length ss) && leb (length ss) 6) b f in
           let y = both_true (leb 1 (length ss)) (leb (length ss) 6) x.0 in
           record {
-            ready = λ z. record {
-              some = leb-true 1 (length ss) y.0;
-              few = leb-true (length ss) 6 y.1;
-              searched = searched w x.1;
-              told = λ budget. said budget ∙ rw (e, f) refl;
-            };
-            refusing = λ z. absurd (z refl);
+            some = leb-true 1 (length ss) y.0;
+            few = leb-true (length ss) 6 y.1;
+            searched = searched w x.1;
+            told = λ budget. said budget ∙ rw (e, f) refl;
           }
 
-      pub judging-ended : all_within h.subgoals ss ≡ true → (r : ℕ) → r ≡ ruled o b (length ss) → GoalsTold cs h ss r
+      pub judging-ended : all_within h.subgoals ss ≡ true → (r : Result Unit Refusal) → r ≡ ruled o b (length ss) → GoalsTold cs h ss r
       unfolding ruled
       judging-ended w r e =
           rw e (ruled-told w o refl ((leb 1 (length ss) && leb (length ss) 6) && b) refl)

@@ -1,7 +1,8 @@
 -- A law for each case of judging a goal's answers.
+use Rattle.std.specs.Prelude.{None, Option, Some}
 use Prim.Native.Nat.{ℕ, suc, ◌+◌, ◌-◌, ◌<◌, ◌≤◌}
 use mathlib.Core.Path.{◌≡◌, refl, sym, ap, ◌∙◌, subst}
-use mathlib.Core.Bool.{Bool, true, false, ◌&&◌, false≢true, true≢false}
+use mathlib.Core.Bool.{Bool, true, false, ◌&&◌, false≢true}
 use mathlib.Core.List.{List, [], ◌∷◌, ◌++◌, append_assoc, append-nil}
 use native.Mathlib.Omega.{arith}
 use lib.Dec.{eqb}
@@ -17,13 +18,10 @@ use Rattle.plain.specs.Detours.{Live, offers, all_offer}
 use Rattle.space.specs.Layout.{sizes, node_in}
 use Rattle.space.specs.Judging.{answer_sound, read_node}
 use Rattle.space.specs.declared.Node.{Node}
-use Rattle.space.specs.declared.NodeRead.{NodeRead}
-use Rattle.space.specs.declared.NodeRead.TheVariants as node
 use Rattle.space.specs.Sound.{subgoal_under}
 use Rattle.space.specs.declared.Head.{Head}
 use Rattle.space.specs.declared.Subgoal.{Subgoal}
 use Rattle.space.specs.declared.Answer.{Answer}
-use Rattle.space.specs.declared.AnswerRead.TheVariants as answer
 use Rattle.space.proofs.JudgingLaws.{node-bounds, read-node-sound, read-node-damaged, answer-bounds, read-answer-sound, follows-rises, follows-within}
 use Rattle.trie.specs.Siblings.{Trie, sound}
 use Rattle.trie.specs.Paths.{Path, none, tokens, below, gather}
@@ -37,7 +35,7 @@ use Rattle.store.specs.Decisions.{Lives, severed, lives, lives_behind, lives_fro
 use Rattle.store.proofs.CallsRecords.{reads-answer, read-answer-damaged}
 use Rattle.path_terms.specs.AlongPaths.{worth}
 use Rattle.detours.specs.Judging.{offer_form, offer_path, fit_path, fits, PathSevered, PathHeld, prepended, lives_at, Onward, AnswerJudged, variables_of, goal_fits, AnswersHeld}
-use Rattle.detours.specs.declared.Member.TheVariants as member
+use Rattle.detours.specs.declared.Member.{Member}
 use Rattle.detours.proofs.OfferForms.{form-long, offered, offers-form, offer-legal}
 use Rattle.detours.proofs.LiveSteps.{lives-end}
 
@@ -126,29 +124,29 @@ module _ (t : Trie) (root : ℕ) where
 
 -- the same by the nodes as they are read
 module _ (cs : List ℕ) (e : End) where
-  abbrev reads : ℕ → NodeRead
+  abbrev reads : ℕ → Option Node
   reads n = read_node e.nodes e.links (node_in sizes cs) n
 
-  sound-at : (n : ℕ) (y : Node) → node.Sound y ≡ reads n → (y ≡ node_in sizes cs n) × (sound (trie_of cs e) n ≡ true)
+  sound-at : (n : ℕ) (y : Node) → Some y ≡ reads n → (y ≡ node_in sizes cs n) × (sound (trie_of cs e) n ≡ true)
   sound-at n y r = read-node-sound e.nodes e.links (node_in sizes cs) n r
 
-  unsound-at : (n : ℕ) → node.Damaged ≡ reads n → sound (trie_of cs e) n ≡ false
+  unsound-at : (n : ℕ) → None ≡ reads n → sound (trie_of cs e) n ≡ false
   unsound-at n r = read-node-damaged e.nodes e.links (node_in sizes cs) n r
 
-  parent_is : (n : ℕ) (y : Node) → node.Sound y ≡ reads n → y.parent ≡ ((trie_of cs e).at n).parent
+  parent_is : (n : ℕ) (y : Node) → Some y ≡ reads n → y.parent ≡ ((trie_of cs e).at n).parent
   parent_is n y r = ap (λ (x : Node). x.parent) (sound-at n y r).0
 
-  token-is : (n : ℕ) (y : Node) → node.Sound y ≡ reads n → y.token ≡ ((trie_of cs e).at n).token
+  token-is : (n : ℕ) (y : Node) → Some y ≡ reads n → y.token ≡ ((trie_of cs e).at n).token
   token-is n y r = ap (λ (x : Node). x.token) (sound-at n y r).0
 
   -- the node above one is one
-  pub above_in : (n : ℕ) (y : Node) → node.Sound y ≡ reads n → n < e.nodes → y.parent < e.nodes
+  pub above_in : (n : ℕ) (y : Node) → Some y ≡ reads n → n < e.nodes → y.parent < e.nodes
   above_in n y r l = omega (arith, parent_is n y r, (node-bounds e.nodes e.links n (node_in sizes cs n) (sound-at n y r).1).parent-most)
 
-  pub last-damaged : node.Damaged ≡ reads e.leaf → false ≡ offer_path (path_to cs e)
+  pub last-damaged : None ≡ reads e.leaf → false ≡ offer_path (path_to cs e)
   last-damaged r = offer-damaged (trie_of cs e) e.root e.leaf 383 (unsound-at e.leaf r)
 
-  module _ (last : Node) (r : node.Sound last ≡ reads e.leaf) where
+  module _ (last : Node) (r : Some last ≡ reads e.leaf) where
     pub last-root : last.parent ≡ e.leaf → false ≡ offer_path (path_to cs e)
     last-root p = offer-root (trie_of cs e) e.root e.leaf 383 (sound-at e.leaf last r).1 (sym (parent_is e.leaf last r) ∙ p)
 
@@ -156,13 +154,13 @@ module _ (cs : List ℕ) (e : End) where
       up : ((trie_of cs e).at e.leaf).parent ≡ e.leaf → ⊥
       up z = u (parent_is e.leaf last r ∙ z)
 
-      pub above-damaged : node.Damaged ≡ reads last.parent → false ≡ offer_path (path_to cs e)
+      pub above-damaged : None ≡ reads last.parent → false ≡ offer_path (path_to cs e)
       above-damaged q =
           first-damaged (trie_of cs e) e.root e.leaf 382 (sound-at e.leaf last r).1 up
           (unsound-at ((trie_of cs e).at e.leaf).parent (q ∙ ap reads (parent_is e.leaf last r)))
 
-      module _ (first : Node) (q : node.Sound first ≡ reads last.parent) where
-        read_first : node.Sound first ≡ reads ((trie_of cs e).at e.leaf).parent
+      module _ (first : Node) (q : Some first ≡ reads last.parent) where
+        read_first : Some first ≡ reads ((trie_of cs e).at e.leaf).parent
         read_first = q ∙ ap reads (parent_is e.leaf last r)
 
         parent-first : first.parent ≡ ((trie_of cs e).at ((trie_of cs e).at e.leaf).parent).parent
@@ -178,16 +176,16 @@ module _ (cs : List ℕ) (e : End) where
           up_first : ((trie_of cs e).at ((trie_of cs e).at e.leaf).parent).parent ≡ ((trie_of cs e).at e.leaf).parent → ⊥
           up_first z = v (parent-first ∙ z ∙ sym (parent_is e.leaf last r))
 
-          pub root-damaged : node.Damaged ≡ reads first.parent → false ≡ offer_path (path_to cs e)
+          pub root-damaged : None ≡ reads first.parent → false ≡ offer_path (path_to cs e)
           root-damaged x =
               second-damaged (trie_of cs e) e.root e.leaf 381 (sound-at e.leaf last r).1 up sound-first up_first
               (unsound-at ((trie_of cs e).at ((trie_of cs e).at e.leaf).parent).parent (x ∙ ap reads parent-first))
 
-          module _ (root : Node) (x : node.Sound root ≡ reads first.parent) where
+          module _ (root : Node) (x : Some root ≡ reads first.parent) where
             abbrev top : ℕ
             top = ((trie_of cs e).at ((trie_of cs e).at e.leaf).parent).parent
 
-            read-root : node.Sound root ≡ reads top
+            read-root : Some root ≡ reads top
             read-root = x ∙ ap reads parent-first
 
             sound-root : sound (trie_of cs e) top ≡ true
@@ -210,15 +208,6 @@ module _ (cs : List ℕ) (e : End) where
                 (λ w. p (parent_is top root read-root ∙ w ∙ sym parent-first))
 
 -- ---- a path judged
-
-pub fit-other : (m : ℕ) (p : Path) → (m ≡ 2 → ⊥) → false ≡ fit_path m p
-fit-other m p e = sym (rw (ne_eqb m 2 e) refl)
-
-pub fit-two : (m : ℕ) (p : Path) (b : Bool) → m ≡ 2 → b ≡ offer_path p → b ≡ fit_path m p
-fit-two m p b e f = rw (eq-eqb m 2 e) f
-
-not-offer : {b : Bool} → b ≡ false → true ≡ b → ⊥
-not-offer e f = true≢false (f ∙ e)
 
 module _ (edition m : ℕ) where
   -- an atom and an integer, held against two terms
@@ -265,15 +254,15 @@ behind-legal test a w t severed = refl
 behind-legal test a w t (lives ls) = rw t refl
 
 module _ (cs : List ℕ) (h : Head) (s a : ℕ) (z : a ≡ 0 → ⊥) where
-  pub answer-damaged : answer.Damaged ≡ reads-answer (view_in cs h) a → AnswerJudged cs h s a member.Damaged
+  pub answer-damaged : None ≡ reads-answer (view_in cs h) a → AnswerJudged cs h s a None
   unfolding lives_from
   answer-damaged e steps = simp (ne_eqb _ _ z, read-answer-damaged _ _ _ _ _ e)
 
-  module _ (y : Answer) (e : answer.Sound y ≡ reads-answer (view_in cs h) a) where
+  module _ (y : Answer) (e : Some y ≡ reads-answer (view_in cs h) a) where
     read : (y ≡ (view_in cs h).answer a) × (answer_sound h.nodes h.subgoals h.answers a ((view_in cs h).answer a) ≡ true)
     read = read-answer-sound h.nodes h.subgoals h.answers (view_in cs h).answer a e
 
-    pub answer-other : (y.subgoal ≡ s → ⊥) → AnswerJudged cs h s a member.Damaged
+    pub answer-other : (y.subgoal ≡ s → ⊥) → AnswerJudged cs h s a None
     unfolding lives_from
     answer-other o steps = simp (ne_eqb _ _ z, read.1, ne_eqb _ _ (λ x. o (ap (λ (w : Answer). w.subgoal) read.0 ∙ x)))
 
@@ -292,10 +281,10 @@ module _ (cs : List ℕ) (h : Head) (s a : ℕ) (z : a ≡ 0 → ⊥) where
           rw (f, read.0)
           (simp (ne_eqb _ _ z, read.1, eq-eqb _ _ (ap (λ (w : Answer). w.subgoal) (sym read.0) ∙ o)))
 
-      pub answer-severed : PathSevered h.edition (path_to cs (answer_end h g y)) g.variables → AnswerJudged cs h s a member.Damaged
+      pub answer-severed : PathSevered h.edition (path_to cs (answer_end h g y)) g.variables → AnswerJudged cs h s a None
       answer-severed p steps = from-here steps ∙ p a (lives_at cs h s steps y.next)
 
-      pub answer-held : (b : Bool) → PathHeld h.edition (path_to cs (answer_end h g y)) g.variables b → AnswerJudged cs h s a (member.Sound y.next b)
+      pub answer-held : (b : Bool) → PathHeld h.edition (path_to cs (answer_end h g y)) g.variables b → AnswerJudged cs h s a (Some (record { next = y.next; fits = b }))
       answer-held b p = (
         onward,
         (
@@ -383,14 +372,14 @@ module _ (cs : List ℕ) (h : Head) (s : ℕ) where
       from_step : (x : Lives) → lives_at cs h s (suc (p.steps - 1)) a ≡ x → lives_of (coding_of h.edition) (view_in cs h) s ≡ prepended p.before x
       from_step x e = p.rest ∙ ap (λ (k : ℕ). prepended p.before (lives_at cs h s k a)) one-step ∙ ap (prepended p.before) e
 
-      pub passed-severed : AnswerJudged cs h s a member.Damaged → lives_of (coding_of h.edition) (view_in cs h) s ≡ severed
+      pub passed-severed : AnswerJudged cs h s a None → lives_of (coding_of h.edition) (view_in cs h) s ≡ severed
       passed-severed j = from_step severed (j (p.steps - 1)) ∙ prepended-severed p.before
 
-      pub passed_on : (next : ℕ) (d r : Bool) → AnswerJudged cs h s a (member.Sound next d) → r ≡ (b && d) → Passed cs h s next r
-      passed_on next d r j e = record {
+      pub passed_on : (m : Member) (r : Bool) → AnswerJudged cs h s a (Some m) → r ≡ (b && m.fits) → Passed cs h s m.next r
+      passed_on m r j e = record {
         before = p.before ++ (record { number = a; form = j.1.0 } ∷ []);
         steps = p.steps - 1;
-        rest = from_step _ (j.1.2 (p.steps - 1)) ∙ prepended-append p.before (record { number = a; form = j.1.0 } ∷ []) (lives_at cs h s (p.steps - 1) next);
+        rest = from_step _ (j.1.2 (p.steps - 1)) ∙ prepended-append p.before (record { number = a; form = j.1.0 } ∷ []) (lives_at cs h s (p.steps - 1) m.next);
         fit =
             ap (λ (x : Bool). eqb (variables_of cs h s) 2 && x) (offer-append (coding_of h.edition) p.before (record { number = a; form = j.1.0 }))
             ∙ sym (and-apart (eqb (variables_of cs h s) 2) (all_offer (coding_of h.edition) p.before) (offers ((coding_of h.edition).terms j.1.0)))

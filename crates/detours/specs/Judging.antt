@@ -1,6 +1,9 @@
 -- What judging goals gives: of one path, of one answer, of all answers of a goal, and of all goals.
 use Rattle.std.specs.Prelude.{ℕ, suc, ◌<◌, ◌≤◌, Bool, true, false, ◌&&◌, List, [], ◌∷◌, ◌++◌, ◌≡◌, eqb, leb, length}
-use Rattle.std.specs.Prelude.{get_or}
+use Rattle.std.specs.Prelude.{get_or, Option, Some, None, Result, Ok, Err}
+use Rattle.basis.specs.Refusals.{number_of}
+use Rattle.basis.specs.declared.refusals.Refusal.{Refusal}
+use Rattle.basis.specs.declared.refusals.Refusal.TheVariants as refusal
 use Rattle.basis.specs.Choice.{pick}
 use Rattle.forms.specs.Cells.{atomic, integral}
 use Rattle.forms.specs.Stored.{stored_of}
@@ -17,12 +20,8 @@ use Rattle.store.specs.Decisions.{says, refuses, state_of, sound_subgoal, Lives,
 use Rattle.store.specs.Decisions.{lives_from}
 use Rattle.store.specs.Decisions.{lives_of, goals_in, detours_in}
 use Rattle.detours.specs.Searching.{Searched, answers_in, goals_from}
-use Rattle.detours.specs.declared.Judged.{Judged}
-use Rattle.detours.specs.declared.Judged.TheVariants as judged
 use Rattle.detours.specs.declared.GoalJudged.{GoalJudged}
-use Rattle.detours.specs.declared.GoalJudged.TheVariants as goal
 use Rattle.detours.specs.declared.Member.{Member}
-use Rattle.detours.specs.declared.Member.TheVariants as member
 
 -- ---- a path
 
@@ -53,10 +52,9 @@ PathSevered edition p m = (a : ℕ) (later : Lives) → lives_behind ((stored_of
 abbrev pub PathHeld : ℕ → Path → ℕ → Bool → Type 0
 PathHeld edition p m b = (w : Word) × (p ≡ tokens w) × ((stored_of edition).legal m w ≡ true) × (fits edition m w ≡ b)
 
-abbrev pub PathJudged : ℕ → Path → ℕ → Judged → Type 0
-PathJudged edition p m judged.Damaged = PathSevered edition p m
-PathJudged edition p m judged.Fit = PathHeld edition p m true
-PathJudged edition p m judged.Unfit = PathHeld edition p m false
+abbrev pub PathJudged : ℕ → Path → ℕ → Option Bool → Type 0
+PathJudged edition p m None = PathSevered edition p m
+PathJudged edition p m (Some b) = PathHeld edition p m b
 
 -- ---- an answer
 
@@ -84,10 +82,10 @@ abbrev pub variables_of : List ℕ → Head → ℕ → ℕ
 variables_of cs h s = (subgoal_under cs h s).variables
 
 -- answer a is damaged; or it has a form, which fits or not, and a next answer
-abbrev pub AnswerJudged : List ℕ → Head → ℕ → ℕ → Member → Type 0
-AnswerJudged cs h s a member.Damaged = (steps : ℕ) → lives_at cs h s (suc steps) a ≡ severed
-AnswerJudged cs h s a (member.Sound next b) =
-    Onward h a next × ((w : Word) × (fits h.edition (variables_of cs h s) w ≡ b) × Heads cs h s a w next)
+abbrev pub AnswerJudged : List ℕ → Head → ℕ → ℕ → Option Member → Type 0
+AnswerJudged cs h s a None = (steps : ℕ) → lives_at cs h s (suc steps) a ≡ severed
+AnswerJudged cs h s a (Some m) =
+    Onward h a m.next × ((w : Word) × (fits h.edition (variables_of cs h s) w ≡ m.fits) × Heads cs h s a w m.next)
 
 -- ---- all answers
 
@@ -99,10 +97,9 @@ abbrev pub AnswersHeld : List ℕ → Head → ℕ → Bool → Type 0
 AnswersHeld cs h s b =
     (ls : List Live) × (lives_of (coding_of h.edition) (view_in cs h) s ≡ lives ls) × (goal_fits cs h s ls ≡ b)
 
-abbrev pub AnswersJudged : List ℕ → Head → ℕ → Judged → Type 0
-AnswersJudged cs h s judged.Damaged = lives_of (coding_of h.edition) (view_in cs h) s ≡ severed
-AnswersJudged cs h s judged.Fit = AnswersHeld cs h s true
-AnswersJudged cs h s judged.Unfit = AnswersHeld cs h s false
+abbrev pub AnswersJudged : List ℕ → Head → ℕ → Option Bool → Type 0
+AnswersJudged cs h s None = lives_of (coding_of h.edition) (view_in cs h) s ≡ severed
+AnswersJudged cs h s (Some b) = AnswersHeld cs h s b
 
 -- ---- a goal
 
@@ -127,17 +124,17 @@ pub record GoalSound (cs : List ℕ) (h : Head) (s : ℕ) : Type 0 where
   pub record-sound : sound_subgoal (view_in cs h) s ≡ true
   pub answers-sound : lives_of (coding_of h.edition) (view_in cs h) s ≡ lives (answers_in cs h s)
 
-abbrev pub GoalTold : List ℕ → Head → ℕ → GoalJudged → Type 0
-GoalTold cs h s goal.Damaged = GoalSevered cs h s
-GoalTold cs h s (goal.Sound o b) =
-    GoalSound cs h s × (is_open (state_of (subgoal_under cs h s).state) ≡ o)
-    × (goal_fits cs h s (answers_in cs h s) ≡ b)
+abbrev pub GoalTold : List ℕ → Head → ℕ → Option GoalJudged → Type 0
+GoalTold cs h s None = GoalSevered cs h s
+GoalTold cs h s (Some j) =
+    GoalSound cs h s × (is_open (state_of (subgoal_under cs h s).state) ≡ j.is_open)
+    × (goal_fits cs h s (answers_in cs h s) ≡ j.fits)
 
 -- ---- all goals
 
--- the refusal of n goals, of which some are open or none, and all fit or not; 0 for none
-unfoldable pub ruled : Bool → Bool → ℕ → ℕ
-ruled o b n = pick o 14 (pick ((leb 1 n && leb n 6) && b) 0 22)
+-- the refusal of n goals, of which some are open or none, and all fit or not
+unfoldable pub ruled : Bool → Bool → ℕ → Result Unit Refusal
+ruled o b n = pick o (Err refusal.SourceOpen) (pick ((leb 1 n && leb n 6) && b) (Ok tt) (Err refusal.Goals))
 
 -- the goals may be searched, and what is found is the answer
 pub record Ready (cs : List ℕ) (h : Head) (ss : List ℕ) : Type 0 where
@@ -147,8 +144,9 @@ pub record Ready (cs : List ℕ) (h : Head) (ss : List ℕ) : Type 0 where
   pub told : (budget : ℕ) → detours_in (coding_of h.edition) (goals_in (coding_of h.edition) (view_in cs h) ss) budget
       ≡ says (detoured (detour (goals_from cs h ss 0) budget))
 
--- r refuses them, whatever the budget, or is 0
-pub record GoalsTold (cs : List ℕ) (h : Head) (ss : List ℕ) (r : ℕ) : Type 0 where
-  pub ready : r ≡ 0 → Ready cs h ss
-  pub refusing : (r ≡ 0 → ⊥) → (budget : ℕ)
-      → detours_in (coding_of h.edition) (goals_in (coding_of h.edition) (view_in cs h) ss) budget ≡ refuses r
+-- they are ready, or refused whatever the budget
+abbrev pub GoalsTold : List ℕ → Head → List ℕ → Result Unit Refusal → Type 0
+GoalsTold cs h ss (Ok y) = Ready cs h ss
+GoalsTold cs h ss (Err r) =
+    (budget : ℕ) → detours_in (coding_of h.edition) (goals_in (coding_of h.edition) (view_in cs h) ss) budget
+    ≡ refuses (number_of r)

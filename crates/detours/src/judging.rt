@@ -7,14 +7,14 @@ ghost use Rattle.store.specs.Clauses.{Held};
 ghost use Rattle.detours.specs.Judging.{offer_path, fit_path, PathJudged, AnswerJudged, AnswersJudged};
 ghost use Rattle.detours.specs.Judging.{GoalTold, ruled, GoalsTold};
 
-use super::{GoalJudged, Judged, Member};
+use super::{GoalJudged, Member};
 use basis::limits::MOST_GOALS;
-use basis::refusals::{GOALS, RECORDS, SOURCE_OPEN};
+use basis::refusals::Refusal;
 use basis::wide;
 use forms::{is_atom, is_integer};
 use path_terms::path_worth;
 use space::records::{read_answer, read_rising_node, read_subgoal};
-use space::{AnswerRead, Head, NodeRead, Subgoal, SubgoalRead};
+use space::{Head, Subgoal};
 use trie::End;
 use trie::ends::answer_end;
 
@@ -23,19 +23,19 @@ fn is_offer(space: &[u32], end: End) -> bool
     requires { Ends space.now end }
     ensures { result ≡ offer_path (path_to space.now end) }
 {
-    let NodeRead::Sound(last) = read_rising_node(space, end.nodes, end.links, end.leaf) else {
+    let Some(last) = read_rising_node(space, end.nodes, end.links, end.leaf) else {
         return false;
     };
     if last.parent == end.leaf {
         return false;
     }
-    let NodeRead::Sound(first) = read_rising_node(space, end.nodes, end.links, last.parent) else {
+    let Some(first) = read_rising_node(space, end.nodes, end.links, last.parent) else {
         return false;
     };
     if first.parent == last.parent {
         return false;
     }
-    let NodeRead::Sound(root) = read_rising_node(space, end.nodes, end.links, first.parent) else {
+    let Some(root) = read_rising_node(space, end.nodes, end.links, first.parent) else {
         return false;
     };
     if root.parent != first.parent || first.parent != end.root {
@@ -52,41 +52,38 @@ fn is_fit(space: &[u32], end: End, m: usize) -> bool
     m == 2 && is_offer(space, end)
 }
 
-// The path of an answer to a subgoal of m variables. One that fits is legal, and nothing else is to be read of it.
-fn judge_path(space: &[u32], end: End, m: usize, edition: u32) -> Judged
+// Does the path of an answer to a subgoal of m variables fit? Nothing where it is damaged. One that fits is legal, and
+// nothing else is to be read of it.
+fn judge_path(space: &[u32], end: End, m: usize, edition: u32) -> Option<bool>
     requires { Ends space.now end }
     ensures { PathJudged edition (path_to space.now end) m result }
 {
     if is_fit(space, end, m) {
-        return Judged::Fit;
+        return Some(true);
     }
     if path_worth(space, end, m, false, edition) == 0 {
-        return Judged::Damaged;
+        return None;
     }
-    Judged::Unfit
+    Some(false)
 }
 
-// Answer a, which is to be the subgoal's.
-fn judge_answer(space: &[u32], h: Head, s: usize, g: Subgoal, a: usize) -> Member
+// Answer a, which is to be the subgoal's; nothing where it is damaged.
+fn judge_answer(space: &[u32], h: Head, s: usize, g: Subgoal, a: usize) -> Option<Member>
     requires { Held space.now h s g × (1 ≤ a) × (a ≤ h.answers) }
     ensures { AnswerJudged space.now h s a result }
 {
-    let AnswerRead::Sound(y) = read_answer(space, h, a) else {
-        return Member::Damaged;
-    };
+    let y = read_answer(space, h, a)?;
     if y.subgoal != s {
-        return Member::Damaged;
+        return None;
     }
     let end = answer_end(h, g, y);
-    match judge_path(space, end, g.variables, h.edition) {
-        Judged::Damaged => Member::Damaged,
-        Judged::Fit => Member::Sound(y.next, true),
-        Judged::Unfit => Member::Sound(y.next, false),
-    }
+    let fits = judge_path(space, end, g.variables, h.edition)?;
+    Some(Member { next: y.next, fits })
 }
 
-// All answers of subgoal s, whose record is g. Those after one that does not fit are judged too.
-fn judge_answers(space: &[u32], h: Head, s: usize, g: Subgoal) -> Judged
+// Do all answers of subgoal s fit, whose record is g? Nothing where one is damaged: those after one that does not fit
+// are judged too.
+fn judge_answers(space: &[u32], h: Head, s: usize, g: Subgoal) -> Option<bool>
     requires held { Held space.now h s g }
     requires first_le_answers { g.first ≤ h.answers }
     ensures { AnswersJudged space.now h s result }
@@ -94,44 +91,37 @@ fn judge_answers(space: &[u32], h: Head, s: usize, g: Subgoal) -> Judged
     let mut a = g.first;
     let mut fit = g.variables == 2;
     while a != 0 {
-        let Member::Sound(next, fits) = judge_answer(space, h, s, g, a) else {
-            return Judged::Damaged;
-        };
-        fit &= fits;
-        a = next;
+        let member = judge_answer(space, h, s, g, a)?;
+        fit &= member.fits;
+        a = member.next;
     }
-    if fit {
-        return Judged::Fit;
-    }
-    Judged::Unfit
+    Some(fit)
 }
 
-// Subgoal s as a goal: its record, then its answers.
-fn judge_goal(space: &[u32], h: Head, s: usize) -> GoalJudged
+// Subgoal s as a goal: its record, then its answers; nothing where one is damaged.
+fn judge_goal(space: &[u32], h: Head, s: usize) -> Option<GoalJudged>
     requires { SubgoalUsed space.now h s }
     ensures { GoalTold space.now h s result }
 {
-    let SubgoalRead::Sound(g) = read_subgoal(space, h, s) else {
-        return GoalJudged::Damaged;
-    };
-    match judge_answers(space, h, s, g) {
-        Judged::Damaged => GoalJudged::Damaged,
-        Judged::Fit => GoalJudged::Sound(g.state == 0, true),
-        Judged::Unfit => GoalJudged::Sound(g.state == 0, false),
-    }
+    let g = read_subgoal(space, h, s)?;
+    let fits = judge_answers(space, h, s, g)?;
+    Some(GoalJudged {
+        is_open: g.state == 0,
+        fits,
+    })
 }
 
-// The refusal of n goals by their states and their answers; 0 for none.
-fn ruling(opened: bool, fit: bool, n: usize) -> u32
+// What n goals come to by their states and their answers.
+fn ruling(opened: bool, fit: bool, n: usize) -> Result<(), Refusal>
     ensures { result ≡ ruled opened fit n }
 {
     if opened {
-        return SOURCE_OPEN;
+        return Err(Refusal::SourceOpen);
     }
     if n == 0 || MOST_GOALS < n || !fit {
-        return GOALS;
+        return Err(Refusal::Goals);
     }
-    0
+    Ok(())
 }
 
 // Are all goals numbers of subgoals?
@@ -147,20 +137,17 @@ pub fn are_numbers(subgoals: usize, goals: &[u32]) -> bool
     true
 }
 
-// The refusal of goals that are numbers of subgoals; 0 for none. What is damaged comes before all else, so every goal
-// is judged.
-pub fn judge_goals(space: &[u32], h: Head, goals: &[u32]) -> u32
+// Judges goals that are numbers of subgoals. What is damaged comes before all else, so every goal is judged.
+pub fn judge_goals(space: &[u32], h: Head, goals: &[u32]) -> Result<(), Refusal>
     requires { Bounds space.now h × (all_within h.subgoals goals.now ≡ true) }
     ensures { GoalsTold space.now h goals.now result }
 {
     let mut opened = false;
     let mut fit = true;
     for goal in goals {
-        let GoalJudged::Sound(is_open, fits) = judge_goal(space, h, wide(*goal)) else {
-            return RECORDS;
-        };
-        opened |= is_open;
-        fit &= fits;
+        let judged = judge_goal(space, h, wide(*goal)).ok_or(Refusal::Records)?;
+        opened |= judged.is_open;
+        fit &= judged.fits;
     }
     ruling(opened, fit, goals.len())
 }

@@ -29,7 +29,7 @@ const NUMBERS: usize = BEST + MOST_GOALS;
 const DIVERTERS: usize = NUMBERS + MOST_GOALS;
 
 pub const WORK_CELLS: usize = DIVERTERS + MOST_GOALS;
-// Above every total: six times the most minutes are fewer.
+// Above every total: six times the most minutes are fewer. A number, since it stands in a cell beside the totals.
 pub const NO_TOTAL: u32 = 4294967295;
 
 // Was the diverter chosen for one of the first goals?

@@ -1,4 +1,6 @@
 -- A word drafted token by token.
+use Rattle.drafts.specs.Entries.{arrived}
+use Rattle.std.specs.Prelude.{None, Some}
 use Prim.Native.Nat.{ℕ, suc, ◌+◌, ◌<◌, ◌≤◌}
 use mathlib.Core.Path.{◌≡◌, refl, sym, ap, ◌∙◌, subst}
 use mathlib.Core.Bool.{Bool, true, false}
@@ -17,10 +19,8 @@ use Rattle.space.specs.Sound.{NodesIn, NodeOf}
 use Rattle.space.specs.declared.Node.{Node}
 use Rattle.agreement.proofs.CellRecords.{Kept}
 use Rattle.drafts.specs.declared.Room.{Room}
-use Rattle.drafts.specs.declared.Reached.TheVariants as reached
-use Rattle.drafts.specs.declared.Drafted.TheVariants as drafted
 use Rattle.drafts.specs.Entries.{slot_in, entry_slot, Bucketed, lowest, highest, Reachable, Absent, Present, EntryPlaced, EntryReached}
-use Rattle.drafts.specs.Drafts.{word_of, Keyed, Draftable, words_with, WordDrafted, LinkMarked}
+use Rattle.drafts.specs.Drafts.{word_of, Keyed, Draftable, words_with, WordDrafted, LinkMarked, drafted_to}
 use Rattle.drafts.proofs.DraftLaws.{kept_same, kept_then, known-word, absent-word, keyed-more, word-new, size-new, keyed-marked, was-marked}
 
 -- ---- lists of words
@@ -146,7 +146,7 @@ module _ (cs0 : List ℕ) (x : Room) (used0 stop : ℕ) (tokens : List ℕ) (D :
             );
       }
 
-      reached-on : (ds : List ℕ) (m used' : ℕ) → EntryReached cs x used n (get_or tokens i 0) ds (reached.At m used') → Drafting cs0 x used0 stop tokens ds m used' (suc i)
+      reached-on : (ds : List ℕ) (m used' : ℕ) → EntryReached cs x used n (get_or tokens i 0) ds (Some (arrived m used')) → Drafting cs0 x used0 stop tokens ds m used' (suc i)
       reached-on ds m used' (inl k) =
           subst (λ (u : ℕ). Drafting cs0 x used0 stop tokens ds m u (suc i)) (sym k.1)
           (subst (λ (c : List ℕ). Drafting cs0 x used0 stop tokens c m used (suc i)) (sym k.2) (known_on m k.0))
@@ -154,10 +154,10 @@ module _ (cs0 : List ℕ) (x : Room) (used0 stop : ℕ) (tokens : List ℕ) (D :
           subst (λ (u : ℕ). Drafting cs0 x used0 stop tokens ds m u (suc i)) (sym k.2)
           (subst (λ (j : ℕ). Drafting cs0 x used0 stop tokens ds j (used + 1) (suc i)) (sym k.1) (made-on ds k.0 k.3))
 
-      pub drafting-on : (ds : List ℕ) (m used' : ℕ) → EntryReached cs x used n (get_or tokens i 0) ds (reached.At m used') → Drafting cs0 x used0 stop tokens ds m used' (i + 1)
+      pub drafting-on : (ds : List ℕ) (m used' : ℕ) → EntryReached cs x used n (get_or tokens i 0) ds (Some (arrived m used')) → Drafting cs0 x used0 stop tokens ds m used' (i + 1)
       drafting-on ds m used' r = let e : suc i ≡ i + 1 = omega arith in subst (Drafting cs0 x used0 stop tokens ds m used') e (reached-on ds m used' r)
 
-      pub drafting-full : (ds : List ℕ) → EntryReached cs x used n (get_or tokens i 0) ds reached.Full → WordDrafted cs0 x used0 stop tokens ds drafted.Full
+      pub drafting-full : (ds : List ℕ) → EntryReached cs x used n (get_or tokens i 0) ds None → WordDrafted cs0 x used0 stop tokens ds None
       drafting-full ds f = (
         subst (Kept (lowest x) (highest x) cs0) (sym f.2) G.kept,
         λ K ends e Q.
@@ -197,7 +197,7 @@ module _ (cs0 : List ℕ) (x : Room) (used0 stop : ℕ) (tokens : List ℕ) (D :
         link-there : link_cell sizes n < length cs
         link-there = let h = G.within in let f = G.buckets.fits in let z = G.nodes.held in omega arith
 
-        pub drafting-done : WordDrafted cs0 x used0 stop tokens ds (drafted.Word used held)
+        pub drafting-done : WordDrafted cs0 x used0 stop tokens ds (Some (drafted_to used held))
         drafting-done =
             let te : (j : ℕ) → (node_in sizes ds j).token ≡ (node_in sizes cs j).token = λ j. cell_same (node_at sizes j) (λ q. omega arith) in
             let ce : (j : ℕ) → (node_in sizes ds j).child ≡ (node_in sizes cs j).child = λ j. cell_same (node_at sizes j + 1) (λ q. omega arith) in

@@ -1,4 +1,6 @@
 -- The functions behind one entry of a draft, case by case.
+use Rattle.drafts.specs.Entries.{arrived}
+use Rattle.std.specs.Prelude.{None, Some}
 use Prim.Native.Nat.{ℕ, ◌+◌, ◌<◌, ◌≤◌}
 use mathlib.Core.Path.{◌≡◌, refl, sym, ap, ◌∙◌, subst}
 use mathlib.Core.Bool.{true, false}
@@ -12,7 +14,6 @@ use Rattle.space.specs.Sound.{NodeRoomFor}
 use Rattle.space.specs.declared.Node.{Node}
 use Rattle.agreement.proofs.CellRecords.{Kept}
 use Rattle.drafts.specs.declared.Room.{Room}
-use Rattle.drafts.specs.declared.Reached.TheVariants as reached
 use Rattle.drafts.specs.Entries.{slot_in, is_entry, Bucketed, lowest, highest, Reachable, Seekable, Placeable, EntryFound, Placed, EntryPlaced, EntryReached}
 use Rattle.drafts.proofs.EntryLaws.{Seeking, seeking-begun, seeking-found, seeking-on, seeking-less, seeking-none, roomless, bucketed-more, cells-placed, cells-kept}
 
@@ -57,7 +58,7 @@ module _ (cs : List ℕ) (x : Room) (used parent token : ℕ) (P : Placeable cs 
 -- ---- an entry is reached
 
 module _ (cs : List ℕ) (x : Room) (used parent token : ℕ) (R : Reachable cs x used parent) where
-  pub reach-none : x.most ≡ 0 → EntryReached cs x used parent token cs reached.Full
+  pub reach-none : x.most ≡ 0 → EntryReached cs x used parent token cs None
   reach-none z =
       let B : Bucketed (node_in sizes cs) x used = R.1 in
       let f = B.from in let g = B.fits in
@@ -70,14 +71,14 @@ module _ (cs : List ℕ) (x : Room) (used parent token : ℕ) (R : Reachable cs 
   reach-place z = let g = R.1.fits in (R, omega arith)
 
   module _ (n : ℕ) (f : EntryFound cs x used parent token n) where
-    pub reach-found : (n ≡ 0 → ⊥) → EntryReached cs x used parent token cs (reached.At n used)
+    pub reach-found : (n ≡ 0 → ⊥) → EntryReached cs x used parent token cs (Some (arrived n used))
     reach-found z = inl (f.1 z, refl, refl)
 
     module _ (z : n ≡ 0) where
-      pub reach-full : used ≡ x.base + x.most → EntryReached cs x used parent token cs reached.Full
+      pub reach-full : used ≡ x.base + x.most → EntryReached cs x used parent token cs None
       reach-full e = (f.0 z, e, refl)
 
-      pub reach-made : (ds : List ℕ) → EntryPlaced cs x used parent token ds → EntryReached cs x used parent token ds (reached.At used (used + 1))
+      pub reach-made : (ds : List ℕ) → EntryPlaced cs x used parent token ds → EntryReached cs x used parent token ds (Some (arrived used (used + 1)))
       reach-made ds p = inr (f.0 z, refl, refl, p)
 
 -- ---- the search

@@ -1,5 +1,7 @@
 -- What the entries of a draft stand for: words, each a node that is used and tokens below it. The nodes that are used
 -- stand for themselves.
+use Rattle.drafts.specs.declared.Drafted.{Drafted}
+use Rattle.std.specs.Prelude.{None, Option, Some}
 use Rattle.std.specs.Prelude.{ℕ, ◌+◌, ◌<◌, ◌≤◌, Bool, true, not, List, [], ◌∷◌, ◌++◌, ◌≡◌, eqb, length, get_or, set}
 use Rattle.basis.specs.Choice.{pick}
 use Rattle.plain.specs.Words.{Word, has, union}
@@ -9,8 +11,6 @@ use Rattle.space.specs.Sound.{NodesIn}
 use Rattle.space.specs.declared.Node.{Node}
 use Rattle.agreement.proofs.CellRecords.{Kept}
 use Rattle.drafts.specs.declared.Room.{Room}
-use Rattle.drafts.specs.declared.Drafted.{Drafted}
-use Rattle.drafts.specs.declared.Drafted.TheVariants as drafted
 use Rattle.drafts.specs.Entries.{Bucketed, lowest, highest}
 
 -- the word of node n, by the words of all
@@ -36,14 +36,18 @@ Draftable cs x used stop tokens =
 abbrev pub words_with : List Word → ℕ → List ℕ → List Word
 words_with K stop tokens = union K (longer (stop ∷ []) tokens)
 
-abbrev pub WordDrafted : List ℕ → Room → ℕ → ℕ → List ℕ → List ℕ → Drafted → Type 0
-WordDrafted cs x used stop tokens cs' (drafted.Word used' held) =
-    Kept (lowest x) (highest x) cs cs' × Bucketed (node_in sizes cs') x used'
+-- with so many nodes in use, a word that was there before or not
+abbrev pub drafted_to : ℕ → Bool → Drafted
+drafted_to k held = record { used = k; held = held }
+
+abbrev pub WordDrafted : List ℕ → Room → ℕ → ℕ → List ℕ → List ℕ → Option Drafted → Type 0
+WordDrafted cs x used stop tokens cs' (Some drafted) =
+    Kept (lowest x) (highest x) cs cs' × Bucketed (node_in sizes cs') x drafted.used
     × ((K ends : List Word) → length K ≡ used → Keyed (node_in sizes cs) x.base K ends
-    → (length (words_with K stop tokens) ≡ used')
+    → (length (words_with K stop tokens) ≡ drafted.used)
     × Keyed (node_in sizes cs') x.base (words_with K stop tokens) (ends ++ ((stop ∷ tokens) ∷ []))
-    × (held ≡ has ends (stop ∷ tokens)))
-WordDrafted cs x used stop tokens cs' drafted.Full =
+    × (drafted.held ≡ has ends (stop ∷ tokens)))
+WordDrafted cs x used stop tokens cs' None =
     Kept (lowest x) (highest x) cs cs'
     × ((K ends : List Word) → length K ≡ used → Keyed (node_in sizes cs) x.base K ends
     → x.base + x.most < length (words_with K stop tokens))

@@ -1,14 +1,13 @@
 -- The entries of a draft in free nodes: where they stand, how one is found, and what one more leaves. An entry has the
 -- token and the parent of the node that it stands for. Its sibling is the entry before it in the same slot. The child
 -- of free node b is the latest entry of slot b, whether or not b is an entry itself.
-use Rattle.std.specs.Prelude.{ℕ, ◌+◌, ◌*◌, ◌%◌, ◌<◌, ◌≤◌, Bool, ◌&&◌, List, ◌⊎◌, ◌≡◌, eqb}
+use Rattle.drafts.specs.declared.Reached.{Reached}
+use Rattle.std.specs.Prelude.{ℕ, ◌+◌, ◌*◌, ◌%◌, ◌<◌, ◌≤◌, Bool, ◌&&◌, List, ◌⊎◌, ◌≡◌, eqb, None, Option, Some}
 use Rattle.space.specs.Layout.{sizes, node_at, node_in}
 use Rattle.space.specs.Sound.{NodesIn}
 use Rattle.space.specs.declared.Node.{Node}
 use Rattle.agreement.proofs.CellRecords.{Kept}
 use Rattle.drafts.specs.declared.Room.{Room}
-use Rattle.drafts.specs.declared.Reached.{Reached}
-use Rattle.drafts.specs.declared.Reached.TheVariants as reached
 
 -- the free node whose child is the slot of a parent and a token
 unfoldable pub slot_in : Room → ℕ → ℕ → ℕ
@@ -104,8 +103,13 @@ abbrev pub Known : List ℕ → Room → ℕ → ℕ → ℕ → List ℕ → �
 Known cs x used parent token cs' n used' =
     Present (node_in sizes cs) x used parent token n × (used' ≡ used) × (cs' ≡ cs)
 
-abbrev pub EntryReached : List ℕ → Room → ℕ → ℕ → ℕ → List ℕ → Reached → Type 0
-EntryReached cs x used parent token cs' (reached.At n used') =
-    Known cs x used parent token cs' n used' ⊎ Made cs x used parent token cs' n used'
-EntryReached cs x used parent token cs' reached.Full =
+-- at a node, with so many in use
+abbrev pub arrived : ℕ → ℕ → Reached
+arrived n k = record { node = n; used = k }
+
+abbrev pub EntryReached : List ℕ → Room → ℕ → ℕ → ℕ → List ℕ → Option Reached → Type 0
+EntryReached cs x used parent token cs' (Some reached) =
+    Known cs x used parent token cs' reached.node reached.used
+    ⊎ Made cs x used parent token cs' reached.node reached.used
+EntryReached cs x used parent token cs' None =
     Absent (node_in sizes cs) x used parent token × (used ≡ x.base + x.most) × (cs' ≡ cs)

@@ -4,7 +4,7 @@ ghost use Rattle.space.specs.Sound.{NodeOf};
 ghost use Rattle.drafts.specs.Drafts.{Draftable, WordDrafted, LinkMarked};
 
 use super::entries::reach;
-use super::{Drafted, Reached, Room};
+use super::{Drafted, Room};
 use space::records::{node_in, write_link};
 
 // A word ends at this entry: did one before?
@@ -18,20 +18,24 @@ fn mark(space: &mut [u32], x: Room, n: usize) -> bool
     y.link != 0
 }
 
-// The tokens below node `stop`, of which there is one at least.
-pub fn draft(space: &mut [u32], x: Room, used: usize, stop: usize, tokens: &[u32]) -> Drafted
+// The tokens below node `stop`, of which there is one at least; nothing where no node is left.
+pub fn draft(
+    space: &mut [u32],
+    x: Room,
+    used: usize,
+    stop: usize,
+    tokens: &[u32],
+) -> Option<Drafted>
     requires { Draftable space.old x used stop tokens.now }
     ensures { WordDrafted space.old x used stop tokens.now space.new result }
 {
     let mut n = stop;
     let mut k = used;
     for &token in tokens {
-        let Reached::At(m, more) = reach(space, x, k, n, token) else {
-            return Drafted::Full;
-        };
-        n = m;
-        k = more;
+        let reached = reach(space, x, k, n, token)?;
+        n = reached.node;
+        k = reached.used;
     }
     let held = mark(space, x, n);
-    Drafted::Word(k, held)
+    Some(Drafted { used: k, held })
 }

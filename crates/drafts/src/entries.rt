@@ -24,7 +24,7 @@ fn is_entry(y: Node, parent: usize, token: u32) -> bool
     y.parent == parent && y.token == token
 }
 
-// The entry with this parent and this token; 0 for none.
+// The entry with this parent and this token; 0 for none, as a chain of entries ends in the cells: `EntryFound`.
 fn seek(space: &[u32], x: Room, used: usize, parent: usize, token: u32) -> usize
     requires { Seekable space.now x used parent }
     ensures { EntryFound space.now x used parent token result }
@@ -62,21 +62,24 @@ fn place(space: &mut [u32], x: Room, used: usize, parent: usize, token: u32)
     write_child(space, all, slot, used as u32);
 }
 
-// The entry with this parent and this token, made where there is none.
-pub fn reach(space: &mut [u32], x: Room, used: usize, parent: usize, token: u32) -> Reached
+// The entry with this parent and this token, made where there is none; nothing where no node is left.
+pub fn reach(space: &mut [u32], x: Room, used: usize, parent: usize, token: u32) -> Option<Reached>
     requires { Reachable space.old x used parent }
     ensures { EntryReached space.old x used parent token space.new result }
 {
     if x.most == 0 {
-        return Reached::Full;
+        return None;
     }
     let n = seek(space, x, used, parent, token);
     if n != 0 {
-        return Reached::At(n, used);
+        return Some(Reached { node: n, used });
     }
     if used == x.base + x.most {
-        return Reached::Full;
+        return None;
     }
     place(space, x, used, parent, token);
-    Reached::At(used, used + 1)
+    Some(Reached {
+        node: used,
+        used: used + 1,
+    })
 }

@@ -14,16 +14,16 @@ pub struct Room {
     pub most: usize,
 }
 
-// A token below a node of the draft: the node that it leads to, and the nodes in use with it; or no node is left.
+// A token below a node of the draft: the node that it leads to, and the nodes in use with it.
 #[derive(Clone, Copy)]
-pub enum Reached {
-    At(usize, usize),
-    Full,
+pub struct Reached {
+    pub node: usize,
+    pub used: usize,
 }
 
-// A word drafted: the nodes in use with it, and whether it was there before; or no node is left.
+// A word drafted: the nodes in use with it, and whether it was there before.
 #[derive(Clone, Copy)]
-pub enum Drafted {
-    Word(usize, bool),
-    Full,
+pub struct Drafted {
+    pub used: usize,
+    pub held: bool,
 }

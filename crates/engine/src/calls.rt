@@ -6,12 +6,11 @@ ghost use Rattle.words.specs.Words.{ReturnsFresh, Returns, ReturnsIndexed, Retur
 ghost use Rattle.words.specs.Words.{ReturnsBuild, ReturnsCarry, ReturnsGrow};
 ghost use Rattle.words.specs.Why.{ReturnsWhy, ReturnsWhyIndexed};
 
-use basis::refusals::OUT;
-use store::CountsAnswer;
+use basis::refusals::Refusal;
 use words::reasons::give_reason;
 use words::{
-    COUNTS, REFUSED, answer_word, build_word, call_word, cells_word, check_word, finish_word,
-    fresh_word, join_word, next_word, refusal_word, result_word,
+    COUNTS, answer_word, build_word, call_word, cells_word, check_word, done_word, join_word,
+    next_word, refusal_with, refusal_word, result_word,
 };
 
 // ---- fresh, and the calls that write
@@ -27,7 +26,7 @@ pub extern "C" fn tables_fresh(
 ) -> u64
     ensures { ReturnsFresh edition nodes subgoals answers space.old result space.new }
 {
-    fresh_word(space::fresh::fresh(space, nodes, subgoals, answers, edition))
+    done_word(space::fresh::fresh(space, nodes, subgoals, answers, edition))
 }
 
 // Copies a space of edition 1 into one of edition 2 with these capacities: the same subgoals, answers and states by
@@ -42,7 +41,7 @@ pub extern "C" fn tables_carry(
 ) -> u64
     ensures { ReturnsCarry nodes subgoals answers source.now target.old result target.new }
 {
-    fresh_word(copying::carry(source, target, nodes, subgoals, answers))
+    done_word(copying::carry(source, target, nodes, subgoals, answers))
 }
 
 // Gives a table these capacities in its place; refused, it stays as it was.
@@ -50,7 +49,7 @@ pub extern "C" fn tables_carry(
 pub extern "C" fn tables_grow(space: &mut [u32], nodes: u32, subgoals: u32, answers: u32) -> u64
     ensures { ReturnsGrow nodes subgoals answers space.old result space.new }
 {
-    fresh_word(growing::grow(space, nodes, subgoals, answers))
+    done_word(growing::grow(space, nodes, subgoals, answers))
 }
 
 // Finds or enters the subgoal that a term calls, given in pair form.
@@ -74,7 +73,7 @@ pub extern "C" fn tables_answer(space: &mut [u32], subgoal: u32, terms: &[u32]) 
 pub extern "C" fn tables_finish(space: &mut [u32], subgoal: u32) -> u64
     ensures { Returns space.old (request.finish subgoal) result [] space.new }
 {
-    finish_word(calling::finish(space, subgoal))
+    done_word(calling::finish(space, subgoal))
 }
 
 // Joins two finished subgoals into an open one: two cells to a pair, and two to a copy.
@@ -165,12 +164,12 @@ pub extern "C" fn tables_counts(space: &[u32], out: &mut [u32]) -> u64
     ensures { ReturnsCounts space.now result out.old out.new }
 {
     match reads::counts(space) {
-        CountsAnswer::Used(c) if 3 <= out.len() => {
+        Ok(c) if 3 <= out.len() => {
             out[..3].copy_from_slice(&[c.nodes, c.subgoals, c.answers]);
             result_word(COUNTS, 3)
         }
-        CountsAnswer::Used(_) => result_word(REFUSED + OUT, 3),
-        CountsAnswer::Refused(r) => refusal_word(r),
+        Ok(_) => refusal_with(Refusal::Out, 3),
+        Err(r) => refusal_word(r),
     }
 }
 

@@ -1,4 +1,7 @@
 -- One law for each branch of the readers of compact form.
+use Rattle.forms.specs.Places.{placed}
+use Rattle.forms.specs.declared.Place.{Place}
+use Rattle.std.specs.Prelude.{None, Option, Some}
 use Prim.Native.Nat.{ℕ, suc, zero, ◌+◌, ◌-◌, ◌≤◌, ◌<◌}
 use mathlib.Core.List.{List, [], ◌∷◌, ◌++◌, append_assoc, append-nil}
 use mathlib.Core.Bool.{Bool, true, false}
@@ -15,8 +18,6 @@ use Rattle.basis.specs.Choice.{pick}
 use Rattle.forms.specs.declared.Shape.TheVariants.{Symbol}
 use Rattle.forms.specs.declared.Token.{Token}
 use Rattle.forms.specs.declared.Token.TheVariants.{Sym, Begin, Last, Tail, Other}
-use Rattle.forms.specs.declared.Step.{Step}
-use Rattle.forms.specs.declared.Step.TheVariants.{Done, Malformed}
 use Rattle.forms.specs.Cells.{payload, variable, constant, nil, PAIR, BLIST, ELIST, EPAIR, shape_of, token_of}
 use Rattle.forms.specs.Terms.{Term, cell, arg, pair, pairs, every, applied}
 use Rattle.forms.specs.Due.{due_after}
@@ -394,17 +395,17 @@ module _ (arity : ℕ → ℕ) (s : List ℕ) (limit : ℕ) where
   unfolding items
   items-end at h = rw (drop_of_length-le s {i = at} h)
 
-  pub forms-none : (at n count : ℕ) (out : List ℕ) (to : ℕ) → n ≡ 0 → to ≤ limit → FormsRan arity s limit at n count out to out (Done at to count)
+  pub forms-none : (at n count : ℕ) (out : List ℕ) (to : ℕ) → n ≡ 0 → to ≤ limit → FormsRan arity s limit at n count out to out (Some (placed at to count))
   unfolding every ordered met_in
   forms-none at n count out to e l =
       ([], tt, sym e, record { cells = refl; next-at = omega arith; end-at = omega arith; wrote = refl; numbers = refl; known = refl }, l)
 
-  pub forms-end : (at n count : ℕ) (out : List ℕ) (to : ℕ) (out' : List ℕ) → 0 < n → length s ≤ at → FormsRan arity s limit at n count out to out' Malformed
+  pub forms-end : (at n count : ℕ) (out : List ℕ) (to : ℕ) (out' : List ℕ) → 0 < n → length s ≤ at → FormsRan arity s limit at n count out to out' None
   unfolding front
   forms-end at n count out to out' f h = inl (unfit-none limit to n (front (items_at arity s at)) (rw (items-end at h)) f)
 
   -- n terms are due, and do not fit
-  pub forms-full : (at n count : ℕ) (out : List ℕ) (to : ℕ) (out' : List ℕ) → limit < to + n → FormsRan arity s limit at n count out to out' Malformed
+  pub forms-full : (at n count : ℕ) (out : List ℕ) (to : ℕ) (out' : List ℕ) → limit < to + n → FormsRan arity s limit at n count out to out' None
   forms-full at n count out to out' h = inl (unfit-many limit to n (front (items_at arity s at)) h)
 
   -- a span of one term's form before other items
@@ -413,12 +414,12 @@ module _ (arity : ℕ → ℕ) (s : List ℕ) (limit : ℕ) where
   span-items at u count out to p out₁ next end count₁ v h = ap (items (token_of arity)) v.cells ∙ items-compact (shape_of arity) (token_of arity) (marks arity) u 0 (drop next s) h
 
   module _ (at n count : ℕ) (out : List ℕ) (to : ℕ) (out' : List ℕ) (some : 0 < n) (h : at < length s) where
-    pub forms-illegal : (get_or s at 0 ≡ BLIST → ⊥) → ((k : ℕ) → shape_of arity (get_or s at 0) ≡ Symbol k → ⊥) → FormsRan arity s limit at n count out to out' Malformed
+    pub forms-illegal : (get_or s at 0 ≡ BLIST → ⊥) → ((k : ℕ) → shape_of arity (get_or s at 0) ≡ Symbol k → ⊥) → FormsRan arity s limit at n count out to out' None
     forms-illegal f g =
         let m : Marks (shape_of arity) (token_of arity) = marks arity in
         inl (unfit-none limit to n (front (items_at arity s at)) (rw (items-cons at h, no_front (token_of arity (get_or s at 0)) (get_or s at 0) (items_at arity s (at + 1)) (λ k e. g k (m.shapes (get_or s at 0) k e)) (λ e. f (m.begin-cell (get_or s at 0) e)))) some)
 
-    pub forms-unordered : variable (get_or s at 0) ≡ true → count < payload (get_or s at 0) → FormsRan arity s limit at n count out to out' Malformed
+    pub forms-unordered : variable (get_or s at 0) ≡ true → count < payload (get_or s at 0) → FormsRan arity s limit at n count out to out' None
     unfolding ordered in_order
     forms-unordered e g = inr (rw (cells-cons s at h, e, lt-leb (payload (get_or s at 0)) count g))
 
@@ -435,32 +436,32 @@ module _ (arity : ℕ → ℕ) (s : List ℕ) (limit : ℕ) where
     to-begun e = let m : Marks (shape_of arity) (token_of arity) = marks arity in rw (items-cons at h, e, m.begins)
 
     -- a symbol whose number is in order, and its arguments
-    pub forms-symbol : (k due count₁ : ℕ) (r : Step) → shape_of arity (get_or s at 0) ≡ Symbol k → due ≡ due_after n k → ordered count (get_or s at 0 ∷ []) ≡ true → count₁ ≡ met_after count (get_or s at 0)
+    pub forms-symbol : (k due count₁ : ℕ) (r : Option Place) → shape_of arity (get_or s at 0) ≡ Symbol k → due ≡ due_after n k → ordered count (get_or s at 0 ∷ []) ≡ true → count₁ ≡ met_after count (get_or s at 0)
         → FormsRan arity s limit (at + 1) due count₁ (set out to (get_or s at 0)) (to + 1) out' r → FormsRan arity s limit at n count out to out' r
     unfolding pairs compact
-    forms-symbol k due count₁ (Done next end count') e d o q w =
+    forms-symbol k due count₁ (Some place) e d o q w =
         let c : ℕ = get_or s at 0 in
         let ts : List Term = w.0 in
         let l : k ≤ length ts = omega (arith, w.2) in
-        let v : Span s (at + 1) (every compact ts) (met_after count c) (set out to c) (to + 1) (every pairs ts) out' next end count' = rw q at w.3 in (
+        let v : Span s (at + 1) (every compact ts) (met_after count c) (set out to c) (to + 1) (every pairs ts) out' place.at place.to place.count = rw q at w.3 in (
           applied k (cell c) ts,
           applied-well-formed (shape_of arity) k (cell c) ts e w.1,
           omega (arith, w.2, applied-length k (cell c) ts l),
           rw (applied-whole compact compact-joins k (cell c) ts l, applied-whole pairs pairs-joins k (cell c) ts l)
-              (span-append s at (c ∷ []) count out to (c ∷ []) (set out to c) (at + 1) (to + 1) (met_after count c) (every compact ts) (every pairs ts) out' next end count' (span-symbol s at count out to h o) v),
+              (span-append s at (c ∷ []) count out to (c ∷ []) (set out to c) (at + 1) (to + 1) (met_after count c) (every compact ts) (every pairs ts) out' place.at place.to place.count (span-symbol s at count out to h o) v),
           w.4,
         )
-    forms-symbol k due count₁ Malformed e d o q (inl w) =
+    forms-symbol k due count₁ None e d o q (inl w) =
         let c : ℕ = get_or s at 0 in
         let ts : List Term = front (items_at arity s (at + 1)) in
         let w₁ : Unfit limit (to + 1) (k + (n - 1)) ts = subst (λ (x : ℕ). Unfit limit (to + 1) x ts) (d ∙ due-after n k some) w in
         let w₂ : Unfit limit to n (applied k (cell c) ts) = subst (λ (x : ℕ). Unfit limit to x (applied k (cell c) ts)) n-suc (unfit-symbol limit to k (n - 1) c ts (leb k (length ts)) refl w₁) in
         let q₁ : front (items_at arity s at) ≡ applied k (cell c) ts = ap front (to-filled k e) ∙ front-filled k (cell c) (items_at arity s (at + 1)) in
         inl (subst (λ (l : List Term). Unfit limit to n l) (sym q₁) w₂)
-    forms-symbol k due count₁ Malformed e d o q (inr w) =
+    forms-symbol k due count₁ None e d o q (inr w) =
         inr (span-unordered s at (get_or s at 0 ∷ []) count out to (get_or s at 0 ∷ []) (set out to (get_or s at 0)) (at + 1) (to + 1) (met_after count (get_or s at 0)) (span-symbol s at count out to h o) (rw q at w))
 
-    begin-short : (out₁ : List ℕ) → get_or s at 0 ≡ BLIST → RestRan arity s (limit - (n - 1)) (at + 1) false count out to out₁ Malformed → FormsRan arity s limit at n count out to out' Malformed
+    begin-short : (out₁ : List ℕ) → get_or s at 0 ≡ BLIST → RestRan arity s (limit - (n - 1)) (at + 1) false count out to out₁ None → FormsRan arity s limit at n count out to out' None
     begin-short out₁ e (inl w) =
         let is : List Item = items_at arity s (at + 1) in
         let v : Unfit limit to n (front (whole (collected is))) = subst (λ (x : ℕ). Unfit limit to x (front (whole (collected is)))) n-suc (begin-unfit limit to (n - 1) is (whole-begins (collected is)) w) in
@@ -469,9 +470,9 @@ module _ (arity : ℕ → ℕ) (s : List ℕ) (limit : ℕ) where
 
     -- a list is one of the terms due, and leaves room for those behind it
     pub forms-begin-short : (out₁ : List ℕ) (due : ℕ) → due ≡ due_after n 0 → get_or s at 0 ≡ BLIST
-        → RestRan arity s (limit - due) (at + 1) false count out to out₁ Malformed → FormsRan arity s limit at n count out to out' Malformed
+        → RestRan arity s (limit - due) (at + 1) false count out to out₁ None → FormsRan arity s limit at n count out to out' None
     forms-begin-short out₁ due d e w =
-        begin-short out₁ e (subst (λ x. RestRan arity s (limit - x) (at + 1) false count out to out₁ Malformed) (d ∙ omega arith) w)
+        begin-short out₁ e (subst (λ x. RestRan arity s (limit - x) (at + 1) false count out to out₁ None) (d ∙ omega arith) w)
 
     -- BLIST and the rest of the list are the list's form
     list-span : (out₁ : List ℕ) (next end count₁ : ℕ) (u : Term) (form : List ℕ) → get_or s at 0 ≡ BLIST → compact u ≡ BLIST ∷ form → Span s (at + 1) form count out to (pairs u) out₁ next end count₁
@@ -479,31 +480,31 @@ module _ (arity : ℕ → ℕ) (s : List ℕ) (limit : ℕ) where
     list-span out₁ next end count₁ u form e q v =
         rw q (span-append s at (BLIST ∷ []) count out to [] out (at + 1) to count form (pairs u) out₁ next end count₁ (span-mark s at count out to BLIST h e refl) v)
 
-    begin-ran : (out₁ : List ℕ) (next end count₁ : ℕ) (r : Step) → get_or s at 0 ≡ BLIST
-        → RestRan arity s (limit - (n - 1)) (at + 1) false count out to out₁ (Done next end count₁)
+    begin-ran : (out₁ : List ℕ) (next end count₁ : ℕ) (r : Option Place) → get_or s at 0 ≡ BLIST
+        → RestRan arity s (limit - (n - 1)) (at + 1) false count out to out₁ (Some (placed next end count₁))
         → FormsRan arity s limit next (n - 1) count₁ out₁ end out' r → FormsRan arity s limit at n count out to out' r
     unfolding every front filled
-    begin-ran out₁ next end count₁ (Done next' end' count') e v w = (
+    begin-ran out₁ next end count₁ (Some place) e v w = (
       v.0 ∷ w.0,
       (v.1, w.1),
       omega (arith, w.2),
-      span-append s at (compact v.0) count out to (pairs v.0) out₁ next end count₁ (every compact w.0) (every pairs w.0) out' next' end' count' (list-span out₁ next end count₁ v.0 v.2 e v.3.1 v.4) w.3,
+      span-append s at (compact v.0) count out to (pairs v.0) out₁ next end count₁ (every compact w.0) (every pairs w.0) out' place.at place.to place.count (list-span out₁ next end count₁ v.0 v.2 e v.3.1 v.4) w.3,
       w.4,
     )
-    begin-ran out₁ next end count₁ Malformed e v (inl w) =
+    begin-ran out₁ next end count₁ None e v (inl w) =
         let q = span-items at v.0 count out to (pairs v.0) out₁ next end count₁ (list-span out₁ next end count₁ v.0 v.2 e v.3.1 v.4) v.1 in
         let w₁ : Unfit limit (to + length (pairs v.0)) (n - 1) (front (items_at arity s next)) = subst (λ (x : ℕ). Unfit limit x (n - 1) (front (items_at arity s next))) v.4.end-at w in
         let w₂ : Unfit limit to n (v.0 ∷ front (items_at arity s next)) = subst (λ (x : ℕ). Unfit limit to x (v.0 ∷ front (items_at arity s next))) n-suc (unfit-behind limit to (n - 1) v.0 (front (items_at arity s next)) w₁) in
         inl (subst (λ (l : List Item). Unfit limit to n (front l)) (sym q) w₂)
-    begin-ran out₁ next end count₁ Malformed e v (inr w) =
+    begin-ran out₁ next end count₁ None e v (inr w) =
         inr (span-unordered s at (compact v.0) count out to (pairs v.0) out₁ next end count₁ (list-span out₁ next end count₁ v.0 v.2 e v.3.1 v.4) w)
 
-    pub forms-begin : (out₁ : List ℕ) (next end count₁ due : ℕ) (r : Step) → due ≡ due_after n 0 → get_or s at 0 ≡ BLIST
-        → RestRan arity s (limit - due) (at + 1) false count out to out₁ (Done next end count₁)
+    pub forms-begin : (out₁ : List ℕ) (next end count₁ due : ℕ) (r : Option Place) → due ≡ due_after n 0 → get_or s at 0 ≡ BLIST
+        → RestRan arity s (limit - due) (at + 1) false count out to out₁ (Some (placed next end count₁))
         → FormsRan arity s limit next due count₁ out₁ end out' r → FormsRan arity s limit at n count out to out' r
     forms-begin out₁ next end count₁ due r d e v w =
         let z : due ≡ n - 1 = d ∙ omega arith in
-        begin-ran out₁ next end count₁ r e (subst (λ x. RestRan arity s (limit - x) (at + 1) false count out to out₁ (Done next end count₁)) z v)
+        begin-ran out₁ next end count₁ r e (subst (λ x. RestRan arity s (limit - x) (at + 1) false count out to out₁ (Some (placed next end count₁))) z v)
         (subst (λ x. FormsRan arity s limit next x count₁ out₁ end out' r) z w)
 
   -- ---- one term
@@ -512,7 +513,7 @@ module _ (arity : ℕ → ℕ) (s : List ℕ) (limit : ℕ) where
   pub One : ℕ → ℕ → List ℕ → ℕ → List ℕ → ℕ → ℕ → ℕ → Type 0
   One at count out to out' next end count' = (t : Term) × WellFormed (shape_of arity) t 0 × Span s at (compact t) count out to (pairs t) out' next end count'
 
-  pub one : (most at count : ℕ) (out : List ℕ) (to : ℕ) (out' : List ℕ) (next end count' : ℕ) → FormsRan arity s most at 1 count out to out' (Done next end count') → One at count out to out' next end count'
+  pub one : (most at count : ℕ) (out : List ℕ) (to : ℕ) (out' : List ℕ) (next end count' : ℕ) → FormsRan arity s most at 1 count out to out' (Some (placed next end count')) → One at count out to out' next end count'
   unfolding One
   one most at count out to out' next end count' v = go v.0 v.1 v.3 (single v.0 v.2)
     where
@@ -528,7 +529,7 @@ module _ (arity : ℕ → ℕ) (s : List ℕ) (limit : ℕ) where
 
   -- ---- the list reader
 
-  pub rest_end : (at : ℕ) (b : Bool) (count : ℕ) (out : List ℕ) (to : ℕ) (out' : List ℕ) → length s ≤ at → RestRan arity s limit at b count out to out' Malformed
+  pub rest_end : (at : ℕ) (b : Bool) (count : ℕ) (out : List ℕ) (to : ℕ) (out' : List ℕ) → length s ≤ at → RestRan arity s limit at b count out to out' None
   rest_end at b count out to out' h = inl (no_items limit to b (items_at arity s at) (items-end at h))
 
   module _ (at count : ℕ) (out : List ℕ) (to : ℕ) (h : at < length s) where
@@ -541,19 +542,19 @@ module _ (arity : ℕ → ℕ) (s : List ℕ) (limit : ℕ) where
     at_tail e = let m : Marks (shape_of arity) (token_of arity) = marks arity in rw (items-cons at h, e, m.tails)
 
     -- ELIST and no term
-    pub rest-last-short : (b : Bool) (out₁ out' : List ℕ) → get_or s at 0 ≡ ELIST → FormsRan arity s (limit - 1) (at + 1) 1 count (set out to PAIR) (to + 1) out₁ Malformed → RestRan arity s limit at b count out to out' Malformed
+    pub rest-last-short : (b : Bool) (out₁ out' : List ℕ) → get_or s at 0 ≡ ELIST → FormsRan arity s (limit - 1) (at + 1) 1 count (set out to PAIR) (to + 1) out₁ None → RestRan arity s limit at b count out to out' None
     rest-last-short b out₁ out' e (inl w) = inl (subst (λ (l : List Item). NoRest limit to b l) (sym (at_last e)) (last-unfit limit to b (items_at arity s (at + 1)) w))
     rest-last-short b out₁ out' e (inr w) = inr (span-unordered s at (ELIST ∷ []) count out to [] out (at + 1) to count (span-mark s at count out to ELIST h e refl) w)
 
     -- EPAIR behind no element; before nothing; before []; before a list
-    pub rest-tail-first : (out' : List ℕ) → get_or s at 0 ≡ EPAIR → RestRan arity s limit at false count out to out' Malformed
+    pub rest-tail-first : (out' : List ℕ) → get_or s at 0 ≡ EPAIR → RestRan arity s limit at false count out to out' None
     rest-tail-first out' e = inl (no-rest limit to false (items_at arity s at) (rw (at_tail e) (only-tail (items_at arity s (at + 1)))))
 
-    pub rest-tail-end : (out' : List ℕ) → get_or s at 0 ≡ EPAIR → length s ≤ at + 1 → RestRan arity s limit at true count out to out' Malformed
+    pub rest-tail-end : (out' : List ℕ) → get_or s at 0 ≡ EPAIR → length s ≤ at + 1 → RestRan arity s limit at true count out to out' None
     unfolding tail_of
     rest-tail-end out' e g = inl (no_items limit to true (items_at arity s at) (at_tail e ∙ rw (items-end (at + 1) g)))
 
-    pub rest-tail-nil : (out' : List ℕ) → get_or s at 0 ≡ EPAIR → at + 1 < length s → get_or s (at + 1) 0 ≡ nil → RestRan arity s limit at true count out to out' Malformed
+    pub rest-tail-nil : (out' : List ℕ) → get_or s at 0 ≡ EPAIR → at + 1 < length s → get_or s (at + 1) 0 ≡ nil → RestRan arity s limit at true count out to out' None
     unfolding filled inside
     rest-tail-nil out' e g d =
         let m : Marks (shape_of arity) (token_of arity) = marks arity in
@@ -561,20 +562,20 @@ module _ (arity : ℕ → ℕ) (s : List ℕ) (limit : ℕ) where
         let q : items_at arity s (at + 1) ≡ term (cell (get_or s (at + 1) 0)) ∷ items_at arity s (at + 1 + 1) = to-filled (at + 1) 1 count out to out (omega arith) g 0 k in
         inl (no-rest limit to true (items_at arity s at) (λ x. rw (at_tail e) (inside-tail (items_at arity s (at + 1)) x (λ t js p. let z : t ≡ cell nil = cc in rw z))))
 
-    pub rest-tail-list : (out' : List ℕ) → get_or s at 0 ≡ EPAIR → at + 1 < length s → get_or s (at + 1) 0 ≡ BLIST → RestRan arity s limit at true count out to out' Malformed
+    pub rest-tail-list : (out' : List ℕ) → get_or s at 0 ≡ EPAIR → at + 1 < length s → get_or s (at + 1) 0 ≡ BLIST → RestRan arity s limit at true count out to out' None
     rest-tail-list out' e g d =
         let q : items_at arity s (at + 1) ≡ whole (collected (items_at arity s (at + 1 + 1))) = to-begun (at + 1) 1 count out to out (omega arith) g d in
         inl (no-rest limit to true (items_at arity s at) (λ x. rw (at_tail e) (inside-tail (items_at arity s (at + 1)) x (λ t js p. whole-inside (collected (items_at arity s (at + 1 + 1))) (forms (items_at arity s (at + 1 + 1))) (collected-good (items_at arity s (at + 1 + 1))) t js (sym q ∙ p)))))
 
     -- an element is left, and three cells are not
-    pub rest-full : (b : Bool) (out' : List ℕ) → (get_or s at 0 ≡ EPAIR → ⊥) → limit < to + 3 → RestRan arity s limit at b count out to out' Malformed
+    pub rest-full : (b : Bool) (out' : List ℕ) → (get_or s at 0 ≡ EPAIR → ⊥) → limit < to + 3 → RestRan arity s limit at b count out to out' None
     rest-full b out' g l =
         let m : Marks (shape_of arity) (token_of arity) = marks arity in
         let c : ℕ = get_or s at 0 in
         inl (list_full limit to b (items_at arity s at) l (λ t js p. entered-no-tail (token_of arity c) c (items_at arity s (at + 1)) (λ z. g (m.tail-cell c z)) t js (sym (items-cons at h) ∙ p)))
 
     -- no element
-    pub rest-element-short : (b : Bool) (out₁ out' : List ℕ) → (get_or s at 0 ≡ ELIST → ⊥) → (get_or s at 0 ≡ EPAIR → ⊥) → FormsRan arity s (limit - 1) at 1 count (set out to PAIR) (to + 1) out₁ Malformed → RestRan arity s limit at b count out to out' Malformed
+    pub rest-element-short : (b : Bool) (out₁ out' : List ℕ) → (get_or s at 0 ≡ ELIST → ⊥) → (get_or s at 0 ≡ EPAIR → ⊥) → FormsRan arity s (limit - 1) at 1 count (set out to PAIR) (to + 1) out₁ None → RestRan arity s limit at b count out to out' None
     rest-element-short b out₁ out' f g (inl w) =
         let m : Marks (shape_of arity) (token_of arity) = marks arity in
         let c : ℕ = get_or s at 0 in
@@ -584,7 +585,7 @@ module _ (arity : ℕ → ℕ) (s : List ℕ) (limit : ℕ) where
 
     -- ELIST and the last element
     pub rest-last : (b : Bool) (out₁ : List ℕ) (next end count₁ : ℕ) → get_or s at 0 ≡ ELIST → 1 ≤ limit
-        → FormsRan arity s (limit - 1) (at + 1) 1 count (set out to PAIR) (to + 1) out₁ (Done next end count₁) → RestRan arity s limit at b count out to (set out₁ end nil) (Done next (end + 1) count₁)
+        → FormsRan arity s (limit - 1) (at + 1) 1 count (set out to PAIR) (to + 1) out₁ (Some (placed next end count₁)) → RestRan arity s limit at b count out to (set out₁ end nil) (Some (placed next (end + 1) count₁))
     unfolding pairs One
     rest-last b out₁ next end count₁ e l v =
         let w = one (limit - 1) (at + 1) count (set out to PAIR) (to + 1) out₁ next end count₁ v in
@@ -602,31 +603,31 @@ module _ (arity : ℕ → ℕ) (s : List ℕ) (limit : ℕ) where
         )
 
     -- EPAIR and the term that the list ends in
-    pub rest-tail : (out' : List ℕ) (r : Step) → get_or s at 0 ≡ EPAIR → at + 1 < length s → (get_or s (at + 1) 0 ≡ nil → ⊥) → (get_or s (at + 1) 0 ≡ BLIST → ⊥)
+    pub rest-tail : (out' : List ℕ) (r : Option Place) → get_or s at 0 ≡ EPAIR → at + 1 < length s → (get_or s (at + 1) 0 ≡ nil → ⊥) → (get_or s (at + 1) 0 ≡ BLIST → ⊥)
         → FormsRan arity s limit (at + 1) 1 count out to out' r → RestRan arity s limit at true count out to out' r
     unfolding One
-    rest-tail out' (Done next end count₁) e g f₁ f₂ v =
-        let w = one limit (at + 1) count out to out' next end count₁ v in
+    rest-tail out' (Some place) e g f₁ f₂ v =
+        let w = one limit (at + 1) count out to out' place.at place.to place.count v in
         let t : Term = w.0 in
-        let p : compact t ++ drop next s ≡ get_or s (at + 1) 0 ∷ drop (at + 1 + 1) s = sym w.2.cells ∙ cells-cons s (at + 1) g in (
+        let p : compact t ++ drop place.at s ≡ get_or s (at + 1) 0 ∷ drop (at + 1 + 1) s = sym w.2.cells ∙ cells-cons s (at + 1) g in (
           t,
           w.1,
           EPAIR ∷ compact t,
-          ending-term t (get_or s (at + 1) 0) (drop next s) (drop (at + 1 + 1) s) p f₁ f₂,
-          span-append s at (EPAIR ∷ []) count out to [] out (at + 1) to count (compact t) (pairs t) out' next end count₁ (span-mark s at count out to EPAIR h e refl) w.2,
+          ending-term t (get_or s (at + 1) 0) (drop place.at s) (drop (at + 1 + 1) s) p f₁ f₂,
+          span-append s at (EPAIR ∷ []) count out to [] out (at + 1) to count (compact t) (pairs t) out' place.at place.to place.count (span-mark s at count out to EPAIR h e refl) w.2,
           v.4,
         )
-    rest-tail out' Malformed e g f₁ f₂ (inl v) = inl (subst (λ (l : List Item). NoRest limit to true l) (sym (at_tail e)) (tail-unfit limit to (items_at arity s (at + 1)) v))
-    rest-tail out' Malformed e g f₁ f₂ (inr v) = inr (span-unordered s at (EPAIR ∷ []) count out to [] out (at + 1) to count (span-mark s at count out to EPAIR h e refl) v)
+    rest-tail out' None e g f₁ f₂ (inl v) = inl (subst (λ (l : List Item). NoRest limit to true l) (sym (at_tail e)) (tail-unfit limit to (items_at arity s (at + 1)) v))
+    rest-tail out' None e g f₁ f₂ (inr v) = inr (span-unordered s at (EPAIR ∷ []) count out to [] out (at + 1) to count (span-mark s at count out to EPAIR h e refl) v)
 
     element-span : (t : Term) (out₁ : List ℕ) (next end count₁ : ℕ) → Span s at (compact t) count (set out to PAIR) (to + 1) (pairs t) out₁ next end count₁ → Span s at (compact t) count out to (PAIR ∷ pairs t) out₁ next end count₁
     element-span t out₁ next end count₁ v = span-append s at [] count out to (PAIR ∷ []) (set out to PAIR) at (to + 1) count (compact t) (pairs t) out₁ next end count₁ (span-write s at count out to PAIR) v
 
     -- an element and the rest behind it
-    pub rest-element : (b : Bool) (out₁ : List ℕ) (next end count₁ : ℕ) (out' : List ℕ) (r : Step)
-        → FormsRan arity s (limit - 1) at 1 count (set out to PAIR) (to + 1) out₁ (Done next end count₁) → RestRan arity s limit next true count₁ out₁ end out' r → RestRan arity s limit at b count out to out' r
+    pub rest-element : (b : Bool) (out₁ : List ℕ) (next end count₁ : ℕ) (out' : List ℕ) (r : Option Place)
+        → FormsRan arity s (limit - 1) at 1 count (set out to PAIR) (to + 1) out₁ (Some (placed next end count₁)) → RestRan arity s limit next true count₁ out₁ end out' r → RestRan arity s limit at b count out to out' r
     unfolding pairs One
-    rest-element b out₁ next end count₁ out' (Done next' end' count') v w =
+    rest-element b out₁ next end count₁ out' (Some place) v w =
         let x = one (limit - 1) at count (set out to PAIR) (to + 1) out₁ next end count₁ v in
         let t : Term = x.0 in
         let u : Term = w.0 in
@@ -635,20 +636,20 @@ module _ (arity : ℕ → ℕ) (s : List ℕ) (limit : ℕ) where
           (refl, x.1, w.1),
           compact t ++ w.2,
           rest_both b (pair t u) (compact t ++ w.2) (λ e. elements-pair e t u (compact t ++ w.2) q) (compact-pair t u (compact t ++ w.2) q),
-          span-append s at (compact t) count out to (PAIR ∷ pairs t) out₁ next end count₁ w.2 (pairs u) out' next' end' count' (element-span t out₁ next end count₁ x.2) w.4,
+          span-append s at (compact t) count out to (PAIR ∷ pairs t) out₁ next end count₁ w.2 (pairs u) out' place.at place.to place.count (element-span t out₁ next end count₁ x.2) w.4,
           w.5,
         )
-    rest-element b out₁ next end count₁ out' Malformed v (inl w) =
+    rest-element b out₁ next end count₁ out' None v (inl w) =
         let x = one (limit - 1) at count (set out to PAIR) (to + 1) out₁ next end count₁ v in
         inl (none_left limit to end b x.0 (items_at arity s at) (items_at arity s next) (span-items at x.0 count (set out to PAIR) (to + 1) (pairs x.0) out₁ next end count₁ x.2 x.1) x.2.end-at w)
-    rest-element b out₁ next end count₁ out' Malformed v (inr w) =
+    rest-element b out₁ next end count₁ out' None v (inr w) =
         let x = one (limit - 1) at count (set out to PAIR) (to + 1) out₁ next end count₁ v in
         inr (span-unordered s at (compact x.0) count (set out to PAIR) (to + 1) (pairs x.0) out₁ next end count₁ x.2 w)
 
   -- ---- room
 
   -- what a term leaves
-  pub forms-room : (at count : ℕ) (out : List ℕ) (to : ℕ) (out₁ : List ℕ) (next end count₁ : ℕ) → FormsRan arity s limit at 1 count out to out₁ (Done next end count₁) → at ≤ length s
+  pub forms-room : (at count : ℕ) (out : List ℕ) (to : ℕ) (out₁ : List ℕ) (next end count₁ : ℕ) → FormsRan arity s limit at 1 count out to out₁ (Some (placed next end count₁)) → at ≤ length s
       → (end ≤ limit) × (at < next) × (next ≤ length s) × (count₁ + at ≤ count + next)
   unfolding One
   forms-room at count out to out₁ next end count₁ v h =
@@ -656,7 +657,7 @@ module _ (arity : ℕ → ℕ) (s : List ℕ) (limit : ℕ) where
       omega (arith, v.4, pairs-size w.0, w.2.next-at, w.2.known, met-in-most (compact w.0) count, span-within s at (compact w.0) count out to (pairs w.0) out₁ next end count₁ w.2 h)
 
   -- what a list leaves
-  pub rest-room : (at count : ℕ) (out : List ℕ) (to : ℕ) (out₁ : List ℕ) (next end count₁ : ℕ) → RestRan arity s limit at false count out to out₁ (Done next end count₁) → at ≤ length s
+  pub rest-room : (at count : ℕ) (out : List ℕ) (to : ℕ) (out₁ : List ℕ) (next end count₁ : ℕ) → RestRan arity s limit at false count out to out₁ (Some (placed next end count₁)) → at ≤ length s
       → (end ≤ limit) × (at ≤ next) × (next ≤ length s) × (count₁ + at ≤ count + next)
   rest-room at count out to out₁ next end count₁ v h =
       omega (arith, v.5, v.4.next-at, v.4.known, met-in-most v.2 count, span-within s at v.2 count out to (pairs v.0) out₁ next end count₁ v.4 h)
@@ -664,10 +665,10 @@ module _ (arity : ℕ → ℕ) (s : List ℕ) (limit : ℕ) where
   -- ---- a constant
 
   pub forms-constant : (at count : ℕ) (out : List ℕ) (to end : ℕ) → at < length s → constant (get_or s at 0) ≡ true → end ≡ to + 1 → end ≤ limit
-      → FormsRan arity s limit at 1 count out to (set out to (get_or s at 0)) (Done (at + 1) end count)
+      → FormsRan arity s limit at 1 count out to (set out to (get_or s at 0)) (Some (placed (at + 1) end count))
   forms-constant at count out to end h e p l =
       let q = constant-shape arity (get_or s at 0) e in
       let o = ordered-cell count (get_or s at 0) q.1 in
       rw p
-      (forms-symbol at 1 count out to (set out to (get_or s at 0)) (omega arith) h 0 0 count (Done (at + 1) (to + 1) count) q.0 refl o.0 (sym o.1)
+      (forms-symbol at 1 count out to (set out to (get_or s at 0)) (omega arith) h 0 0 count (Some (placed (at + 1) (to + 1) count)) q.0 refl o.0 (sym o.1)
       (forms-none (at + 1) 0 count (set out to (get_or s at 0)) (to + 1) refl (omega arith)))

@@ -1,11 +1,9 @@
 -- What the readers of compact form answer and write: the families that their contracts cite.
 use Rattle.std.specs.Prelude.{ℕ, ◌+◌, ◌≤◌, ◌<◌, List, [], ◌∷◌, ◌++◌, Bool, true, false, ◌⊎◌, ◌≡◌, length, take, drop}
-use Rattle.std.specs.Prelude.{get_or, eqb, leb}
+use Rattle.std.specs.Prelude.{get_or, eqb, leb, None, Option, Some}
 use Rattle.std.proofs.lemmas.List.Edits.{sets}
 use Rattle.basis.specs.Choice.{pick}
 use Rattle.forms.specs.declared.Place.{Place}
-use Rattle.forms.specs.declared.Step.{Step}
-use Rattle.forms.specs.declared.Step.TheVariants.{Done, Malformed}
 use Rattle.forms.specs.Cells.{payload, variable, BLIST, EPAIR, shape_of, token_of, arity_of}
 use Rattle.forms.specs.Terms.{Term, pair, pairs, every}
 use Rattle.forms.specs.Compact.{compact, elements, Item, term, into, collected, whole, items, front}
@@ -51,14 +49,14 @@ Unfit limit to n ts = n ≤ length ts → limit < to + length (every pairs (take
 
 -- n terms were read, and their pair forms are written within the limit; or they do not fit, or variables are out of
 -- order
-abbrev pub FormsRan : (ℕ → ℕ) → List ℕ → ℕ → ℕ → ℕ → ℕ → List ℕ → ℕ → List ℕ → Step → Type 0
-FormsRan arity s limit at n count out to out' (Done next end count') =
+abbrev pub FormsRan : (ℕ → ℕ) → List ℕ → ℕ → ℕ → ℕ → ℕ → List ℕ → ℕ → List ℕ → Option Place → Type 0
+FormsRan arity s limit at n count out to out' (Some place) =
     (ts : List Term)
     × AllWellFormed (shape_of arity) ts
     × (length ts ≡ n)
-    × Span s at (every compact ts) count out to (every pairs ts) out' next end count'
-    × (end ≤ limit)
-FormsRan arity s limit at n count out to out' Malformed =
+    × Span s at (every compact ts) count out to (every pairs ts) out' place.at place.to place.count
+    × (place.to ≤ limit)
+FormsRan arity s limit at n count out to out' None =
     Unfit limit to n (front (items_at arity s at)) ⊎ (ordered count (drop at s) ≡ false)
 
 -- the rest of a list, behind an element (some) or behind BLIST
@@ -74,15 +72,15 @@ NoRest limit to false is =
     (u : Term) (js : List Item) → whole (collected is) ≡ term u ∷ js → limit < to + length (pairs u)
 
 -- the rest of a list was read, and written within the limit; or none fits, or variables are out of order
-abbrev pub RestRan : (ℕ → ℕ) → List ℕ → ℕ → ℕ → Bool → ℕ → List ℕ → ℕ → List ℕ → Step → Type 0
-RestRan arity s limit at some count out to out' (Done next end count') =
+abbrev pub RestRan : (ℕ → ℕ) → List ℕ → ℕ → ℕ → Bool → ℕ → List ℕ → ℕ → List ℕ → Option Place → Type 0
+RestRan arity s limit at some count out to out' (Some place) =
     (u : Term)
     × WellFormed (shape_of arity) u 0
     × (form : List ℕ)
     × Rest some u form
-    × Span s at form count out to (pairs u) out' next end count'
-    × (end ≤ limit)
-RestRan arity s limit at some count out to out' Malformed =
+    × Span s at form count out to (pairs u) out' place.at place.to place.count
+    × (place.to ≤ limit)
+RestRan arity s limit at some count out to out' None =
     NoRest limit to some (items_at arity s at) ⊎ (ordered count (drop at s) ≡ false)
 
 -- ---- contracts
@@ -101,10 +99,12 @@ abbrev pub AtTail : List ℕ → Place → Type 0
 AtTail s from = (from.at < length s) × (get_or s from.at 0 ≡ EPAIR)
 
 -- the forms of n terms were read from a place on
-abbrev pub ReadsForms : (e : ℕ) (s : List ℕ) (limit : ℕ) (from : Place) (n : ℕ) (out out' : List ℕ) → Step → Type 0
+abbrev pub ReadsForms : (e : ℕ) (s : List ℕ) (limit : ℕ) (from : Place) (n : ℕ) (out out' : List ℕ)
+    → Option Place → Type 0
 ReadsForms e s limit from n out out' r = FormsRan (arity_of e) s limit from.at n from.count out from.to out' r
 
 -- the rest of a list was read from a place on
-abbrev pub ReadsRest : (e : ℕ) (s : List ℕ) (limit : ℕ) (from : Place) (some : Bool) (out out' : List ℕ) → Step → Type 0
+abbrev pub ReadsRest : (e : ℕ) (s : List ℕ) (limit : ℕ) (from : Place) (some : Bool) (out out' : List ℕ)
+    → Option Place → Type 0
 ReadsRest e s limit from some out out' r =
     RestRan (arity_of e) s limit from.at some from.count out from.to out' r

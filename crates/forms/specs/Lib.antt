@@ -7,3 +7,4 @@ pub mod Stored
 pub mod Converting
 pub mod Promises
 pub mod Marked
+pub mod Places

@@ -1,7 +1,8 @@
 -- The marked terms M1 to M8 of the request; beside them one of edition 2, what M6 leaves of out, and sums of what is
 -- due.
-use Rattle.std.specs.Prelude.{ℕ, ◌+◌, ◌*◌, List, [], ◌∷◌, ◌++◌, ◌≡◌, refl, length, replicate}
-use Rattle.forms.specs.declared.Answer.TheVariants.{Cells, Refused}
+use Rattle.basis.specs.declared.refusals.Refusal.TheVariants as refusal
+use Rattle.forms.specs.declared.Unwritten.TheVariants.{Refused}
+use Rattle.std.specs.Prelude.{ℕ, ◌+◌, ◌*◌, List, [], ◌∷◌, ◌++◌, ◌≡◌, refl, length, replicate, Err, Ok}
 use Rattle.forms.specs.Cells.{tag, nil, PAIR, BLIST, ELIST, EPAIR, shape_of, symbolic, token_of, arity_of}
 use Rattle.forms.specs.Due.{arguments, due_of}
 use Rattle.forms.specs.Terms.{pairs, every, applied, paired, begun, reads, are_terms}
@@ -40,13 +41,13 @@ MarkedTerms =
     ≡ BLIST ∷ int 1 ∷ BLIST ∷ int 2 ∷ ELIST ∷ int 3 ∷ ELIST ∷ nil ∷ [])
     -- M6 [1|2]: four tokens from three cells
     × (compact_form (arity_of 1) (PAIR ∷ int 1 ∷ int 2 ∷ []) ≡ BLIST ∷ int 1 ∷ EPAIR ∷ int 2 ∷ [])
-    × (compacting (arity_of 1) (compact_stored (arity_of 1)) 1 (PAIR ∷ int 1 ∷ int 2 ∷ []) 4 ≡ Cells 4)
+    × (compacting (arity_of 1) (compact_stored (arity_of 1)) 1 (PAIR ∷ int 1 ∷ int 2 ∷ []) 4 ≡ Ok 4)
     -- the terms of an answer are numbered together, and a list that ends in a term has that term as its tail
     × (compact_form (arity_of 1) (var 7 ∷ var 9 ∷ []) ≡ var 0 ∷ var 1 ∷ [])
     × (pair_form (arity_of 1) (BLIST ∷ int 1 ∷ int 2 ∷ EPAIR ∷ int 3 ∷ []) ≡ PAIR ∷ int 1 ∷ PAIR ∷ int 2 ∷ int 3 ∷ [])
     -- M7 and M8 are 13
-    × (expanding (compact_stored (arity_of 1)) 1 (BLIST ∷ EPAIR ∷ int 1 ∷ []) 256 ≡ Refused 13)
-    × (expanding (compact_stored (arity_of 1)) 1 (BLIST ∷ int 1 ∷ EPAIR ∷ nil ∷ []) 256 ≡ Refused 13)
+    × (expanding (compact_stored (arity_of 1)) 1 (BLIST ∷ EPAIR ∷ int 1 ∷ []) 256 ≡ Err (Refused refusal.Form))
+    × (expanding (compact_stored (arity_of 1)) 1 (BLIST ∷ int 1 ∷ EPAIR ∷ nil ∷ []) 256 ≡ Err (Refused refusal.Form))
 
 pub marked : MarkedTerms
 unfolding compact_form reading loading fitting_form fitting_terms compacting expanding legal_form are_terms are_forms
@@ -64,10 +65,10 @@ wide_term first second = tag 4 (3 * 256 + 40) ∷ var first ∷ var second ∷ (
 abbrev pub MarkedWide : Type 0
 MarkedWide =
     (compact_form (arity_of 2) (wide_term 7 9) ≡ wide_term 0 1)
-    × (compacting (arity_of 2) (compact_stored (arity_of 2)) 1 (wide_term 7 9) 41 ≡ Cells 41)
-    × (expanding (compact_stored (arity_of 2)) 1 (wide_term 0 1) 41 ≡ Cells 41)
-    × (compacting (arity_of 1) (compact_stored (arity_of 1)) 1 (wide_term 7 9) 41 ≡ Refused 3)
-    × (expanding (compact_stored (arity_of 1)) 1 (wide_term 0 1) 41 ≡ Refused 13)
+    × (compacting (arity_of 2) (compact_stored (arity_of 2)) 1 (wide_term 7 9) 41 ≡ Ok 41)
+    × (expanding (compact_stored (arity_of 2)) 1 (wide_term 0 1) 41 ≡ Ok 41)
+    × (compacting (arity_of 1) (compact_stored (arity_of 1)) 1 (wide_term 7 9) 41 ≡ Err (Refused refusal.Term))
+    × (expanding (compact_stored (arity_of 1)) 1 (wide_term 0 1) 41 ≡ Err (Refused refusal.Form))
 
 pub marked-wide : MarkedWide
 unfolding compact_form reading loading fitting_form fitting_terms compacting expanding legal_form are_terms are_forms

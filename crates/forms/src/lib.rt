@@ -3,9 +3,11 @@
 
 ghost use Rattle.std.specs.Prelude.{◌≡◌, ◌+◌, ◌^◌, ◌≤◌, ◌<◌};
 ghost use Rattle.forms.specs.Cells.{shape_of, arity_of, payload, variable, constant, atomic, integral, callable};
-ghost use Rattle.forms.specs.Converting.{converter_edition, refusal_of};
+ghost use Rattle.forms.specs.Converting.{converter_edition, Refuses};
 ghost use Rattle.forms.specs.Stored.{stores_pairs};
 ghost use Rattle.forms.specs.Due.{arguments, due_after};
+
+use basis::refusals::Refusal;
 
 // What a cell of pair form stands for: a symbol that takes some arguments (a variable, an atom and
 // an integer take none), a pair, or nothing legal.
@@ -35,39 +37,30 @@ pub struct Place {
     pub count: usize,
 }
 
-// What a reader answers: the places behind what it read and behind what it wrote, and how many
-// variables were met; or that the cells are malformed.
+// The tokens of the form that terms were read to, and the distinct variables in it.
 #[derive(Clone, Copy)]
-pub enum Step {
-    Done(usize, usize, usize),
-    Malformed,
+pub struct Form {
+    pub tokens: usize,
+    pub variables: usize,
 }
 
-// What reading terms gives: the tokens of their form and the distinct variables in it, or the number
-// of a refusal.
+// Why a converter, load or an instance wrote no cells: a refusal; or, for refusal 12, the cells that out would need.
 #[derive(Clone, Copy)]
-pub enum Reading {
-    Form(usize, usize),
-    Refusal(u32),
-}
-
-// What loading a form gives: the cells of its terms in pair form, or that it is no legal form.
-#[derive(Clone, Copy)]
-pub enum Loading {
-    Terms(usize),
-    NoForm,
-}
-
-// What a converter answers: the cells written, the number of a refusal, or, for refusal 12, the
-// cells that out would need.
-#[derive(Clone, Copy)]
-pub enum Answer {
-    Cells(usize),
-    Refused(u32),
+pub enum Unwritten {
+    Refused(Refusal),
     Short(usize),
 }
 
-// How many payloads a kind has: the kind is the cell divided by it, and the payload is the remainder.
+impl From<Refusal> for Unwritten {
+    ghost from_gives = { Refuses };
+
+    fn from(refusal: Refusal) -> Unwritten {
+        Unwritten::Refused(refusal)
+    }
+}
+
+// How many payloads a kind has: the kind is the cell divided by it, and the payload is the remainder. Kinds stay
+// numbers: they are those of the paper's cells (`kind`), and an enum would be made of each to be taken apart at once.
 const PAYLOADS: u32 = 268435456;
 // How many arities a functor can have in edition 1 and in edition 2: the arity is the remainder of its payload.
 const ARITIES_IN_1: u32 = 16;
@@ -119,10 +112,7 @@ pub fn is_constant(c: u32) -> bool
     ensures { result ≡ constant c }
 {
     let kind = c / PAYLOADS;
-    if kind == 2 {
-        return true;
-    }
-    kind == 3
+    kind == 2 || kind == 3
 }
 
 // Whether a cell is an atom or a functor, with which a called term begins.
@@ -130,20 +120,15 @@ pub fn is_callable(c: u32) -> bool
     ensures { result ≡ callable c }
 {
     let kind = c / PAYLOADS;
-    if kind == 2 {
-        return true;
-    }
-    kind == 4
+    kind == 2 || kind == 4
 }
 
-// Whether a converter takes the edition of this number.
+// Whether a converter takes the edition of this number. Not `basis::is_edition`: a space may come to have editions that
+// no converter takes (`converter_edition`).
 pub fn is_converter_edition(edition: u32) -> bool
     ensures { result ≡ converter_edition edition }
 {
-    if edition == 1 {
-        return true;
-    }
-    edition == 2
+    edition == 1 || edition == 2
 }
 
 // Whether the edition of this number stores numbered pair form, and not compact form.
@@ -209,14 +194,4 @@ pub fn due_after(due: usize, arity: usize) -> usize
     ensures { result ≡ due_after due arity }
 {
     due + arity - 1
-}
-
-// The number by which the reader of terms refused, for who hands the refusal on; 0 where it did not.
-pub fn refused_by(read: Reading) -> u32
-    ensures { result ≡ refusal_of read }
-{
-    match read {
-        Reading::Refusal(r) => return r,
-        Reading::Form(_, _) => return 0,
-    }
 }

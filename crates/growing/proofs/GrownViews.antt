@@ -1,4 +1,7 @@
 -- The header and the records of a grown table.
+use Rattle.basis.specs.declared.refusals.Refusal.TheVariants as refusal
+use Rattle.basis.specs.declared.refusals.Refusal.{Refusal}
+use Rattle.std.specs.Prelude.{Err, Ok}
 use Prim.Native.Nat.{ℕ, ◌+◌, ◌-◌, ◌*◌, ◌≤◌, ◌<◌}
 use mathlib.Core.Path.{◌≡◌, refl, sym, ap, ◌∙◌, subst}
 use mathlib.Core.Bool.{Bool, true, false}
@@ -8,13 +11,9 @@ use native.Mathlib.Nat.{mul-le-mul_left}
 use lib.ListN.{length, get_or}
 use Rattle.basis.specs.Choice.{pick}
 use Rattle.space.specs.Layout.{sizes_of, subgoal_width, answer_width, subgoal_offset_of, answer_offset_of, end_offset, node_in, subgoal_in, answer_in}
-use Rattle.space.specs.Heading.{head_of, header_of, space_header}
-use Rattle.space.specs.Fresh.{fresh_fits}
-use Rattle.space.specs.declared.FreshAnswer.{FreshAnswer}
-use Rattle.space.specs.declared.FreshAnswer.TheVariants.{Done, Refused}
+use Rattle.space.specs.Heading.{head_of, header_of, space_header, Header}
+use Rattle.space.specs.Fresh.{fresh_fits, FreshAnswer}
 use Rattle.space.specs.declared.Head.{Head}
-use Rattle.space.specs.declared.Header.{Header}
-use Rattle.space.specs.declared.Header.TheVariants as header
 use Rattle.space.proofs.HeaderLaws.{subgoal-width, answer-width}
 use Rattle.space.proofs.LayoutLaws.{node-equal, subgoal-equal, answer-equal}
 use Rattle.trie.specs.Append.{new_root}
@@ -32,25 +31,25 @@ use Rattle.growing.proofs.MovingLaws.{at_place}
 use Rattle.growing.proofs.GrowingCases.{grow-done}
 use Rattle.growing.proofs.Regions.{header-in, Room, grows-room, Regions, regions-grown}
 
-not_done : {k : ℕ} → Refused k ≡ Done → ⊥
+not_done : {k : Refusal} → ◌≡◌ {A = FreshAnswer} (Err k) (Ok tt) → ⊥
 not_done e = let z : ◌≡◌ {A = ℕ} 0 1 = cc in omega arith
 
-picked : (b : Bool) (x : FreshAnswer) (k : ℕ) → pick b x (Refused k) ≡ Done → (b ≡ true) × (x ≡ Done)
+picked : (b : Bool) (x : FreshAnswer) (k : Refusal) → pick b x (Err k) ≡ Ok tt → (b ≡ true) × (x ≡ Ok tt)
 picked true x k e = (refl, e)
 picked false x k e = absurd (not_done e)
 
-same_head : (x y : Head) → header.Sound x ≡ header.Sound y → x ≡ y
+same_head : (x y : Head) → ◌≡◌ {A = Header} (Ok x) (Ok y) → x ≡ y
 same_head x y e = cc
 
 -- ---- what done means
 
-grows-under : (n f a : ℕ) (cs : List ℕ) (x : Header) → space_header cs ≡ x → grow_under n f a cs x ≡ Done → (h : Head) × Grows n f a h cs
+grows-under : (n f a : ℕ) (cs : List ℕ) (x : Header) → space_header cs ≡ x → grow_under n f a cs x ≡ Ok tt → (h : Head) × Grows n f a h cs
 unfolding grow_under
-grows-under n f a cs (header.Sound h) s e =
-    let p = picked (fresh_fits (sizes_of h.edition) n f a cs) _ 2 e in
-    let q = picked (enough n f a h) Done 19 p.1 in
+grows-under n f a cs (Ok h) s e =
+    let p = picked (fresh_fits (sizes_of h.edition) n f a cs) _ refusal.Fresh e in
+    let q = picked (enough n f a h) (Ok tt) refusal.Capacity p.1 in
     (h, (sym s, p.0, q.0))
-grows-under n f a cs (header.Refused k) s e = absurd (not_done e)
+grows-under n f a cs (Err k) s e = absurd (not_done e)
 
 pub grows : (n f a : ℕ) (cs : List ℕ) → Grown n f a cs → (h : Head) × Grows n f a h cs
 unfolding grow_reply
@@ -96,7 +95,7 @@ module _ (n f a : ℕ) (h : Head) (cs ds : List ℕ) (R : Room n f a h cs) (D : 
     answers-most = R.answers-most;
   }
 
-  pub grown-header : header_of (sizes_of h.edition) ds ≡ header.Sound (head_of ds n f a)
+  pub grown-header : header_of (sizes_of h.edition) ds ≡ Ok (head_of ds n f a)
   grown-header = header_made (sizes-wide h.edition) ds n f a h.nodes h.subgoals h.answers headed within
 
   node_kept : (i : ℕ) → i < h.nodes → node_in (sizes_of h.edition) ds i ≡ node_in (sizes_of h.edition) cs i
@@ -230,7 +229,7 @@ module _ (n f a : ℕ) (cs : List ℕ) (h : Head) (G : Grows n f a h cs) where
   regions : Regions n f a h cs (grow_space n f a cs)
   regions = subst (λ (x : List ℕ). Regions n f a h cs x) (sym (grown-cells n f a cs h G)) (regions-grown n f a h cs room)
 
-  pub header-after : (space_header (grow_space n f a cs) ≡ header.Sound (head_of (grow_space n f a cs) n f a)) × ((head_of (grow_space n f a cs) n f a).edition ≡ h.edition)
+  pub header-after : (space_header (grow_space n f a cs) ≡ Ok (head_of (grow_space n f a cs) n f a)) × ((head_of (grow_space n f a cs) n f a).edition ≡ h.edition)
   header-after = header-any h.edition (header-in cs h (sym G.0)).0 (grow_space n f a cs) (head_of (grow_space n f a cs) n f a) (grown-header n f a h cs (grow_space n f a cs) room regions)
 
   view-after : Alike (view_after n f a cs (head_of (grow_space n f a cs) n f a)) (resized_view n f a (view_before n f a cs h))
@@ -252,7 +251,7 @@ module _ (n f a : ℕ) (cs : List ℕ) (h : Head) (G : Grows n f a h cs) where
   frame-after = (regions.size, λ k l. regions.past k l)
 
 -- growing under the head that the header says
-pub grows-as : (n f a : ℕ) (cs : List ℕ) (h : Head) → space_header cs ≡ header.Sound h → Grown n f a cs → Grows n f a h cs
+pub grows-as : (n f a : ℕ) (cs : List ℕ) (h : Head) → space_header cs ≡ Ok h → Grown n f a cs → Grows n f a h cs
 grows-as n f a cs h s e =
     let g = grows n f a cs e in
     subst (λ (x : Head). Grows n f a x cs) (same_head g.0 h (g.1.0 ∙ s)) g.1

@@ -1,4 +1,6 @@
 -- Every cell of a grown table by its region, and that the regions say all of it.
+use Rattle.basis.specs.declared.refusals.Refusal.TheVariants as refusal
+use Rattle.std.specs.Prelude.{Err, Ok}
 use Prim.Native.Nat.{ℕ, zero, suc, ◌+◌, ◌-◌, ◌*◌, ◌≤◌, ◌<◌}
 use mathlib.Core.Path.{◌≡◌, sym, ap, ◌∙◌, subst}
 use mathlib.Core.Bool.{true, ◌&&◌}
@@ -15,7 +17,6 @@ use Rattle.space.specs.Layout.{Sizes, sizes_of, subgoal_width, answer_width, mos
 use Rattle.space.specs.Heading.{in_range, header_of, space_header}
 use Rattle.space.specs.Fresh.{fresh_fits}
 use Rattle.space.specs.declared.Head.{Head}
-use Rattle.space.specs.declared.Header.TheVariants as header
 use Rattle.space.proofs.HeaderLaws.{range-largest}
 use Rattle.trie.proofs.WalkLaws.{both_true}
 use Rattle.agreement.specs.Whole.{edition_of}
@@ -26,14 +27,14 @@ use Rattle.growing.specs.Clauses.{Grows}
 use Rattle.growing.proofs.MovingLaws.{append_left, append_right, at_place}
 
 -- a sound header is one of the edition that it names
-pub header-in : (cs : List ℕ) (h : Head) → space_header cs ≡ header.Sound h → (known_edition h.edition ≡ true) × (header_of (sizes_of h.edition) cs ≡ header.Sound h)
+pub header-in : (cs : List ℕ) (h : Head) → space_header cs ≡ Ok h → (known_edition h.edition ≡ true) × (header_of (sizes_of h.edition) cs ≡ Ok h)
 unfolding space_header
 header-in cs h s =
     let is : edition_of cs ≡ h.edition = space-edition cs h s in
     by_cases (known_edition (edition_of cs))
-    (λ k. let q : header_of (sizes_of (edition_of cs)) cs ≡ header.Sound h = rw k at s in
-    (subst (λ (x : ℕ). known_edition x ≡ true) is k, subst (λ (x : ℕ). header_of (sizes_of x) cs ≡ header.Sound h) is q))
-    (λ k. let q : header.Refused 1 ≡ header.Sound h = rw k at s in let z : ◌≡◌ {A = ℕ} 0 1 = cc in absurd (omega arith))
+    (λ k. let q : header_of (sizes_of (edition_of cs)) cs ≡ Ok h = rw k at s in
+    (subst (λ (x : ℕ). known_edition x ≡ true) is k, subst (λ (x : ℕ). header_of (sizes_of x) cs ≡ Ok h) is q))
+    (λ k. let q : Err refusal.Header ≡ Ok h = rw k at s in let z : ◌≡◌ {A = ℕ} 0 1 = cc in absurd (omega arith))
 
 -- eight cells one by one
 pub below-eight : (P : ℕ → Type 0) → P 0 → P 1 → P 2 → P 3 → P 4 → P 5 → P 6 → P 7 → (k : ℕ) → k < 8 → P k

@@ -1,4 +1,6 @@
 -- The promises of growing, proved.
+use Rattle.basis.specs.declared.refusals.Refusal.TheVariants as refusal
+use Rattle.std.specs.Prelude.{Err, Ok}
 use Prim.Native.Nat.{ℕ}
 use mathlib.Core.Path.{◌≡◌, refl, sym, ap, ◌∙◌, subst}
 use mathlib.Core.Bool.{Bool, true, false, ◌&&◌}
@@ -14,11 +16,8 @@ use Rattle.plain.specs.Table.{Table, nodes}
 use Rattle.plain.proofs.StoredCoding.{coding-laws}
 use Rattle.space.specs.Layout.{Sizes, sizes_of}
 use Rattle.space.specs.Heading.{header_of}
-use Rattle.space.specs.Fresh.{fresh_fits, fresh_answer, fresh_answer_in, fresh_space_in}
-use Rattle.space.specs.declared.FreshAnswer.{FreshAnswer}
-use Rattle.space.specs.declared.FreshAnswer.TheVariants.{Done, Refused}
+use Rattle.space.specs.Fresh.{fresh_fits, fresh_answer, fresh_answer_in, fresh_space_in, FreshAnswer}
 use Rattle.space.specs.declared.Head.{Head}
-use Rattle.space.specs.declared.Header.TheVariants as header
 use Rattle.store.specs.Views.{View, view_of}
 use Rattle.store.specs.Calls.{space_step}
 use Rattle.agreement.specs.Records.{Alike}
@@ -58,8 +57,8 @@ module _ (n f a : ℕ) (cs : List ℕ) (w : whole_space cs ≡ true) (done : Gro
       let r : Room n f a h cs = grows-room n f a h cs (grows-as n f a cs h any.0 done) in
       let g = grown-view n f a cs h any.0 done in
       let is : g.0.edition ≡ e = g.2 ∙ any.1 in
-      let sound : header_of (sizes_of e) (grow_space n f a cs) ≡ header.Sound g.0 =
-      subst (λ (x : ℕ). header_of (sizes_of x) (grow_space n f a cs) ≡ header.Sound g.0) is (header-in (grow_space n f a cs) g.0 g.1).1 in
+      let sound : header_of (sizes_of e) (grow_space n f a cs) ≡ Ok g.0 =
+      subst (λ (x : ℕ). header_of (sizes_of x) (grow_space n f a cs) ≡ Ok g.0) is (header-in (grow_space n f a cs) g.0 g.1).1 in
       let v : View = view_of (sizes_of e) cs h in
       let alike : Alike (view_of (sizes_of e) (grow_space n f a cs) g.0) (resized_view n f a v) =
       subst (λ (x : ℕ). Alike (view_of (sizes_of e) (grow_space n f a cs) g.0) (resized_view n f a (view_of (sizes_of x) cs h))) any.1
@@ -80,7 +79,7 @@ enough-holdable c laws n f a t z cs h S =
     ∙ ap (λ (k : ℕ). leb (nodes (resized n f a t)) n && leb k f && leb h.answers a) S.subgoals
     ∙ ap (λ (k : ℕ). leb (nodes (resized n f a t)) n && leb (length t.subgoals) f && leb k a) S.answers
 
-fresh-first : (b : Bool) (x : FreshAnswer) → pick b x (Refused 2) ≡ where_fresh (pick b Done (Refused 2)) x
+fresh-first : (b : Bool) (x : FreshAnswer) → pick b x (Err refusal.Fresh) ≡ where_fresh (pick b (Ok tt) (Err refusal.Fresh)) x
 fresh-first true x = refl
 fresh-first false x = refl
 
@@ -93,7 +92,7 @@ grow-answers n f a cs w =
     let h : Head = held.head in
     let any = header-any e k.0 cs h held.sound in
     let counts : enough n f a h ≡ holdable (resized n f a (table_of cs)) = enough-holdable (coding_of e) (coding-laws e) n f a (table_of cs) (sizes_of e) cs h held.same in
-    rw (any.0, any.1, k.0, counts) (fresh-first (fresh_fits (sizes_of e) n f a cs) (pick (holdable (resized n f a (table_of cs))) Done (Refused 19)))
+    rw (any.0, any.1, k.0, counts) (fresh-first (fresh_fits (sizes_of e) n f a cs) (pick (holdable (resized n f a (table_of cs))) (Ok tt) (Err refusal.Capacity)))
 
 pub grow-passes : GrowPasses
 grow-passes n f a cs w done =

@@ -1,11 +1,9 @@
 -- What growing a table in its place answers and leaves.
-use Rattle.std.specs.Prelude.{ℕ, ◌≡◌, true, List}
+use Rattle.std.specs.Prelude.{ℕ, ◌≡◌, true, List, Ok}
 use Rattle.space.specs.Layout.{sizes_of}
 use Rattle.space.specs.Heading.{space_header}
-use Rattle.space.specs.Fresh.{fresh_fits}
-use Rattle.space.specs.declared.FreshAnswer.{FreshAnswer}
+use Rattle.space.specs.Fresh.{fresh_fits, FreshAnswer}
 use Rattle.space.specs.declared.Head.{Head}
-use Rattle.space.specs.declared.Header.TheVariants as header
 use Rattle.growing.specs.Growing.{enough, grow_reply, grow_space}
 
 abbrev pub GrowsInto : (n f a : ℕ) → List ℕ → FreshAnswer → List ℕ → Type 0
@@ -14,4 +12,4 @@ GrowsInto n f a before r after = (r ≡ grow_reply n f a before) × (after ≡ g
 -- what is known once growing is not refused
 abbrev pub Grows : (n f a : ℕ) → Head → List ℕ → Type 0
 Grows n f a h cs =
-    (header.Sound h ≡ space_header cs) × (fresh_fits (sizes_of h.edition) n f a cs ≡ true) × (enough n f a h ≡ true)
+    (Ok h ≡ space_header cs) × (fresh_fits (sizes_of h.edition) n f a cs ≡ true) × (enough n f a h ≡ true)

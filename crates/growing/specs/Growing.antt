@@ -1,16 +1,13 @@
 -- A table that is given other capacities in its place: the header says where the blocks are then, each block's used
 -- cells stand at its new place with zeros after them, and the cells past the new end stay. Every record keeps its
 -- number.
-use Rattle.std.specs.Prelude.{ℕ, ◌-◌, ◌*◌, Bool, ◌&&◌, List, [], ◌∷◌, ◌++◌, leb, take, drop, replicate}
+use Rattle.basis.specs.declared.refusals.Refusal.TheVariants as refusal
+use Rattle.std.specs.Prelude.{ℕ, ◌-◌, ◌*◌, Bool, ◌&&◌, List, [], ◌∷◌, ◌++◌, leb, take, drop, replicate, Err, Ok}
 use Rattle.basis.specs.Choice.{pick}
 use Rattle.space.specs.Layout.{Sizes, sizes_of, header_cells, subgoal_offset_of, answer_offset_of, end_offset}
-use Rattle.space.specs.Heading.{space_header}
-use Rattle.space.specs.Fresh.{fresh_fits}
-use Rattle.space.specs.declared.FreshAnswer.{FreshAnswer}
-use Rattle.space.specs.declared.FreshAnswer.TheVariants.{Done, Refused}
+use Rattle.space.specs.Heading.{space_header, Header}
+use Rattle.space.specs.Fresh.{fresh_fits, FreshAnswer}
 use Rattle.space.specs.declared.Head.{Head}
-use Rattle.space.specs.declared.Header.{Header}
-use Rattle.space.specs.declared.Header.TheVariants as header
 use Rattle.carrying.specs.Copying.{where_done}
 
 -- room for so many records of `width` cells: the used ones, which begin these cells, and zeros for the free ones
@@ -37,16 +34,17 @@ module _ (n f a : ℕ) where
 
   -- 1 by the header; 2 as fresh says it of the new capacities; 19
   unfoldable pub grow_under : List ℕ → Header → FreshAnswer
-  grow_under cs (header.Sound h) =
-      pick (fresh_fits (sizes_of h.edition) n f a cs) (pick (enough h) Done (Refused 19)) (Refused 2)
-  grow_under cs (header.Refused k) = Refused k
+  grow_under cs (Ok h) =
+      pick (fresh_fits (sizes_of h.edition) n f a cs) (pick (enough h) (Ok tt) (Err refusal.Capacity))
+      (Err refusal.Fresh)
+  grow_under cs (Err k) = Err k
 
   unfoldable pub grow_reply : List ℕ → FreshAnswer
   grow_reply cs = grow_under cs (space_header cs)
 
   abbrev pub grown_under : List ℕ → Header → List ℕ
-  grown_under cs (header.Sound h) = grown_cells (sizes_of h.edition) h cs
-  grown_under cs (header.Refused k) = cs
+  grown_under cs (Ok h) = grown_cells (sizes_of h.edition) h cs
+  grown_under cs (Err k) = cs
 
   -- refused, every cell is as it was
   unfoldable pub grow_space : List ℕ → List ℕ

@@ -1,6 +1,8 @@
 -- What growing a table in its place promises: every record stays under its number, on every space with a sound header,
 -- damaged ones too; and a space that passes the check goes on as its table does with the new capacities.
-use Rattle.std.specs.Prelude.{ℕ, ◌≤◌, ◌<◌, ◌≡◌, true, List, [], ◌∷◌, map, length, get_or}
+use Rattle.basis.specs.declared.refusals.Refusal.{Refusal}
+use Rattle.basis.specs.declared.refusals.Refusal.TheVariants as refusal
+use Rattle.std.specs.Prelude.{ℕ, ◌≤◌, ◌<◌, ◌≡◌, true, List, [], ◌∷◌, map, length, get_or, Err, Ok}
 use Rattle.basis.specs.Choice.{pick}
 use Rattle.plain.specs.Coding.{Coding, coding_of}
 use Rattle.plain.specs.Requests.{Request, Reply, Result, Seen, trace, left}
@@ -9,9 +11,7 @@ use Rattle.plain.specs.Table.{Table, fresh, step, table_trace}
 use Rattle.space.specs.Layout.{sizes_of, end_offset}
 use Rattle.space.specs.Heading.{space_header}
 use Rattle.space.specs.Fresh.{fresh_answer_in, fresh_space_in}
-use Rattle.space.specs.declared.FreshAnswer.TheVariants.{Done, Refused}
 use Rattle.space.specs.declared.Head.{Head}
-use Rattle.space.specs.declared.Header.TheVariants as header
 use Rattle.store.specs.Views.{View, view_of}
 use Rattle.store.specs.Calls.{space_step, counted_cells}
 use Rattle.agreement.specs.Records.{Alike, fresh_view}
@@ -43,7 +43,7 @@ resized_view n f a v = record {
 
 module _ (n f a : ℕ) (cs : List ℕ) where
   abbrev pub Grown : Type 0
-  Grown = grow_reply n f a cs ≡ Done
+  Grown = grow_reply n f a cs ≡ Ok tt
 
   -- what its records are under a head
   abbrev pub view_before : Head → View
@@ -55,8 +55,8 @@ module _ (n f a : ℕ) (cs : List ℕ) where
 -- the header is sound afterwards, with the new capacities and the same edition and counts; the records within the
 -- counts are as before; those beyond them are as in a fresh space
 abbrev pub GrownView : Type 0
-GrownView = (n f a : ℕ) (cs : List ℕ) (h : Head) → space_header cs ≡ header.Sound h → Grown n f a cs
-    → (g : Head) × (space_header (grow_space n f a cs) ≡ header.Sound g) × (g.edition ≡ h.edition)
+GrownView = (n f a : ℕ) (cs : List ℕ) (h : Head) → space_header cs ≡ Ok h → Grown n f a cs
+    → (g : Head) × (space_header (grow_space n f a cs) ≡ Ok g) × (g.edition ≡ h.edition)
     × Alike (view_after n f a cs g) (resized_view n f a (view_before n f a cs h))
 
 pub record FreeAsFresh (n f a : ℕ) (cs : List ℕ) (g : Head) : Type 0 where
@@ -67,17 +67,17 @@ pub record FreeAsFresh (n f a : ℕ) (cs : List ℕ) (g : Head) : Type 0 where
 
 abbrev pub GrownFree : Type 0
 GrownFree = (n f a : ℕ) (cs : List ℕ) (g : Head) → Grown n f a cs
-    → space_header (grow_space n f a cs) ≡ header.Sound g → FreeAsFresh n f a cs g
+    → space_header (grow_space n f a cs) ≡ Ok g → FreeAsFresh n f a cs g
 
 -- the length stays, and every cell past the new end
 abbrev pub GrownFrame : Type 0
-GrownFrame = (n f a : ℕ) (cs : List ℕ) (h : Head) → space_header cs ≡ header.Sound h → Grown n f a cs
+GrownFrame = (n f a : ℕ) (cs : List ℕ) (h : Head) → space_header cs ≡ Ok h → Grown n f a cs
     → (let after = grow_space n f a cs in
     (length after ≡ length cs)
     × ((k : ℕ) → end_offset (sizes_of h.edition) n f a ≤ k → get_or after k 0 ≡ get_or cs k 0))
 
 abbrev pub GrowRefused : Type 0
-GrowRefused = (n f a k : ℕ) (cs : List ℕ) → grow_reply n f a cs ≡ Refused k → grow_space n f a cs ≡ cs
+GrowRefused = (n f a : ℕ) (k : Refusal) (cs : List ℕ) → grow_reply n f a cs ≡ Err k → grow_space n f a cs ≡ cs
 
 -- ---- a space that passes the check
 
@@ -86,7 +86,7 @@ abbrev pub GrowAnswers : Type 0
 GrowAnswers = (n f a : ℕ) (cs : List ℕ) → whole_space cs ≡ true
     → grow_reply n f a cs
     ≡ where_fresh (fresh_answer_in (edition_of cs) n f a cs)
-    (pick (holdable (resized n f a (table_of cs))) Done (Refused 19))
+    (pick (holdable (resized n f a (table_of cs))) (Ok tt) (Err refusal.Capacity))
 
 -- it passes afterwards, and says its table with the new capacities
 abbrev pub GrowPasses : Type 0
@@ -107,7 +107,7 @@ GrowHistories = (n f a : ℕ) (cs : List ℕ) (ms : List Made) → whole_space c
 
 -- what calls made of a fresh space is such a space
 abbrev pub GrowOfCalls : Type 0
-GrowOfCalls = (e m g b : ℕ) (cs : List ℕ) (qs : List Request) → fresh_answer_in e m g b cs ≡ Done → (n f a : ℕ)
+GrowOfCalls = (e m g b : ℕ) (cs : List ℕ) (qs : List Request) → fresh_answer_in e m g b cs ≡ Ok tt → (n f a : ℕ)
     → (let space = left space_step (fresh_space_in e m g b cs) qs in
     let t = left (step (coding_of e)) (fresh m g b) qs in
     Grown n f a space → Says e (resized n f a t) (grow_space n f a space))

@@ -8,13 +8,13 @@ ghost use Rattle.space.specs.Layout.{sizes_of};
 ghost use Rattle.growing.specs.Growing.{enough, grown_cells};
 ghost use Rattle.growing.specs.Clauses.{Grows, GrowsInto};
 
-use basis::refusals::{CAPACITY, FRESH};
+use basis::refusals::Refusal;
 use basis::wide;
 use moving::move_both;
+use space::Head;
 use space::blocks::{answers_end, nodes_end, subgoals_end};
 use space::fresh::{clear, fits};
 use space::heading::{read_header, write_offsets};
-use space::{FreshAnswer, Head, Header};
 
 // So many cells that stand one after another, and where the first of them stands and is to stand.
 #[derive(Clone, Copy)]
@@ -69,23 +69,19 @@ fn rearrange(space: &mut [u32], h: Head, n: usize, f: usize, a: usize)
 
 // Gives a table these capacities, larger or smaller, in its place: it was lent enough cells. Refused, it stays as it
 // was.
-pub fn grow(space: &mut [u32], nodes: u32, subgoals: u32, answers: u32) -> FreshAnswer
+pub fn grow(space: &mut [u32], nodes: u32, subgoals: u32, answers: u32) -> Result<(), Refusal>
     ensures { GrowsInto nodes subgoals answers space.old result space.new }
 {
     let n = wide(nodes);
     let f = wide(subgoals);
     let a = wide(answers);
-    match read_header(space) {
-        Header::Refused(r) => FreshAnswer::Refused(r),
-        Header::Sound(h) => {
-            if !fits(n, f, a, space, h.edition) {
-                return FreshAnswer::Refused(FRESH);
-            }
-            if !is_enough(h, n, f, a) {
-                return FreshAnswer::Refused(CAPACITY);
-            }
-            rearrange(space, h, n, f, a);
-            FreshAnswer::Done
-        }
+    let h = read_header(space)?;
+    if !fits(n, f, a, space, h.edition) {
+        return Err(Refusal::Fresh);
     }
+    if !is_enough(h, n, f, a) {
+        return Err(Refusal::Capacity);
+    }
+    rearrange(space, h, n, f, a);
+    Ok(())
 }

@@ -1,4 +1,5 @@
 -- A law for each case of judging a node, and what is known of nodes that fit.
+use Rattle.std.specs.Prelude.{None, Option, Some}
 use Prim.Native.Nat.{ℕ, zero, suc, ◌+◌, ◌-◌, ◌<◌, ◌≤◌}
 use mathlib.Core.Path.{◌≡◌, refl, sym, ap, ◌∙◌}
 use mathlib.Core.Bool.{Bool, true, false, not, ◌&&◌}
@@ -15,8 +16,6 @@ use Rattle.space.specs.Layout.{sizes, node_in}
 use Rattle.space.specs.Judging.{node_sound, read_node}
 use Rattle.space.specs.declared.Head.{Head}
 use Rattle.space.specs.declared.Node.{Node}
-use Rattle.space.specs.declared.NodeRead.{NodeRead}
-use Rattle.space.specs.declared.NodeRead.TheVariants as read
 use Rattle.space.proofs.JudgingLaws.{NodeBounds, node-bounds, node-sound, follows-within, read-node-sound, read-node-damaged}
 use Rattle.trie.proofs.WalkLaws.{both_true}
 use Rattle.store.specs.Views.{View}
@@ -207,13 +206,13 @@ bounds-named nodes links n y l b = record {
 }
 
 module _ (cs : List ℕ) (h : Head) (n : ℕ) where
-  abbrev Reads : NodeRead → Type 0
+  abbrev Reads : Option Node → Type 0
   Reads r = r ≡ read_node h.nodes (h.subgoals + h.answers) (node_in sizes cs) n
 
-  pub read-unfit : Reads read.Damaged → false ≡ node_fit (view_in cs h) n
+  pub read-unfit : Reads None → false ≡ node_fit (view_in cs h) n
   read-unfit e = fit-unsound (view_in cs h) n (read-node-damaged _ _ _ _ e)
 
-  module _ (y : Node) (e : Reads (read.Sound y)) where
+  module _ (y : Node) (e : Reads (Some y)) where
     pub read_is : y ≡ node_in sizes cs n
     read_is = (read-node-sound h.nodes (h.subgoals + h.answers) (node_in sizes cs) n e).0
 

@@ -1,7 +1,10 @@
 -- The build by parts, a part to a function, under the names of store's Building.antt and trie's Index.antt; and what a
 -- function may take as tested.
 use Rattle.std.specs.Prelude.{ℕ, ◌*◌, ◌<◌, ◌≤◌, Bool, true, List, ◌≡◌, leb, length}
+use Rattle.std.specs.Prelude.{Result, Ok, Err}
 use Rattle.basis.specs.Choice.{pick}
+use Rattle.basis.specs.Refusals.{number_of}
+use Rattle.basis.specs.declared.refusals.Refusal.{Refusal}
 use Rattle.space.specs.Sound.{Bounds}
 use Rattle.space.specs.declared.Head.{Head}
 use Rattle.space.specs.declared.Node.{Node}
@@ -10,14 +13,16 @@ use Rattle.trie.specs.Index.{power_of_two, enters, entering, insert, insert_all,
 use Rattle.store.specs.Views.{View, subgoal_trie}
 use Rattle.store.specs.Clauses.{view_in}
 use Rattle.store.specs.Building.{links_of, nodes_fit, BuildReply, built, refused, Build, build_index}
-use Rattle.indexing.specs.declared.BuildAnswer.{BuildAnswer}
-use Rattle.indexing.specs.declared.BuildAnswer.TheVariants as said
 
 -- ---- the answer
 
+-- so many children entered, or a refusal
+abbrev pub BuildAnswer : Type 0
+BuildAnswer = Result ℕ Refusal
+
 abbrev pub said_build : BuildAnswer → BuildReply
-said_build (said.Built n) = built n
-said_build (said.Refused r) = refused r
+said_build (Ok n) = built n
+said_build (Err r) = refused (number_of r)
 
 -- the build b is answered by r, and leaves the index `after`
 abbrev pub BuildLeaves : Build → BuildAnswer → List ℕ → Type 0

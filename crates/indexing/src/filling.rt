@@ -31,7 +31,8 @@ fn enter_all(space: &[u32], h: Head, index: &mut [u32])
     }
 }
 
-// The index, whatever it held; but only if half of its slots stay free once `count` children are entered.
+// The index, whatever it held; but only if half of its slots stay free once `count` children are entered. A bool, since
+// an Option would hold nothing.
 pub fn fill(space: &[u32], h: Head, index: &mut [u32], count: usize) -> bool
     requires { Insertable space.now h index.old }
     ensures { FillsIndex space.now h count index.old result index.new }

@@ -7,8 +7,8 @@ ghost use Rattle.store.specs.Clauses.{view_in};
 ghost use Rattle.store.specs.Building.{root_above, node_fit, nodes_fit};
 ghost use Rattle.indexing.specs.Parts.{Falling, link_fits, FitBefore};
 
+use space::Head;
 use space::records::{node_in, read_node};
-use space::{Head, NodeRead};
 use trie::siblings::parent_is;
 
 // The root that the parents of node n lead to.
@@ -44,12 +44,12 @@ fn node_fits(space: &[u32], h: Head, n: usize) -> bool
     ensures { result ≡ node_fit (view_in space.now h) n }
 {
     match read_node(space, h.nodes, h.subgoals + h.answers, n) {
-        NodeRead::Sound(y) => {
+        Some(y) => {
             link_fits(space, h, n, y.link)
                 && parent_is(space, h.nodes, y.child, n)
                 && parent_is(space, h.nodes, y.sibling, y.parent)
         }
-        NodeRead::Damaged => false,
+        None => false,
     }
 }
 

@@ -1,4 +1,5 @@
 -- The instance on cells is the instance of terms: the cells that are written for legal forms, and how many.
+use Rattle.std.specs.Prelude.{None, Ok, Option, Some}
 use Prim.Native.Nat.{ℕ, zero, suc, ◌+◌, ◌*◌, ◌≤◌, ◌<◌}
 use mathlib.Core.Bool.{true}
 use mathlib.Core.List.{List, [], ◌∷◌, ◌++◌, append_assoc, map}
@@ -12,8 +13,6 @@ use lib.Dec.{leb}
 use borrow.Author.Tests.{le-leb, leb-true, leb-false}
 use Rattle.basis.specs.Choice.{pick}
 use Rattle.basis.proofs.Cases.{by_cases}
-use Rattle.forms.specs.declared.Answer.TheVariants.{Cells}
-use Rattle.forms.specs.declared.Loading.TheVariants.{Terms}
 use Rattle.forms.specs.Cells.{payload, tag, variable, shape_of}
 use Rattle.forms.specs.Terms.{Term, cell, pairs, every, applied, reads}
 use Rattle.forms.specs.Numbering.{rank, met, renamed, numbered}
@@ -180,10 +179,10 @@ module _ (arity : ℕ → ℕ) (form : StoredForm) (laws : StoredLaws arity form
     last_end = omega (arith, all-cells, (laws.demand.loaded m v legal-v).0.cells)
 
     -- where the last term ends, as loading told
-    pub terms-end : Terms k ≡ loading form m v → k ≡ cells_of m (terms_at arity terms 0)
+    pub terms-end : Some k ≡ loading form m v → k ≡ cells_of m (terms_at arity terms 0)
     terms-end got = loading-length form m v k got ∙ sym all-cells
 
-    module _ (cells starts : List ℕ) (n : ℕ) (got : Terms n ≡ loading form 1 w) (held-cells : take n cells ≡ form.cells w)
+    module _ (cells starts : List ℕ) (n : ℕ) (got : Some n ≡ loading form 1 w) (held-cells : take n cells ≡ form.cells w)
         (noted : StartsAt (terms_at arity terms 0) m starts) (room : m < length starts) where
       many : n ≡ length (form.cells w)
       many = loading-length form 1 w n got
@@ -208,13 +207,15 @@ module _ (arity : ℕ → ℕ) (form : StoredForm) (laws : StoredLaws arity form
       }
 
 -- what is not missing fits
-pub fits_all : (need room r : ℕ) → Missing need room r → r ≤ 0 → need ≤ room
-fits_all need room r h g = by_cases (leb need room) (λ q. leb-true need room q) (λ q. let l : room < need = leb-false need room q in absurd (omega (arith, h.1 l)))
+pub fits_all : (need room : ℕ) (r : Option ℕ) → Missing need room r → r ≡ None → need ≤ room
+fits_all need room r h g = by_cases (leb need room)
+    (λ q. leb-true need room q)
+    (λ q. let l : Some need ≡ None = sym (h.1 (leb-false need room q)) ∙ g in let z : ◌≡◌ {A = ℕ} 0 1 = cc in absurd (omega arith))
 
-pub fits_not : (need room r : ℕ) → Missing need room r → 0 < r → (room < r) × (r ≡ need)
-fits_not need room r h g = by_cases (leb need room)
-    (λ q. absurd (omega (arith, h.0 (leb-true need room q))))
-    (λ q. let l : room < need = leb-false need room q in (omega (arith, h.1 l), h.1 l))
+pub fits_not : (need room k : ℕ) (r : Option ℕ) → Missing need room r → r ≡ Some k → (room < k) × (k ≡ need)
+fits_not need room k r h g = by_cases (leb need room)
+    (λ q. let l : Some k ≡ None = sym g ∙ h.0 (leb-true need room q) in let z : ◌≡◌ {A = ℕ} 0 1 = cc in absurd (omega arith))
+    (λ q. let l : Some k ≡ Some need = sym g ∙ h.1 (leb-false need room q) in let e : k ≡ need = cc in (omega (arith, e, leb-false need room q), e))
 
 -- no instance is longer than a term for each cell
 module _ (arity : ℕ → ℕ) (form : StoredForm) (w v cells terms starts : List ℕ) (n k : ℕ) (y : Ready arity form w v cells terms starts n k) where
@@ -224,14 +225,12 @@ module _ (arity : ℕ → ℕ) (form : StoredForm) (w v cells terms starts : Lis
       let z : length (take n cells) * 257 ≤ 256 * 257 = mul-le-mul {n₂ = 256} {m₂ = 257} l (omega arith) in
       omega (arith, z, needed-most 256 starts (take n cells) y.placed)
 
-  pub missing-bounded : (room r : ℕ) → Missing (needed starts (take n cells)) room r → r ≤ 256 * 257
-  missing-bounded room r h = by_cases (leb (needed starts (take n cells)) room)
-      (λ q. omega (arith, h.0 (leb-true _ _ q)))
-      (λ q. let l : room < needed starts (take n cells) = leb-false _ _ q in omega (arith, h.1 l, need-bounded))
+  pub missing-bounded : (room m : ℕ) (r : Option ℕ) → Missing (needed starts (take n cells)) room r → r ≡ Some m → m ≤ 256 * 257
+  missing-bounded room m r h g = omega (arith, (fits_not _ room m r h g).1, need-bounded)
 
 -- what fits is written
 pub fitting-written : (n : ℕ) (form cells out out' : List ℕ) → n ≡ length form → cells ≡ form → n ≤ length out → out' ≡ sets out 0 cells
-    → (Cells n ≡ fitting (length form) (length out)) × (out' ≡ written (Cells n) form out)
+    → (Ok n ≡ fitting (length form) (length out)) × (out' ≡ written (Ok n) form out)
 unfolding fitting written
 fitting-written n form cells out out' e f h q =
     let l : length form ≤ length out = omega arith in

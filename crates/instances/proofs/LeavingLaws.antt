@@ -1,5 +1,7 @@
 -- Laws of what is left in out: of a decision, of an answer as a number, of a form that is loaded or is none, and of the two forms
 -- of an instance.
+use Rattle.forms.specs.declared.Unwritten.TheVariants.{Short}
+use Rattle.std.specs.Prelude.{Err, None, Ok, Some}
 use Prim.Native.Nat.{ℕ, ◌+◌, ◌<◌, ◌≤◌}
 use mathlib.Core.Path.{◌≡◌, refl, sym, ◌∙◌}
 use mathlib.Core.Bool.{Bool, true, false, ◌&&◌}
@@ -12,10 +14,7 @@ use borrow.Author.Tests.{lt-ltb, le-ltb}
 use Rattle.basis.proofs.Cases.{by_cases}
 use Rattle.forms.specs.Numbering.{met}
 use Rattle.forms.specs.Stored.{StoredForm}
-use Rattle.forms.specs.Converting.{loading, fitting, written}
-use Rattle.forms.specs.declared.Answer as converted
-use Rattle.forms.specs.declared.Answer.TheVariants.{Cells, Short}
-use Rattle.forms.specs.declared.Loading.TheVariants.{Terms, NoForm}
+use Rattle.forms.specs.Converting.{loading, fitting, written, Answer}
 use Rattle.plain.specs.Words.{Word}
 use Rattle.plain.specs.Coding.{Coding}
 use Rattle.plain.specs.Requests.{Reply, cells, refused, short}
@@ -50,24 +49,24 @@ pub leaves-said : (v : View) (d : Decision) (out : List ℕ) (x y : Reply) (out'
 leaves-said v d out x y out' e l = rw e at l
 
 -- cells for out, as they fit
-pub gives_fits : (v : View) (ks out : List ℕ) (r : converted.Answer) (out' : List ℕ) → r ≡ fitting (length ks) (length out) → out' ≡ written r ks out → Leaves v (gives ks) out (said_cells r) out'
+pub gives_fits : (v : View) (ks out : List ℕ) (r : Answer) (out' : List ℕ) → r ≡ fitting (length ks) (length out) → out' ≡ written r ks out → Leaves v (gives ks) out (said_cells r) out'
 unfolding fitting written reply out_after
 gives_fits v ks out r out' e f =
     by_cases (leb (length ks) (length out))
-    (λ t. let i : r ≡ Cells (length ks) = rw t at e in let j : out' ≡ ks ++ drop (length ks) out = rw i at f in rw (i, t) (λ after. refl, j))
-    (λ t. let i : r ≡ Short (length ks) = rw t at e in let j : out' ≡ out = rw i at f in rw (i, t) (λ after. refl, j))
+    (λ t. let i : r ≡ Ok (length ks) = rw t at e in let j : out' ≡ ks ++ drop (length ks) out = rw i at f in rw (i, t) (λ after. refl, j))
+    (λ t. let i : r ≡ Err (Short (length ks)) = rw t at e in let j : out' ≡ out = rw i at f in rw (i, t) (λ after. refl, j))
 
 -- ---- a form that is loaded
 
 module _ (form : StoredForm) (m : ℕ) (w : List ℕ) where
-  pub form-refused : NoForm ≡ loading form m w → false ≡ form.legal m w
+  pub form-refused : None ≡ loading form m w → false ≡ form.legal m w
   unfolding loading
   form-refused e =
       by_cases (form.legal m w)
       (λ t. let d = rw t at e in let z : ◌≡◌ {A = ℕ} 0 1 = cc in absurd (omega arith))
       (λ t. sym t)
 
-  pub form-loaded : (n : ℕ) → Terms n ≡ loading form m w → true ≡ form.legal m w
+  pub form-loaded : (n : ℕ) → Some n ≡ loading form m w → true ≡ form.legal m w
   unfolding loading
   form-loaded n e =
       by_cases (form.legal m w)

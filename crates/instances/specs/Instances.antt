@@ -1,6 +1,7 @@
 -- The instance on cells: the subgoal's pair form with the cells of a term for each variable, and where those terms
 -- stand; and what the functions that write it ask and leave, by name.
 use Rattle.std.specs.Prelude.{ℕ, ◌+◌, ◌-◌, ◌≤◌, ◌<◌, true, List, [], ◌∷◌, ◌++◌, ◌≡◌, length, take, get_or}
+use Rattle.std.specs.Prelude.{Option, None, Some}
 use Rattle.std.proofs.lemmas.List.Edits.{sets}
 use Rattle.std.proofs.Math.Seq.{slice}
 use Rattle.basis.specs.Choice.{pick}
@@ -46,9 +47,9 @@ instance_cells terms starts (c ∷ cs) = stands_for terms starts c ++ instance_c
 abbrev pub most_cells : ℕ
 most_cells = 256
 
--- r is the need where there is less room, else 0
-abbrev pub Missing : (need room r : ℕ) → Type 0
-Missing need room r = (need ≤ room → r ≡ 0) × (room < need → r ≡ need)
+-- r is the need where there is less room
+abbrev pub Missing : (need room : ℕ) → Option ℕ → Type 0
+Missing need room r = (need ≤ room → r ≡ None) × (room < need → r ≡ Some need)
 
 -- the first m terms of s are there and end at `end`, and their places fit `starts`
 abbrev pub TermsTo : ℕ → List ℕ → ℕ → ℕ → List ℕ → Type 0

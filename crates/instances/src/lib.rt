@@ -22,11 +22,10 @@ ghost use Rattle.instances.specs.Instances.{
 };
 
 use basis::limits::MOST_VARIABLES;
-use convert::Loaded;
 use convert::buffers::{
     FEW_TOKENS, SOME_TOKENS, TERMS_OF_FEW, TERMS_OF_MOST, TERMS_OF_SOME, tokens_rung,
 };
-use forms::{Loading, arguments_of, due_after, is_variable, payload_of};
+use forms::{arguments_of, due_after, is_variable, payload_of};
 
 // A term for each variable of the subgoal: where each starts, and the end of the last.
 const STARTS: usize = MOST_VARIABLES + 1;
@@ -77,21 +76,21 @@ fn need(cells: &[u32], starts: &[u32]) -> usize
     sum
 }
 
-// How many cells the instance of these cells has, if that is more than there is room for; else 0. Where each cell could
-// be a term as long as all of them, nothing is counted.
-fn missing(cells: &[u32], end: usize, starts: &[u32], room: usize) -> usize
+// How many cells the instance of these cells has, if that is more than there is room for. Where each cell could be a
+// term as long as all of them, nothing is counted.
+fn missing(cells: &[u32], end: usize, starts: &[u32], room: usize) -> Option<usize>
     requires { (end ≤ most_cells) × (length cells.now ≤ most_cells)
         × AllPlaced end starts.now (length cells.now) cells.now }
     ensures { Missing (needed starts.now cells.now) room result }
 {
     if cells.len() * (end + 1) <= room {
-        return 0;
+        return None;
     }
     let k = need(&cells[..], starts);
     if room < k {
-        return k;
+        return Some(k);
     }
-    0
+    None
 }
 
 // Copies the cells of s from `start` up to `end` to out, from `to` on; gives the place behind them.
@@ -130,8 +129,8 @@ fn write(cells: &[u32], terms: &[u32], starts: &[u32], out: &mut [u32]) -> usize
 }
 
 // The subgoal's path with the terms of the answer's form for its m variables: one more than its cells, which are
-// written where there is room for them; 0 for damage, as what is no legal form. A plain number, since an enum is copied
-// in memory by each function that hands it on. The buffers are long enough for the pair forms of the two.
+// written where there is room for them; 0 for damage, as what is no legal form. The buffers are long enough for the
+// pair forms of the two. A plain number: with an enum a short instance took 1.04 times as long (docs/DECISIONS.md).
 fn instance_with(
     path: &[u32],
     form: &[u32],
@@ -144,20 +143,19 @@ fn instance_with(
     requires { RoomForTerms path.now cells.old × RoomForTerms form.now terms.old }
     ensures { InstancesOf form.now path.now m edition out.old result out.new }
 {
-    let Loading::Terms(end) = convert::load_terms(&form[..], m, terms, edition) else {
+    let Some(end) = convert::load_terms(&form[..], m, terms, edition) else {
         return 0;
     };
-    let Loaded::Counted(n, variables) = convert::load_counted(&path[..], 1, cells, edition) else {
+    let Some(loaded) = convert::load_counted(&path[..], 1, cells, edition) else {
         return 0;
     };
-    if variables == m {
+    if loaded.variables == m {
         let mut starts = [0u32; STARTS];
         note_starts(terms, m, end, &mut starts, edition);
-        let short = missing(&cells[..n], end, &starts, out.len());
-        if 0 < short {
+        if let Some(short) = missing(&cells[..loaded.cells], end, &starts, out.len()) {
             return short + 1;
         }
-        return write(&cells[..n], terms, &starts, out) + 1;
+        return write(&cells[..loaded.cells], terms, &starts, out) + 1;
     }
     0
 }

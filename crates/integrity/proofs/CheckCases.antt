@@ -1,4 +1,6 @@
 -- A law for each case of the check.
+use Rattle.basis.specs.declared.refusals.Refusal.{Refusal}
+use Rattle.std.specs.Prelude.{Err, Ok}
 use Prim.Native.Nat.{ℕ, suc, ◌+◌, ◌<◌, ◌≤◌}
 use mathlib.Core.Path.{◌≡◌, refl, sym, ap}
 use mathlib.Core.Bool.{Bool, true, false}
@@ -11,7 +13,6 @@ use Rattle.plain.specs.Coding.{coding_of}
 use Rattle.space.specs.Heading.{space_header}
 use Rattle.space.specs.Sound.{Bounds}
 use Rattle.space.specs.declared.Head.{Head}
-use Rattle.space.specs.declared.Header.TheVariants as header
 use Rattle.store.specs.Clauses.{view_in}
 use Rattle.agreement.specs.Whole.{every_below, chains}
 use Rattle.agreement.specs.Faults.{nothing, heading, node, subgoal, answer, first_failing, node_broken, subgoal_broken, answer_broken, answer_lost, fault_in, fault_under, fault_of}
@@ -75,10 +76,10 @@ module _ (cs : List ℕ) (h : Head) where
         all_whole b m = (b, pass-whole (λ i. subgoal_test cs h (suc i)) h.subgoals s f k, pass-whole (λ i. answer_test cs h (suc i)) h.answers a d m)
 
 module _ (cs : List ℕ) where
-  pub fault-header : (r : ℕ) → header.Refused r ≡ space_header cs → heading ≡ fault_of cs
+  pub fault-header : (r : Refusal) → Err r ≡ space_header cs → heading ≡ fault_of cs
   unfolding fault_of fault_under
   fault-header r e = rw (← e)
 
-  pub fault-sound : (h : Head) → header.Sound h ≡ space_header cs → fault_in (coding_of h.edition) (view_in cs h) ≡ fault_of cs
+  pub fault-sound : (h : Head) → Ok h ≡ space_header cs → fault_in (coding_of h.edition) (view_in cs h) ≡ fault_of cs
   unfolding fault_of fault_under
   fault-sound h e = rw (← e)

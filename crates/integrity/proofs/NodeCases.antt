@@ -1,4 +1,5 @@
 -- A law for each case of testing a node.
+use Rattle.std.specs.Prelude.{None, Option, Some}
 use Prim.Native.Nat.{ℕ, ◌+◌, ◌<◌, ◌≤◌}
 use mathlib.Core.Path.{◌≡◌, refl}
 use mathlib.Core.Bool.{true, false, ◌&&◌}
@@ -14,8 +15,6 @@ use Rattle.space.specs.Sound.{Bounds}
 use Rattle.space.specs.Judging.{read_node}
 use Rattle.space.specs.declared.Head.{Head}
 use Rattle.space.specs.declared.Node.{Node}
-use Rattle.space.specs.declared.NodeRead.{NodeRead}
-use Rattle.space.specs.declared.NodeRead.TheVariants as read
 use Rattle.space.proofs.JudgingLaws.{node-bounds, node-sound, follows-within, read-node-sound, read-node-damaged}
 use Rattle.trie.specs.Siblings.{sound, parent_is}
 use Rattle.store.specs.Views.{View}
@@ -56,13 +55,13 @@ module _ (c : Coding) (v : View) (i : ℕ) where
 -- ---- under a head: a node that was read and found sound, where those before it are whole
 
 module _ (cs : List ℕ) (h : Head) (i : ℕ) where
-  abbrev Reads : NodeRead → Type 0
+  abbrev Reads : Option Node → Type 0
   Reads r = r ≡ read_node h.nodes (h.subgoals + h.answers) (node_in sizes cs) i
 
-  pub node-damaged : Reads read.Damaged → false ≡ node_test cs h i
+  pub node-damaged : Reads None → false ≡ node_test cs h i
   node-damaged e = node-unsound (coding_of h.edition) (view_in cs h) i (read-node-damaged _ _ _ _ e)
 
-  module _ (y : Node) (e : Reads (read.Sound y)) where
+  module _ (y : Node) (e : Reads (Some y)) where
     pub read_is : y ≡ node_in sizes cs i
     read_is = (read-node-sound h.nodes (h.subgoals + h.answers) (node_in sizes cs) i e).0
 

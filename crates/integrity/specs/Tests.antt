@@ -1,4 +1,5 @@
 -- The tests of agreement's Whole.antt by parts, a part to a function; and what a function may take as tested.
+use Rattle.std.specs.Prelude.{Result, Ok, Err}
 use Rattle.std.specs.Prelude.{ℕ, suc, ◌+◌, ◌<◌, ◌≤◌, Bool, true, ◌&&◌, ◌||◌, List, [], ◌≡◌, eqb, leb, ltb, length}
 use Rattle.basis.specs.Choice.{pick}
 use Rattle.forms.specs.Numbering.{met}
@@ -14,18 +15,25 @@ use Rattle.trie.specs.Siblings.{Trie, trie_in, sound}
 use Rattle.store.specs.Views.{View}
 use Rattle.store.specs.Clauses.{view_in}
 use Rattle.agreement.specs.Whole.{every_below, first_leaf, node_whole, subgoal_whole, answer_whole, chain, chains}
-use Rattle.agreement.specs.Faults.{Fault, first_failing, nothing, heading, node, subgoal, answer, among, chained, answer_lost}
-use Rattle.integrity.specs.declared.CheckAnswer.{CheckAnswer}
-use Rattle.integrity.specs.declared.CheckAnswer.TheVariants as said
+use Rattle.agreement.specs.Faults.{Fault, first_failing, nothing, heading, node, subgoal, answer}
+use Rattle.agreement.specs.Faults.{among, chained, answer_lost}
+use Rattle.integrity.specs.declared.Broken.{Broken}
+use Rattle.integrity.specs.declared.Broken.TheVariants as broken
 
 -- ---- the answer
 
+abbrev pub said_broken : Broken → Fault
+said_broken broken.Header = heading
+said_broken (broken.Node n) = node n
+said_broken (broken.Subgoal s) = subgoal s
+said_broken (broken.Answer a) = answer a
+
+abbrev pub CheckAnswer : Type 0
+CheckAnswer = Result Unit Broken
+
 abbrev pub said_check : CheckAnswer → Fault
-said_check said.Whole = nothing
-said_check said.Header = heading
-said_check (said.Node n) = node n
-said_check (said.Subgoal s) = subgoal s
-said_check (said.Answer a) = answer a
+said_check (Ok y) = nothing
+said_check (Err b) = said_broken b
 
 -- ---- a form, as a path gives it
 

@@ -22,10 +22,9 @@ use records::{first_answer, first_subgoal};
 use space::Head;
 use space::heading::read_header;
 
-// The space is whole; or its header is broken, or the record of this number, the first that is.
+// What is broken first: the header, or the record of this number.
 #[derive(Clone, Copy)]
-pub enum CheckAnswer {
-    Whole,
+pub enum Broken {
     Header,
     Node(u32),
     Subgoal(u32),
@@ -33,43 +32,43 @@ pub enum CheckAnswer {
 }
 
 // Where every record by itself is whole: the chains.
-fn check_chains(space: &[u32], h: Head) -> CheckAnswer
+fn check_chains(space: &[u32], h: Head) -> Result<(), Broken>
     requires { ChainsWhole space.now h }
     ensures { said_check result ≡ chains_fault space.now h }
 {
     if chains_length(space, h) == h.answers {
-        return CheckAnswer::Whole;
+        return Ok(());
     }
     let a = first_lost(space, h);
-    CheckAnswer::Answer((a + 1) as u32)
+    Err(Broken::Answer((a + 1) as u32))
 }
 
 // Under a sound header.
-fn check_in(space: &[u32], h: Head) -> CheckAnswer
+fn check_in(space: &[u32], h: Head) -> Result<(), Broken>
     requires { Bounds space.now h }
     ensures { said_check result ≡ fault_in (coding_of h.edition) (view_in space.now h) }
 {
     let n = first_node(space, h);
     if n < h.nodes {
-        return CheckAnswer::Node(n as u32);
+        return Err(Broken::Node(n as u32));
     }
     let s = first_subgoal(space, h);
     if s < h.subgoals {
-        return CheckAnswer::Subgoal((s + 1) as u32);
+        return Err(Broken::Subgoal((s + 1) as u32));
     }
     let a = first_answer(space, h);
     if a < h.answers {
-        return CheckAnswer::Answer((a + 1) as u32);
+        return Err(Broken::Answer((a + 1) as u32));
     }
     check_chains(space, h)
 }
 
 // Is the space whole?
-pub fn check(space: &[u32]) -> CheckAnswer
+pub fn check(space: &[u32]) -> Result<(), Broken>
     ensures { said_check result ≡ fault_of space.now }
 {
     match read_header(space) {
-        space::Header::Sound(h) => check_in(space, h),
-        space::Header::Refused(_) => CheckAnswer::Header,
+        Ok(h) => check_in(space, h),
+        Err(_) => Err(Broken::Header),
     }
 }

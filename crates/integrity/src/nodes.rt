@@ -12,7 +12,7 @@ ghost use Rattle.integrity.specs.Tests.{tries_in, node_test, NodesWhole, NodeOfN
 
 use super::passes::first_failing;
 use space::records::{answer_in, node_in, read_node, subgoal_in};
-use space::{Head, Node, NodeRead};
+use space::{Head, Node};
 use trie::Search;
 use trie::siblings::{parent_is, search_children};
 
@@ -91,7 +91,7 @@ fn node_whole(space: &[u32], h: Head, i: usize) -> bool
     requires { Bounds space.now h × (i < h.nodes) × NodesWhole space.now h i }
     ensures { result ≡ node_test space.now h i }
 {
-    let NodeRead::Sound(y) = read_node(space, h.nodes, h.subgoals + h.answers, i) else {
+    let Some(y) = read_node(space, h.nodes, h.subgoals + h.answers, i) else {
         return false;
     };
     if !parent_is(space, h.nodes, y.child, i) || !leads_back(space, h, y.link, i) {

@@ -6,15 +6,15 @@ use mathlib.Core.List.{List, [], map}
 use Prim.Native.Nat.{ℕ, ◌≤◌, ◌<◌}
 use native.Mathlib.Omega.{arith}
 use lib.ListN.{length, take}
+use Rattle.std.specs.Prelude.{Err, Ok}
+use Rattle.basis.specs.declared.refusals.Refusal.{Refusal}
 use Rattle.forms.specs.Stored.{stored_of}
 use Rattle.plain.specs.Words.{Word}
 use Rattle.plain.specs.Coding.{coding_of}
 use Rattle.space.specs.Layout.{sizes_of}
-use Rattle.space.specs.Heading.{space_header}
+use Rattle.space.specs.Heading.{space_header, Header}
 use Rattle.space.specs.Sound.{Bounds, subgoal_under}
 use Rattle.space.specs.declared.Head.{Head}
-use Rattle.space.specs.declared.Header.{Header}
-use Rattle.space.specs.declared.Header.TheVariants as header
 use Rattle.space.specs.declared.Subgoal.{Subgoal}
 use Rattle.space.proofs.HeaderLaws.{header-bounds}
 use Rattle.trie.specs.Siblings.{search_children}
@@ -34,19 +34,15 @@ use Rattle.pairing.specs.declared.Source.{Source}
 use Rattle.pairing.specs.declared.Sides.{Sides}
 use Rattle.pairing.specs.declared.Cursor.{Cursor}
 use Rattle.pairing.specs.declared.Walk.{Walk}
-use Rattle.pairing.specs.declared.Match.TheVariants as match
+use Rattle.pairing.specs.declared.Found.TheVariants as found
 use Rattle.pairing.specs.Pairing.{forms_from, SourceIn, Remains, form_in, Throughout, Stands, parts_from, to_come, Advances}
 use Rattle.pairing.specs.Counting.{Begun, all_forms, JoinReady, Fitting}
 use Rattle.join.specs.Entering.{under_head, Target, Givable, Enters}
 use Rattle.pairing.proofs.RemainsLaws.{forms-are}
 use Rattle.pairing.proofs.CountLaws.{begins, all_come, fit-cons}
 
-pub sound-is : {h k : Head} → header.Sound h ≡ header.Sound k → h ≡ k
-sound-is {h} {k} e = ap head_of e
-  where
-    head_of : Header → Head
-    head_of (header.Sound y) = y
-    head_of (header.Refused r) = h
+pub sound-is : {h k : Head} → ◌≡◌ {A = Header} (Ok h) (Ok k) → h ≡ k
+sound-is e = cc
 
 -- ---- the sources of a join while its target is given a form
 
@@ -54,8 +50,8 @@ module _ (cs : List ℕ) (h : Head) (s : ℕ) (cs' : List ℕ) (F : Framed h.edi
   edition-kept : h'.edition ≡ h.edition
   edition-kept = ap (λ (k : Head). k.edition) (sym is) ∙ F.edition-same
 
-  space-kept : space_header cs' ≡ header.Sound h'
-  space-kept = F.space ∙ ap header.Sound is
+  space-kept : space_header cs' ≡ Ok h'
+  space-kept = F.space ∙ ap (λ (k : Head). Ok k) is
 
   seen : SameBut s (view_in cs h) (view_in cs' h')
   seen =
@@ -153,7 +149,7 @@ module _ (cs : List ℕ) (x : Sides) (s : ℕ) (ps ks : List ℕ) (k : Throughou
 
 module _ (find : Finding) where
   pub record Entering (cs0 : List ℕ) (x0 : Sides) (s : ℕ) (ps ks cs : List ℕ) (x : Sides) (at : Cursor) (hands form : List ℕ) : Type 0 where
-    pub space : space_header cs ≡ header.Sound x.h
+    pub space : space_header cs ≡ Ok x.h
     pub known : Throughout cs x ps ks
     pub target : Target cs x s
     pub stands : Stands cs x at hands form
@@ -162,7 +158,7 @@ module _ (find : Finding) where
 
 module _ {find : Finding} (finds : Finds find) where
   module _ (cs0 : List ℕ) (x0 : Sides) (s : ℕ) (ps ks : List ℕ) where
-    pub entering-begun : space_header cs0 ≡ header.Sound x0.h → JoinReady cs0 x0 ps ks → Fitting cs0 x0 ps ks → Target cs0 x0 s → (w : Walk) → Begun x0 w → Entering find cs0 x0 s ps ks cs0 x0 w.at w.first w.form
+    pub entering-begun : space_header cs0 ≡ Ok x0.h → JoinReady cs0 x0 ps ks → Fitting cs0 x0 ps ks → Target cs0 x0 s → (w : Walk) → Begun x0 w → Entering find cs0 x0 s ps ks cs0 x0 w.at w.first w.form
     entering-begun e r f t w b = record {
       space = e;
       known = r.known;
@@ -178,7 +174,7 @@ module _ {find : Finding} (finds : Finds find) where
       unfolding forms_given_by
       entered-end e = sym (ap (forms_given_by find (sizes_of x.h.edition) cs s) e) ∙ n.left
 
-      module _ (hands' form' : List ℕ) (next : Cursor) (m : ℕ) (a : Advances cs x ps ks at hands hands' form' (match.At next m)) (cs' : List ℕ) (g : cs' ≡ form_given_by find (sizes_of x.h.edition) cs s (take m form') (header.Sound x.h)) where
+      module _ (hands' form' : List ℕ) (next : Cursor) (m : ℕ) (a : Advances cs x ps ks at hands hands' form' (found.At (next, m))) (cs' : List ℕ) (g : cs' ≡ form_given_by find (sizes_of x.h.edition) cs s (take m form') (Ok x.h)) where
         framed : Framed x.h.edition s cs x.h cs'
         framed = subst (Framed x.h.edition s cs x.h) (sym g) (form-framed finds cs x.h n.space s n.target.low n.target.high n.target.root_in n.target.last-in (take m form'))
 
@@ -192,17 +188,10 @@ module _ {find : Finding} (finds : Finds find) where
         pub entering-size : length cs' ≡ length cs
         entering-size = framed.size
 
-        pub still-sound : (r : ℕ) → header.Refused r ≡ space_header cs' → ⊥
-        still-sound r e = refused-sound (e ∙ framed.space)
-          where
-            Is-refused : Header → Type 0
-            Is-refused (header.Refused q) = Unit {0}
-            Is-refused (header.Sound q) = ⊥
+        pub still-sound : (r : Refusal) → Err r ≡ space_header cs' → ⊥
+        still-sound r e = let q : ◌≡◌ {A = Header} (Err r) (Ok framed.head) = e ∙ framed.space in cc
 
-            refused-sound : {q : ℕ} {y : Head} → header.Refused q ≡ header.Sound y → ⊥
-            refused-sound w = subst Is-refused w tt
-
-        pub entering-on : (h' : Head) → header.Sound h' ≡ space_header cs' → Entering find cs0 x0 s ps ks cs' (under_head x h') next hands' form'
+        pub entering-on : (h' : Head) → Ok h' ≡ space_header cs' → Entering find cs0 x0 s ps ks cs' (under_head x h') next hands' form'
         entering-on h' e =
             let is : framed.head ≡ h' = sound-is (sym framed.space ∙ sym e) in
             let come = come-kept cs x s ps ks n.known n.target cs' framed h' is next hands' form' a.0 in
@@ -222,8 +211,8 @@ module _ {find : Finding} (finds : Finds find) where
             }
 
       -- there are fewer to come
-      pub entering-less : (hands' form' : List ℕ) (next : Cursor) (m : ℕ) (a : Advances cs x ps ks at hands hands' form' (match.At next m)) (cs' : List ℕ) (g : cs' ≡ form_given_by find (sizes_of x.h.edition) cs s (take m form') (header.Sound x.h))
-          (h' : Head) → header.Sound h' ≡ space_header cs' → length (to_come cs' (under_head x h') ps ks next hands') < length (to_come cs x ps ks at hands)
+      pub entering-less : (hands' form' : List ℕ) (next : Cursor) (m : ℕ) (a : Advances cs x ps ks at hands hands' form' (found.At (next, m))) (cs' : List ℕ) (g : cs' ≡ form_given_by find (sizes_of x.h.edition) cs s (take m form') (Ok x.h))
+          (h' : Head) → Ok h' ≡ space_header cs' → length (to_come cs' (under_head x h') ps ks next hands') < length (to_come cs x ps ks at hands)
       entering-less hands' form' next m a cs' g h' e =
           let F = framed hands' form' next m a cs' g in
           let is : F.head ≡ h' = sound-is (sym F.space ∙ sym e) in
@@ -233,7 +222,7 @@ module _ {find : Finding} (finds : Finds find) where
 -- ---- one form
 
 -- a form given as a single answer is
-pub given_by : (find : Finding) (cs : List ℕ) (h : Head) (s : ℕ) (w : Word) (g : Subgoal) (r : Reply) (cs' : List ℕ) → g ≡ subgoal_under cs h s → Does cs h (answered_from find s g.root w) r cs' → cs' ≡ form_given_by find (sizes_of h.edition) cs s w (header.Sound h)
+pub given_by : (find : Finding) (cs : List ℕ) (h : Head) (s : ℕ) (w : Word) (g : Subgoal) (r : Reply) (cs' : List ℕ) → g ≡ subgoal_under cs h s → Does cs h (answered_from find s g.root w) r cs' → cs' ≡ form_given_by find (sizes_of h.edition) cs s w (Ok h)
 unfolding form_given_by
 given_by find cs h s w g r cs' e d =
     d.1

@@ -5,7 +5,10 @@ use mathlib.Core.List.{List, [], ◌∷◌, ◌++◌}
 use Prim.Native.Nat.{ℕ, ◌+◌, ◌≤◌, ◌<◌}
 use native.Mathlib.Omega.{arith}
 use lib.ListN.{length}
+use Rattle.std.specs.Prelude.{Result, Ok, Err}
 use Rattle.basis.specs.Choice.{pick}
+use Rattle.basis.specs.declared.refusals.Refusal.{Refusal}
+use Rattle.basis.specs.declared.refusals.Refusal.TheVariants as refusal
 use Rattle.forms.specs.Compact.{same}
 use Rattle.plain.specs.Words.{Word, has}
 use Rattle.plain.specs.Joins.{Terms, matching, copied, along, combined}
@@ -101,13 +104,13 @@ module _ (find : Finding) (v : View) (s : ℕ) where
 -- ---- whether there is room
 
 module _ (h : Head) where
-  pub one-fits : h.answers < h.answer_capacity → 0 ≡ room_for h 0 1
+  pub one-fits : h.answers < h.answer_capacity → Ok tt ≡ room_for h 0 1
   one-fits l = room-enough h 0 1 (omega arith) (omega arith)
 
-  pub one-over : (h.answers < h.answer_capacity → ⊥) → 11 ≡ room_for h 0 1
+  pub one-over : (h.answers < h.answer_capacity → ⊥) → Err refusal.RecordsLeft ≡ room_for h 0 1
   one-over l = room-answers h 0 1 (omega arith) (let q = l in omega arith)
 
-pub ground-told : (find : Finding) (cs : List ℕ) (x : Sides) (root : ℕ) (ps ks : List ℕ) → length ks ≡ 0 → SomeNeeded find cs x root ps ks → (r : ℕ) → r ≡ room_for x.h 0 1
+pub ground-told : (find : Finding) (cs : List ℕ) (x : Sides) (root : ℕ) (ps ks : List ℕ) → length ks ≡ 0 → SomeNeeded find cs x root ps ks → (r : Result Unit Refusal) → r ≡ room_for x.h 0 1
     → TellsInPlace find cs x root ps ks cs r
 ground-told find cs x root ps ks z some r e = (
   refl,

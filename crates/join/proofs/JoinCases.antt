@@ -7,7 +7,11 @@ use native.Mathlib.Omega.{arith}
 use lib.Dec.{eqb, leb, ltb}
 use lib.ListN.{length}
 use borrow.Author.Tests.{eq-eqb, ne_eqb, lt-ltb, le-leb, eqb-true, eqb-false}
+use Rattle.std.specs.Prelude.{Ok, Err}
 use Rattle.basis.specs.Choice.{pick}
+use Rattle.basis.specs.Refusals.{number_of}
+use Rattle.basis.specs.declared.refusals.Refusal.{Refusal}
+use Rattle.basis.specs.declared.refusals.Refusal.TheVariants as refusal
 use Rattle.basis.proofs.Cases.{by_cases}
 use Rattle.forms.specs.Stored.{stored_of}
 use Rattle.forms.specs.Numbering.{met}
@@ -191,17 +195,17 @@ module _ (cs : List ℕ) (h : Head) (y : Parties) (ps ks : List ℕ) (p : Partie
       (ap (subgoal_sound h.nodes h.answers) target_is ∙ p.target_sound)
       (ap (λ (q : Subgoal). root_sound (answer_trie (view_in cs h)) q.root) target_is ∙ p.rooted)
 
-  refused-ruled : (r : ℕ) → (r ≡ 0 → ⊥) → ((find : Finding) → sourced find (coding_of h.edition) (view_in cs h) y.first y.second ps y.target ks ≡ refuses r) → Ruled cs h y ps ks r
-  refused-ruled r z e = (λ q. absurd (z q), λ q find. join-refused find cs h y.first y.second ps y.target ks r (parties-decide find ∙ e find))
+  refused-ruled : (r : Refusal) → ((find : Finding) → sourced find (coding_of h.edition) (view_in cs h) y.first y.second ps y.target ks ≡ refuses (number_of r)) → Ruled cs h y ps ks (Err r)
+  refused-ruled r e = λ find. join-refused find cs h y.first y.second ps y.target ks (number_of r) (parties-decide find ∙ e find)
 
-  pub ruled-first-broken : chain_of (coding_of h.edition) (view_in cs h) y.first ≡ broken → Ruled cs h y ps ks 9
+  pub ruled-first-broken : chain_of (coding_of h.edition) (view_in cs h) y.first ≡ broken → Ruled cs h y ps ks (Err refusal.Records)
   unfolding on_chains
-  ruled-first-broken e = refused-ruled 9 (λ z. omega arith) (λ find. rw e)
+  ruled-first-broken e = refused-ruled refusal.Records (λ find. rw e)
 
   module _ (us : List Word) (a : chain_of (coding_of h.edition) (view_in cs h) y.first ≡ unbroken us) where
-    pub ruled-second-broken : chain_of (coding_of h.edition) (view_in cs h) y.second ≡ broken → Ruled cs h y ps ks 9
+    pub ruled-second-broken : chain_of (coding_of h.edition) (view_in cs h) y.second ≡ broken → Ruled cs h y ps ks (Err refusal.Records)
     unfolding on_chains
-    ruled-second-broken e = refused-ruled 9 (λ z. omega arith) (λ find. rw (a, e))
+    ruled-second-broken e = refused-ruled refusal.Records (λ find. rw (a, e))
 
     module _ (vs : List Word) (b : chain_of (coding_of h.edition) (view_in cs h) y.second ≡ unbroken vs) where
       rule-is : join_of (coding_of h.edition) (side_in (view_in cs h) y.first us) (side_in (view_in cs h) y.second vs) ps (state_of ((view_in cs h).subgoal y.target).state) ((view_in cs h).subgoal y.target).variables ks
@@ -219,32 +223,32 @@ module _ (cs : List ℕ) (h : Head) (y : Parties) (ps ks : List ℕ) (p : Partie
           ≡ joining_by find (view_in cs h) y.target (join_of (coding_of h.edition) (side_in (view_in cs h) y.first us) (side_in (view_in cs h) y.second vs) ps (state_of ((view_in cs h).subgoal y.target).state) ((view_in cs h).subgoal y.target).variables ks) = rw (a, b) in
           unread ∙ ap (joining_by find (view_in cs h) y.target) rule-is
 
-      declines : (r : ℕ) → (r ≡ 0 → ⊥) → rule_of (coding_of h.edition) y.f us y.g vs ps y.t ks ≡ declined r → Ruled cs h y ps ks r
+      declines : (r : Refusal) → rule_of (coding_of h.edition) y.f us y.g vs ps y.t ks ≡ declined (number_of r) → Ruled cs h y ps ks (Err r)
       unfolding joining_by
-      declines r z e = refused-ruled r z (λ find. both_read find ∙ ap (joining_by find (view_in cs h) y.target) e)
+      declines r e = refused-ruled r (λ find. both_read find ∙ ap (joining_by find (view_in cs h) y.target) e)
 
-      pub ruled-finished : (y.t.state ≡ 0 → ⊥) → Ruled cs h y ps ks 8
-      ruled-finished z = declines 8 (λ q. omega arith) (rule-finished (coding_of h.edition) y.f us y.g vs ps y.t ks z)
+      pub ruled-finished : (y.t.state ≡ 0 → ⊥) → Ruled cs h y ps ks (Err refusal.State)
+      ruled-finished z = declines refusal.State (rule-finished (coding_of h.edition) y.f us y.g vs ps y.t ks z)
 
       module _ (o : y.t.state ≡ 0) where
-        pub ruled-first-open : y.f.state ≡ 0 → Ruled cs h y ps ks 14
-        ruled-first-open e = declines 14 (λ q. omega arith) (rule-first-open (coding_of h.edition) y.f us y.g vs ps y.t ks o e)
+        pub ruled-first-open : y.f.state ≡ 0 → Ruled cs h y ps ks (Err refusal.SourceOpen)
+        ruled-first-open e = declines refusal.SourceOpen (rule-first-open (coding_of h.edition) y.f us y.g vs ps y.t ks o e)
 
         module _ (m : y.f.state ≡ 0 → ⊥) where
-          pub ruled-second-open : y.g.state ≡ 0 → Ruled cs h y ps ks 14
-          ruled-second-open e = declines 14 (λ q. omega arith) (rule-second-open (coding_of h.edition) y.f us y.g vs ps y.t ks o m e)
+          pub ruled-second-open : y.g.state ≡ 0 → Ruled cs h y ps ks (Err refusal.SourceOpen)
+          ruled-second-open e = declines refusal.SourceOpen (rule-second-open (coding_of h.edition) y.f us y.g vs ps y.t ks o m e)
 
           module _ (n : y.g.state ≡ 0 → ⊥) where
-            pub ruled-first-variable : ground us ≡ false → Ruled cs h y ps ks 15
-            ruled-first-variable e = declines 15 (λ q. omega arith) (rule-first-variable (coding_of h.edition) y.f us y.g vs ps y.t ks o m n e)
+            pub ruled-first-variable : ground us ≡ false → Ruled cs h y ps ks (Err refusal.SourceVariable)
+            ruled-first-variable e = declines refusal.SourceVariable (rule-first-variable (coding_of h.edition) y.f us y.g vs ps y.t ks o m n e)
 
             module _ (d : ground us ≡ true) where
-              pub ruled-second-variable : ground vs ≡ false → Ruled cs h y ps ks 15
-              ruled-second-variable e = declines 15 (λ q. omega arith) (rule-second-variable (coding_of h.edition) y.f us y.g vs ps y.t ks o m n d e)
+              pub ruled-second-variable : ground vs ≡ false → Ruled cs h y ps ks (Err refusal.SourceVariable)
+              ruled-second-variable e = declines refusal.SourceVariable (rule-second-variable (coding_of h.edition) y.f us y.g vs ps y.t ks o m n d e)
 
               module _ (w : ground vs ≡ true) where
-                pub ruled-unnamed : named y.f.variables y.g.variables ps y.t.variables ks ≡ false → Ruled cs h y ps ks 16
-                ruled-unnamed e = declines 16 (λ q. omega arith) (rule-unnamed (coding_of h.edition) y.f us y.g vs ps y.t ks o m n d w e)
+                pub ruled-unnamed : named y.f.variables y.g.variables ps y.t.variables ks ≡ false → Ruled cs h y ps ks (Err refusal.Names)
+                ruled-unnamed e = declines refusal.Names (rule-unnamed (coding_of h.edition) y.f us y.g vs ps y.t ks o m n d w e)
 
                 first-forms : forms_from cs h y.first y.f.first ≡ us
                 first-forms = forms-are cs h y.first y.f.first us (subst (λ (q : Subgoal). chain_from (coding_of h.edition) (view_in cs h) y.first h.answers q.first ≡ unbroken us) first-is a)
@@ -252,19 +256,16 @@ module _ (cs : List ℕ) (h : Head) (y : Parties) (ps ks : List ℕ) (p : Partie
                 second-forms : forms_from cs h y.second y.g.first ≡ vs
                 second-forms = forms-are cs h y.second y.g.first vs (subst (λ (q : Subgoal). chain_from (coding_of h.edition) (view_in cs h) y.second h.answers q.first ≡ unbroken vs) second_is b)
 
-                pub ruled-on : named y.f.variables y.g.variables ps y.t.variables ks ≡ true → Ruled cs h y ps ks 0
-                ruled-on e = (
-                  λ q. record {
-                    parties = p;
-                    is_open = o;
-                    first-finished = m;
-                    second-finished = n;
-                    first-ground = record { sound = a ∙ ap unbroken (sym first-forms); free = ap ground first-forms ∙ d };
-                    second-ground = record { sound = b ∙ ap unbroken (sym second-forms); free = ap ground second-forms ∙ w };
-                    names = e;
-                  },
-                  λ q. absurd (q refl),
-                )
+                pub ruled-on : named y.f.variables y.g.variables ps y.t.variables ks ≡ true → Ruled cs h y ps ks (Ok tt)
+                ruled-on e = record {
+                  parties = p;
+                  is_open = o;
+                  first-finished = m;
+                  second-finished = n;
+                  first-ground = record { sound = a ∙ ap unbroken (sym first-forms); free = ap ground first-forms ∙ d };
+                  second-ground = record { sound = b ∙ ap unbroken (sym second-forms); free = ap ground second-forms ∙ w };
+                  names = e;
+                }
 
 -- ---- beyond the rule
 

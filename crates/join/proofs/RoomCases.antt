@@ -8,6 +8,7 @@ use lib.Dec.{eqb, leb}
 use lib.ListN.{length}
 use borrow.Author.Tests.{eq-eqb, ne_eqb, le-leb, lt-leb}
 use Rattle.trie.proofs.WalkLaws.{both_true}
+use Rattle.std.specs.Prelude.{Ok}
 use Rattle.basis.specs.Choice.{pick}
 use Rattle.basis.proofs.Cases.{by_cases}
 use Rattle.forms.specs.Stored.{StoredForm, stored_of}
@@ -17,7 +18,6 @@ use Rattle.plain.specs.Requests.{Reply, joined, refused, old_answer}
 use Rattle.space.specs.Layout.{sizes_of}
 use Rattle.space.specs.Heading.{header_of}
 use Rattle.space.specs.declared.Head.{Head}
-use Rattle.space.specs.declared.Header.TheVariants as header
 use Rattle.trie.specs.Walks.{Walk, whole, stopped, damaged, Finding}
 use Rattle.store.specs.Views.{View, view_of}
 use Rattle.store.specs.Decisions.{Decision, says, refuses, sound_answer, sound_last, walk_to_by, met_sound, lacking, missing, all_sound_by, nodes_needed_by, answers_needed_by, joining_by, answered_old, answered_at, enters_answers}
@@ -59,7 +59,7 @@ module _ (find : Finding) where
   held-says v s w (stopped p l left) m e = absurd (true≢false e)
   held-says v s w damaged m e = absurd (true≢false e)
 
-  module _ (e : ℕ) (cs : List ℕ) (h : Head) (i : header_of (sizes_of e) cs ≡ header.Sound h) (s : ℕ) where
+  module _ (e : ℕ) (cs : List ℕ) (h : Head) (i : header_of (sizes_of e) cs ≡ Ok h) (s : ℕ) where
     held-given : (w : Word) → met_sound (view_of (sizes_of e) cs h) w (walk_to_by find (view_of (sizes_of e) cs h) s w) ≡ true → lacking (view_of (sizes_of e) cs h) (walk_to_by find (view_of (sizes_of e) cs h) s w) ≡ false
         → form_given_by find (sizes_of e) cs s w (header_of (sizes_of e) cs) ≡ cs
     unfolding form_given_by answer_given

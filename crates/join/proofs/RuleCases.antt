@@ -5,6 +5,9 @@ use mathlib.Core.List.{List}
 use Prim.Native.Nat.{ℕ, ◌-◌, ◌≤◌, ◌<◌}
 use lib.Dec.{leb}
 use borrow.Author.Tests.{lt-ltb, le-ltb, le-leb, lt-leb}
+use Rattle.std.specs.Prelude.{Result, Ok, Err}
+use Rattle.basis.specs.declared.refusals.Refusal.{Refusal}
+use Rattle.basis.specs.declared.refusals.Refusal.TheVariants as refusal
 use Rattle.plain.specs.Coding.{coding_of}
 use Rattle.plain.specs.Joins.{named}
 use Rattle.space.specs.declared.Head.{Head}
@@ -30,16 +33,16 @@ module _ (h : Head) (y : Sums) where
   sums-answers l = rw (le-leb y.missing (h.node_capacity - h.nodes) l)
 
 module _ (h : Head) (nodes answers : ℕ) where
-  pub room-nodes : h.node_capacity - h.nodes < nodes → 10 ≡ room_for h nodes answers
+  pub room-nodes : h.node_capacity - h.nodes < nodes → Err refusal.Nodes ≡ room_for h nodes answers
   unfolding room_for
   room-nodes l = rw (lt-ltb (h.node_capacity - h.nodes) nodes l)
 
   module _ (n : nodes ≤ h.node_capacity - h.nodes) where
-    pub room-answers : h.answer_capacity - h.answers < answers → 11 ≡ room_for h nodes answers
+    pub room-answers : h.answer_capacity - h.answers < answers → Err refusal.RecordsLeft ≡ room_for h nodes answers
     unfolding room_for
     room-answers l = rw (le-ltb (h.node_capacity - h.nodes) nodes n, lt-ltb (h.answer_capacity - h.answers) answers l)
 
-    pub room-enough : answers ≤ h.answer_capacity - h.answers → 0 ≡ room_for h nodes answers
+    pub room-enough : answers ≤ h.answer_capacity - h.answers → Ok tt ≡ room_for h nodes answers
     unfolding room_for
     room-enough l = rw (le-ltb (h.node_capacity - h.nodes) nodes n, le-ltb (h.answer_capacity - h.answers) answers l)
 
@@ -59,61 +62,61 @@ broken-at cs h s Variable e k = absurd (true≢false e)
 
 module _ (y : Parties) (f g : Judged) (ps ks : List ℕ) where
   -- a source is damaged, or none
-  pub rule-first : whole_answers f ≡ false → Rules y f g ps ks 9
+  pub rule-first : whole_answers f ≡ false → Rules y f g ps ks (Err refusal.Records)
   rule-first e cs h p a b = ruled-first-broken cs h y ps ks p (broken-at cs h y.first f e a)
 
   module _ (wf : whole_answers f ≡ true) where
-    pub rule-second : whole_answers g ≡ false → Rules y f g ps ks 9
+    pub rule-second : whole_answers g ≡ false → Rules y f g ps ks (Err refusal.Records)
     rule-second e cs h p a b =
         let u = held_at cs h y.first f wf a in
         ruled-second-broken cs h y ps ks p u.0 u.1 (broken-at cs h y.second g e b)
 
-    pub rule-whole : (r : ℕ) → whole_answers g ≡ true → RulesOn y f g ps ks r → Rules y f g ps ks r
+    pub rule-whole : (r : Result Unit Refusal) → whole_answers g ≡ true → RulesOn y f g ps ks r → Rules y f g ps ks r
     rule-whole r wg k = k wf wg
 
   -- none is
-  pub on-finished : (y.t.state ≡ 0 → ⊥) → RulesOn y f g ps ks 8
+  pub on-finished : (y.t.state ≡ 0 → ⊥) → RulesOn y f g ps ks (Err refusal.State)
   on-finished z wf wg cs h p a b =
       let u = held_at cs h y.first f wf a in
       let v = held_at cs h y.second g wg b in
       ruled-finished cs h y ps ks p u.0 u.1 v.0 v.1 z
 
   module _ (o : y.t.state ≡ 0) where
-    pub on-first-open : y.f.state ≡ 0 → RulesOn y f g ps ks 14
+    pub on-first-open : y.f.state ≡ 0 → RulesOn y f g ps ks (Err refusal.SourceOpen)
     on-first-open e wf wg cs h p a b =
         let u = held_at cs h y.first f wf a in
         let v = held_at cs h y.second g wg b in
         ruled-first-open cs h y ps ks p u.0 u.1 v.0 v.1 o e
 
     module _ (m : y.f.state ≡ 0 → ⊥) where
-      pub on-second-open : y.g.state ≡ 0 → RulesOn y f g ps ks 14
+      pub on-second-open : y.g.state ≡ 0 → RulesOn y f g ps ks (Err refusal.SourceOpen)
       on-second-open e wf wg cs h p a b =
           let u = held_at cs h y.first f wf a in
           let v = held_at cs h y.second g wg b in
           ruled-second-open cs h y ps ks p u.0 u.1 v.0 v.1 o m e
 
       module _ (n : y.g.state ≡ 0 → ⊥) where
-        pub on-first-variable : ground_answers f ≡ false → RulesOn y f g ps ks 15
+        pub on-first-variable : ground_answers f ≡ false → RulesOn y f g ps ks (Err refusal.SourceVariable)
         on-first-variable e wf wg cs h p a b =
             let u = held_at cs h y.first f wf a in
             let v = held_at cs h y.second g wg b in
             ruled-first-variable cs h y ps ks p u.0 u.1 v.0 v.1 o m n (u.2 ∙ e)
 
         module _ (d : ground_answers f ≡ true) where
-          pub on-second-variable : ground_answers g ≡ false → RulesOn y f g ps ks 15
+          pub on-second-variable : ground_answers g ≡ false → RulesOn y f g ps ks (Err refusal.SourceVariable)
           on-second-variable e wf wg cs h p a b =
               let u = held_at cs h y.first f wf a in
               let v = held_at cs h y.second g wg b in
               ruled-second-variable cs h y ps ks p u.0 u.1 v.0 v.1 o m n (u.2 ∙ d) (v.2 ∙ e)
 
           module _ (w : ground_answers g ≡ true) where
-            pub on-unnamed : named y.f.variables y.g.variables ps y.t.variables ks ≡ false → RulesOn y f g ps ks 16
+            pub on-unnamed : named y.f.variables y.g.variables ps y.t.variables ks ≡ false → RulesOn y f g ps ks (Err refusal.Names)
             on-unnamed e wf wg cs h p a b =
                 let u = held_at cs h y.first f wf a in
                 let v = held_at cs h y.second g wg b in
                 ruled-unnamed cs h y ps ks p u.0 u.1 v.0 v.1 o m n (u.2 ∙ d) (v.2 ∙ w) e
 
-            pub on-named : named y.f.variables y.g.variables ps y.t.variables ks ≡ true → RulesOn y f g ps ks 0
+            pub on-named : named y.f.variables y.g.variables ps y.t.variables ks ≡ true → RulesOn y f g ps ks (Ok tt)
             on-named e wf wg cs h p a b =
                 let u = held_at cs h y.first f wf a in
                 let v = held_at cs h y.second g wg b in

@@ -3,7 +3,9 @@ use mathlib.Core.Path.{◌≡◌, refl, sym, ap, ◌∙◌, subst}
 use mathlib.Core.List.{List, []}
 use Prim.Native.Nat.{ℕ, ◌+◌, ◌-◌, ◌<◌, ◌≤◌}
 use native.Mathlib.Omega.{arith}
-use borrow.Author.Tests.{lt-ltb, le-ltb}
+use Rattle.std.specs.Prelude.{Option, Some, None, Result, Ok, Err}
+use Rattle.basis.specs.declared.refusals.Refusal.{Refusal}
+use Rattle.basis.specs.declared.refusals.Refusal.TheVariants as refusal
 use Rattle.space.specs.Sound.{Bounds, NodesIn, subgoal_under}
 use Rattle.space.specs.declared.Head.{Head}
 use Rattle.space.specs.declared.Subgoal.{Subgoal}
@@ -11,64 +13,51 @@ use Rattle.space.proofs.HeaderLaws.{header-bounds}
 use Rattle.trie.specs.Walks.{Finding}
 use Rattle.store.specs.Decisions.{nodes_needed_by, answers_needed_by}
 use Rattle.store.specs.Clauses.{view_in, AnswersUnder}
-use Rattle.store.specs.declared.JoinAnswer.{JoinAnswer}
 use Rattle.plain.specs.Requests.{Request, Reply}
 use Rattle.drafts.specs.Wiping.{Blank}
 use Rattle.pairing.specs.declared.Sides.{Sides}
 use Rattle.pairing.specs.declared.Sums.{Sums}
 use Rattle.pairing.specs.Counting.{all_forms, JoinReady, Fitting}
 use Rattle.join.specs.declared.Tally.{Tally}
-use Rattle.join.specs.declared.Tried.{Tried}
-use Rattle.join.specs.declared.Tried.TheVariants as tried
-use Rattle.join.specs.Joining.{room_for, TellsRoom, SomeNew, sides_of, Enterable, EntersAll}
+use Rattle.join.specs.declared.Untried.TheVariants as untried
+use Rattle.join.specs.Joining.{room_for, TellsRoom, SomeNew, sides_of, Enterable, EntersAll, JoinAnswer}
 use Rattle.join.specs.declared.Parties.{Parties}
-use Rattle.join.specs.Trial.{room_of, Roomed, Tryable, TriesAll, HeadCounts, Settles, Triable, Settled, TellsInPlace}
+use Rattle.join.specs.Trial.{Tried, room_of, Roomed, Tryable, TriesAll, HeadCounts, Settles, Triable, Settled, TellsInPlace}
 use Rattle.join.proofs.CallCases.{may-enter}
-
-room-nodes : (h : Head) (n a : ℕ) → h.node_capacity - h.nodes < n → 10 ≡ room_for h n a
-unfolding room_for
-room-nodes h n a l = rw (lt-ltb (h.node_capacity - h.nodes) n l)
-
-room-records : (h : Head) (n a : ℕ) → n ≤ h.node_capacity - h.nodes → h.answer_capacity - h.answers < a → 11 ≡ room_for h n a
-unfolding room_for
-room-records h n a l m = rw (le-ltb (h.node_capacity - h.nodes) n l, lt-ltb (h.answer_capacity - h.answers) a m)
-
-room-none : (h : Head) (n a : ℕ) → n ≤ h.node_capacity - h.nodes → a ≤ h.answer_capacity - h.answers → 0 ≡ room_for h n a
-unfolding room_for
-room-none h n a l m = rw (le-ltb (h.node_capacity - h.nodes) n l, le-ltb (h.answer_capacity - h.answers) a m)
+use Rattle.join.proofs.RuleCases.{room-nodes, room-answers, room-enough}
 
 module _ (h : Head) (c : HeadCounts h) (free : ℕ) where
   within : h.nodes ≤ h.node_capacity
   within = c.0
 
   module _ (y : Tally) where
-    pub settle-nodes : h.node_capacity < y.used → Settles h free (tried.All y) 10
-    settle-nodes l find cs x root ps ks e t o s r =
+    pub settle-nodes : h.node_capacity < y.used → Settles h free (Ok y) (Some (Err refusal.Nodes))
+    settle-nodes l find cs x root ps ks e t s r =
         let u = (t s r).0 in
         let n : x.h.nodes ≡ h.nodes = ap (λ (k : Head). k.nodes) e in
         let k = within in
-        ap (λ (i : ℕ). i) (room-nodes h (nodes_needed_by find (view_in cs x.h) s [] (all_forms cs x ps ks)) (answers_needed_by find (view_in cs x.h) s [] (all_forms cs x ps ks)) (omega arith))
+        room-nodes h (nodes_needed_by find (view_in cs x.h) s [] (all_forms cs x ps ks)) (answers_needed_by find (view_in cs x.h) s [] (all_forms cs x ps ks)) (omega arith)
         ∙ ap (λ (k : Head). room_for k (nodes_needed_by find (view_in cs x.h) s [] (all_forms cs x ps ks)) (answers_needed_by find (view_in cs x.h) s [] (all_forms cs x ps ks))) (sym e)
 
     module _ (l : (h.node_capacity < y.used → ⊥)) where
-      pub settle-records : h.answer_capacity - h.answers < y.answers → Settles h free (tried.All y) 11
-      settle-records m find cs x root ps ks e t o s r =
+      pub settle-records : h.answer_capacity - h.answers < y.answers → Settles h free (Ok y) (Some (Err refusal.RecordsLeft))
+      settle-records m find cs x root ps ks e t s r =
           let u = (t s r).0 in
           let v = (t s r).1 in
           let n : x.h.nodes ≡ h.nodes = ap (λ (k : Head). k.nodes) e in
           let k = within in
-          room-records h (nodes_needed_by find (view_in cs x.h) s [] (all_forms cs x ps ks)) (answers_needed_by find (view_in cs x.h) s [] (all_forms cs x ps ks)) (settled-nodes n u) (omega arith)
+          room-answers h (nodes_needed_by find (view_in cs x.h) s [] (all_forms cs x ps ks)) (answers_needed_by find (view_in cs x.h) s [] (all_forms cs x ps ks)) (settled-nodes n u) (omega arith)
           ∙ ap (λ (k : Head). room_for k (nodes_needed_by find (view_in cs x.h) s [] (all_forms cs x ps ks)) (answers_needed_by find (view_in cs x.h) s [] (all_forms cs x ps ks))) (sym e)
         where
           settled-nodes : {a b : ℕ} → a ≡ h.nodes → y.used ≡ a + b → b ≤ h.node_capacity - h.nodes
           settled-nodes {a} {b} i j = let w = within in let z : y.used ≤ h.node_capacity = (let q = l in omega arith) in omega arith
 
-      pub settle-none : (h.answer_capacity - h.answers < y.answers → ⊥) → Settles h free (tried.All y) 0
-      settle-none m find cs x root ps ks e t o s r =
+      pub settle-none : (h.answer_capacity - h.answers < y.answers → ⊥) → Settles h free (Ok y) (Some (Ok tt))
+      settle-none m find cs x root ps ks e t s r =
           let u = (t s r).0 in
           let v = (t s r).1 in
           let n : x.h.nodes ≡ h.nodes = ap (λ (k : Head). k.nodes) e in
-          room-none h (nodes_needed_by find (view_in cs x.h) s [] (all_forms cs x ps ks)) (answers_needed_by find (view_in cs x.h) s [] (all_forms cs x ps ks)) (settled-nodes n u) (settled-answers v)
+          room-enough h (nodes_needed_by find (view_in cs x.h) s [] (all_forms cs x ps ks)) (answers_needed_by find (view_in cs x.h) s [] (all_forms cs x ps ks)) (settled-nodes n u) (settled-answers v)
           ∙ ap (λ (k : Head). room_for k (nodes_needed_by find (view_in cs x.h) s [] (all_forms cs x ps ks)) (answers_needed_by find (view_in cs x.h) s [] (all_forms cs x ps ks))) (sym e)
         where
           settled-nodes : {a b : ℕ} → a ≡ h.nodes → y.used ≡ a + b → b ≤ h.node_capacity - h.nodes
@@ -77,8 +66,8 @@ module _ (h : Head) (c : HeadCounts h) (free : ℕ) where
           settled-answers : {b : ℕ} → y.answers ≡ b → b ≤ h.answer_capacity - h.answers
           settled-answers {b} j = let q = m in omega arith
 
-  pub settle-over : free ≡ h.node_capacity - h.nodes → Settles h free tried.Over 10
-  settle-over f find cs x root ps ks e t o s r =
+  pub settle-over : free ≡ h.node_capacity - h.nodes → Settles h free (Err untried.Over) (Some (Err refusal.Nodes))
+  settle-over f find cs x root ps ks e t s r =
       let u = t s r in
       room-nodes h (nodes_needed_by find (view_in cs x.h) s [] (all_forms cs x ps ks)) (answers_needed_by find (view_in cs x.h) s [] (all_forms cs x ps ks)) (omega arith)
       ∙ ap (λ (k : Head). room_for k (nodes_needed_by find (view_in cs x.h) s [] (all_forms cs x ps ks)) (answers_needed_by find (view_in cs x.h) s [] (all_forms cs x ps ks))) (sym e)
@@ -100,11 +89,11 @@ module _ (cs : List ℕ) (x : Sides) (free root : ℕ) (ps ks : List ℕ) (T : T
   pub trial-counts : HeadCounts x.h
   trial-counts = (bounds.nodes-within, bounds.answers-within, let m = bounds.answers-most in omega arith)
 
-  pub trial-settled : (find : Finding) (ds : List ℕ) (r : Tried) (q : ℕ) → TriesAll find cs x free root ps ks ds r → Settles x.h free r q → Settled find cs x root ps ks ds q
+  pub trial-settled : (find : Finding) (ds : List ℕ) (r : Tried) (q : Option (Result Unit Refusal)) → TriesAll find cs x free root ps ks ds r → Settles x.h free r q → Settled find cs x root ps ks ds q
   trial-settled find ds r q t s = (t.0, s find cs x root ps ks refl t.1)
 
-  pub trial-unsettled : (find : Finding) → Settled find cs x root ps ks cs 255
-  trial-unsettled find = (refl, λ o. absurd (o refl))
+  pub trial-unsettled : (find : Finding) → Settled find cs x root ps ks cs None
+  trial-unsettled find = (refl, tt)
 
 -- ---- on trial first
 
@@ -121,11 +110,8 @@ module _ (cs : List ℕ) (x : Sides) (root : ℕ) (ps ks : List ℕ) (T : Roomed
     subst (λ (i : ℕ). i < x.h.nodes) (sym T.2) T.1.target.root_in,
   )
 
-  pub room-counted : (find : Finding) (ds : List ℕ) (r : ℕ) → ds ≡ cs → TellsRoom find ds x root ps ks r → TellsInPlace find cs x root ps ks ds r
+  pub room-counted : (find : Finding) (ds : List ℕ) (r : Result Unit Refusal) → ds ≡ cs → TellsRoom find ds x root ps ks r → TellsInPlace find cs x root ps ks ds r
   room-counted find ds r e t = (e, subst (λ (c : List ℕ). TellsRoom find c x root ps ks r) e t)
-
-  pub room_settled : (find : Finding) (ds : List ℕ) (r : ℕ) → Settled find cs x root ps ks ds r → (r ≡ 255 → ⊥) → TellsInPlace find cs x root ps ks ds r
-  room_settled find ds r s o = (s.0, s.1 o)
 
 -- ---- and then entered, or refused
 

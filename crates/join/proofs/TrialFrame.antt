@@ -4,12 +4,12 @@ use mathlib.Core.List.{List, ◌∷◌}
 use Prim.Native.Nat.{ℕ, ◌+◌, ◌*◌, ◌<◌, ◌≤◌}
 use native.Mathlib.Omega.{arith}
 use lib.ListN.{take}
+use Rattle.std.specs.Prelude.{Ok}
 use Rattle.plain.specs.Words.{Word}
 use Rattle.space.specs.Layout.{sizes, sizes_of, node_at, node_in, subgoal_at, answer_at}
 use Rattle.space.specs.Heading.{space_header, header_of, counted}
 use Rattle.space.specs.Sound.{Bounds, subgoal_under}
 use Rattle.space.specs.declared.Head.{Head}
-use Rattle.space.specs.declared.Header.TheVariants as header
 use Rattle.space.proofs.HeaderLaws.{header-bounds}
 use Rattle.store.specs.Clauses.{view_in}
 use Rattle.agreement.specs.Records.{Alike}
@@ -19,8 +19,8 @@ use Rattle.agreement.proofs.SameBut.{same-but-same, same-but-alike}
 use Rattle.agreement.proofs.Frame.{space-read, Framed}
 use Rattle.pairing.specs.declared.Sides.{Sides}
 use Rattle.pairing.specs.declared.Cursor.{Cursor}
-use Rattle.pairing.specs.declared.Match.{Match}
-use Rattle.pairing.specs.declared.Match.TheVariants as match
+use Rattle.pairing.specs.declared.Found.{Found}
+use Rattle.pairing.specs.declared.Found.TheVariants as found
 use Rattle.pairing.specs.Pairing.{Throughout, Stands, to_come, Advances}
 use Rattle.join.specs.Entering.{Target}
 use Rattle.join.proofs.EnterLaws.{known_kept, stands-kept, come-kept, target-kept}
@@ -28,11 +28,11 @@ use Rattle.join.proofs.EnterLaws.{known_kept, stands-kept, come-kept, target-kep
 pub kept_back : {lo hi : ℕ} {cs ds : List ℕ} → Kept lo hi cs ds → Kept lo hi ds cs
 kept_back K = record { size = sym K.size; below = λ k h. sym (K.below k h); above = λ k h. sym (K.above k h) }
 
-module _ (cs ds : List ℕ) (h : Head) (space : space_header cs ≡ header.Sound h) (lo hi : ℕ) (K : Kept lo hi cs ds) (low : 8 + 5 * h.nodes ≤ lo) (high : hi ≤ 8 + 5 * h.node_capacity) where
+module _ (cs ds : List ℕ) (h : Head) (space : space_header cs ≡ Ok h) (lo hi : ℕ) (K : Kept lo hi cs ds) (low : 8 + 5 * h.nodes ≤ lo) (high : hi ≤ 8 + 5 * h.node_capacity) where
   bounds : Bounds cs h
   bounds = header-bounds cs h (sym space)
 
-  pub header-kept : space_header ds ≡ header.Sound h
+  pub header-kept : space_header ds ≡ Ok h
   unfolding space_header header_of counted
   header-kept =
       rw (
@@ -82,7 +82,7 @@ module _ (cs ds : List ℕ) (h : Head) (space : space_header cs ≡ header.Sound
 
 -- ---- what is known of the sources
 
-module _ (cs ds : List ℕ) (x : Sides) (space : space_header cs ≡ header.Sound x.h) (lo hi : ℕ) (K : Kept lo hi cs ds) (low : 8 + 5 * x.h.nodes ≤ lo) (high : hi ≤ 8 + 5 * x.h.node_capacity)
+module _ (cs ds : List ℕ) (x : Sides) (space : space_header cs ≡ Ok x.h) (lo hi : ℕ) (K : Kept lo hi cs ds) (low : 8 + 5 * x.h.nodes ≤ lo) (high : hi ≤ 8 + 5 * x.h.node_capacity)
     (s : ℕ) (t : Target cs x s) (ps ks : List ℕ) (known : Throughout cs x ps ks) where
   abbrev framed : Framed x.h.edition s cs x.h ds
   framed = framed-draft cs ds x.h space lo hi K low high s t.low t.high t.root_in t.last-in
@@ -99,7 +99,7 @@ module _ (cs ds : List ℕ) (x : Sides) (space : space_header cs ≡ header.Soun
   pub come-draft : (at : Cursor) (hands form : List ℕ) → Stands cs x at hands form → to_come ds x ps ks at hands ≡ to_come cs x ps ks at hands
   come-draft at hands form st = come-kept cs x s ps ks known t ds framed x.h refl at hands form st
 
-module _ (cs ds : List ℕ) (x : Sides) (space : space_header cs ≡ header.Sound x.h) (lo hi : ℕ) (K : Kept lo hi cs ds) (low : 8 + 5 * x.h.nodes ≤ lo) (high : hi ≤ 8 + 5 * x.h.node_capacity)
+module _ (cs ds : List ℕ) (x : Sides) (space : space_header cs ≡ Ok x.h) (lo hi : ℕ) (K : Kept lo hi cs ds) (low : 8 + 5 * x.h.nodes ≤ lo) (high : hi ≤ 8 + 5 * x.h.node_capacity)
     (s : ℕ) (t : Target cs x s) (ps ks : List ℕ) (known : Throughout cs x ps ks) (at : Cursor) (hands form : List ℕ) (st : Stands cs x at hands form) (hands' form' : List ℕ) where
   stands-back : (next : Cursor) → Stands ds x next hands' form' → Stands cs x next hands' form'
   stands-back next = stands-draft ds cs x (header-kept cs ds x.h space lo hi K low high) lo hi (kept_back K) low high s (target-draft cs ds x space lo hi K low high s t ps ks known) ps ks
@@ -109,9 +109,9 @@ module _ (cs ds : List ℕ) (x : Sides) (space : space_header cs ≡ header.Soun
   come = come-draft cs ds x space lo hi K low high s t ps ks known at hands form st
 
   -- the next match is the same
-  pub advances-back : (r : Match) → Advances ds x ps ks at hands hands' form' r → Advances cs x ps ks at hands hands' form' r
-  advances-back (match.At next n) a =
-      let back = stands-back next a.0 in
-      (back, (a.1.0, sym come ∙ a.1.1 ∙ ap (λ (ws : List Word). take n form' ∷ ws) (come-draft cs ds x space lo hi K low high s t ps ks known next hands' form' back), a.1.2))
-  advances-back match.TooLong a = (a.0, a.1, sym come ∙ a.2, a.3)
-  advances-back match.End a = sym come ∙ a
+  pub advances-back : (r : Found (Cursor × ℕ)) → Advances ds x ps ks at hands hands' form' r → Advances cs x ps ks at hands hands' form' r
+  advances-back (found.At p) a =
+      let back = stands-back p.0 a.0 in
+      (back, (a.1.0, sym come ∙ a.1.1 ∙ ap (λ (ws : List Word). take p.1 form' ∷ ws) (come-draft cs ds x space lo hi K low high s t ps ks known p.0 hands' form' back), a.1.2))
+  advances-back found.TooLong a = (a.0, a.1, sym come ∙ a.2, a.3)
+  advances-back found.End a = sym come ∙ a

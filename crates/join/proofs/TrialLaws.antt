@@ -9,6 +9,7 @@ use lib.Dec.{eqb}
 use lib.ListN.{length, take, drop, length-drop}
 use lib.Seq.{take_all}
 use borrow.Author.Tests.{ne_eqb}
+use Rattle.std.specs.Prelude.{Some, None, Ok, Err}
 use Rattle.basis.specs.Choice.{pick}
 use Rattle.plain.specs.Words.{Word, has, most, prefixes}
 use Rattle.plain.proofs.Keys.{place-has}
@@ -25,8 +26,7 @@ use Rattle.store.specs.Clauses.{view_in}
 use Rattle.store.proofs.CallsWalks.{shown-whole, shown-stopped, walk-whole, walk-stopped}
 use Rattle.agreement.proofs.CellRecords.{Kept}
 use Rattle.agreement.proofs.CellRecords as cells
-use Rattle.drafts.specs.declared.Drafted.TheVariants as drafted
-use Rattle.drafts.specs.Drafts.{Keyed, Draftable, words_with, WordDrafted}
+use Rattle.drafts.specs.Drafts.{Keyed, Draftable, words_with, WordDrafted, drafted_to}
 use Rattle.drafts.proofs.Steady.{Steady, walk-local}
 use Rattle.drafts.proofs.Stops.{stopped-some}
 use Rattle.drafts.proofs.Noting.{noted-stopped, noted-needs, noted-whole}
@@ -34,7 +34,7 @@ use Rattle.drafts.proofs.DraftLaws.{kept_then}
 use Rattle.drafts.proofs.Roots.{prefixes-word, word-brings}
 use Rattle.pairing.specs.declared.Sides.{Sides}
 use Rattle.join.specs.declared.Tally.{Tally}
-use Rattle.join.specs.declared.TriedForm.TheVariants as tried-form
+use Rattle.join.specs.declared.Untried.TheVariants as untried
 use Rattle.join.specs.Trial.{room_of, Within, nodes_for, answers_for, Tallied, Formable, TriesForm}
 
 missing-whole : (n : ℕ) → missing (whole n) ≡ 0
@@ -81,7 +81,7 @@ module _ {find : Finding} (finds : Finds find) (steady : Steady find) (ds : List
     pub whole_in : leaf < x.h.nodes
     whole_in = (walk-whole finds (trie_in sizes ds x.h.nodes x.h.answers) root leaf w F.1 is_whole).within
 
-    pub form-whole : (z : Node) → z ≡ node_in sizes ds leaf → (z.link ≡ 0 → ⊥) → TriesForm find x free root ds y w ds (tried-form.Counted y)
+    pub form-whole : (z : Node) → z ≡ node_in sizes ds leaf → (z.link ≡ 0 → ⊥) → TriesForm find x free root ds y w ds (Ok y)
     form-whole z i o = λ cs before T. (
       record {
         kept = T.kept;
@@ -94,7 +94,7 @@ module _ {find : Finding} (finds : Finds find) (steady : Steady find) (ds : List
           (rw (q, missing-whole leaf) (omega arith), rw (q, lacking-whole (view_in cs x.h) leaf, ne_eqb (node_in sizes cs leaf).link 0 linked) (omega arith)),
     )
 
-  pub form-unknown : TriesForm find x free root ds y w ds tried-form.Unknown
+  pub form-unknown : TriesForm find x free root ds y w ds (Err untried.Unknown)
   form-unknown = λ cs before T. T.kept
 
   -- ---- stopped
@@ -161,7 +161,7 @@ module _ {find : Finding} (finds : Finds find) (steady : Steady find) (ds : List
           ∙ ap (λ (b : Bool). pick b (pick (has before w) 0 1) 0) (sym (ap (lacking (view_in cs x.h)) stops_at ∙ lacking-stopped (view_in cs x.h) parent last left))
 
     module _ (ds' : List ℕ) where
-      pub form-full : WordDrafted ds (room_of x free) y.used parent (drop (length w - k) w) ds' drafted.Full → TriesForm find x free root ds y w ds' tried-form.Over
+      pub form-full : WordDrafted ds (room_of x free) y.used parent (drop (length w - k) w) ds' None → TriesForm find x free root ds y w ds' (Err untried.Over)
       form-full d = λ cs before T. (
         kept_then T.kept d.0,
         λ s r.
@@ -170,9 +170,9 @@ module _ {find : Finding} (finds : Finds find) (steady : Steady find) (ds : List
             let u = used-with cs before T s r in omega arith,
       )
 
-      pub form-counted : (used : ℕ) (held : Bool) → WordDrafted ds (room_of x free) y.used parent (drop (length w - k) w) ds' (drafted.Word used held)
+      pub form-counted : (used : ℕ) (held : Bool) → WordDrafted ds (room_of x free) y.used parent (drop (length w - k) w) ds' (Some (drafted_to used held))
           → (one : ℕ) → one ≡ bool_byte (not held)
-          → TriesForm find x free root ds y w ds' (tried-form.Counted (record { used = used; answers = y.answers + one }))
+          → TriesForm find x free root ds y w ds' (Ok (record { used = used; answers = y.answers + one }))
       form-counted used held d one i = λ cs before T. (
         record {
           kept = kept_then T.kept d.0;
@@ -193,10 +193,10 @@ module _ {find : Finding} (finds : Finds find) (steady : Steady find) (ds : List
             (sym l.0 ∙ used-with cs before T s r, ap (λ (j : ℕ). y.answers + j) (i ∙ answers_with cs before T s r held l.2)),
       )
 
-      pub part-full : WordDrafted ds (room_of x free) y.used parent (take (length w - (length w - k)) (drop (length w - k) w)) ds' drafted.Full → TriesForm find x free root ds y w ds' tried-form.Over
-      part-full d = form-full (subst (λ (q : Word). WordDrafted ds (room_of x free) y.used parent q ds' drafted.Full) part-is d)
+      pub part-full : WordDrafted ds (room_of x free) y.used parent (take (length w - (length w - k)) (drop (length w - k) w)) ds' None → TriesForm find x free root ds y w ds' (Err untried.Over)
+      part-full d = form-full (subst (λ (q : Word). WordDrafted ds (room_of x free) y.used parent q ds' None) part-is d)
 
-      pub part-counted : (used : ℕ) (held : Bool) → WordDrafted ds (room_of x free) y.used parent (take (length w - (length w - k)) (drop (length w - k) w)) ds' (drafted.Word used held)
+      pub part-counted : (used : ℕ) (held : Bool) → WordDrafted ds (room_of x free) y.used parent (take (length w - (length w - k)) (drop (length w - k) w)) ds' (Some (drafted_to used held))
           → (one : ℕ) → one ≡ bool_byte (not held)
-          → TriesForm find x free root ds y w ds' (tried-form.Counted (record { used = used; answers = y.answers + one }))
-      part-counted used held d one i = form-counted used held (subst (λ (q : Word). WordDrafted ds (room_of x free) y.used parent q ds' (drafted.Word used held)) part-is d) one i
+          → TriesForm find x free root ds y w ds' (Ok (record { used = used; answers = y.answers + one }))
+      part-counted used held d one i = form-counted used held (subst (λ (q : Word). WordDrafted ds (room_of x free) y.used parent q ds' (Some (drafted_to used held))) part-is d) one i

@@ -5,6 +5,7 @@ use mathlib.Core.List.{List, [], ◌∷◌}
 use Prim.Native.Nat.{ℕ, ◌+◌, ◌*◌, ◌<◌, ◌≤◌}
 use native.Mathlib.Omega.{arith}
 use lib.ListN.{length, take}
+use Rattle.std.specs.Prelude.{Err, Ok}
 use Rattle.basis.specs.Choice.{pick}
 use Rattle.forms.specs.Stored.{stored_of}
 use Rattle.plain.specs.Words.{Word, has}
@@ -27,17 +28,16 @@ use Rattle.drafts.proofs.Roots.{roots-prefixes, roots-size, keyed-none, bucketed
 use Rattle.pairing.specs.declared.Sides.{Sides}
 use Rattle.pairing.specs.declared.Cursor.{Cursor}
 use Rattle.pairing.specs.declared.Walk.{Walk}
-use Rattle.pairing.specs.declared.Match.{Match}
-use Rattle.pairing.specs.declared.Match.TheVariants as match
+use Rattle.pairing.specs.declared.Found.{Found}
+use Rattle.pairing.specs.declared.Found.TheVariants as found
 use Rattle.pairing.specs.Pairing.{Throughout, Stands, to_come, Advances}
 use Rattle.pairing.specs.Counting.{Begun, all_forms}
 use Rattle.pairing.proofs.CountLaws.{begins, all_come, fit-cons, all-few}
 use Rattle.join.specs.declared.Tally.{Tally}
-use Rattle.join.specs.declared.TriedForm.TheVariants as tried-form
-use Rattle.join.specs.declared.Tried.{Tried}
-use Rattle.join.specs.declared.Tried.TheVariants as tried
+use Rattle.join.specs.declared.Untried.{Untried}
+use Rattle.join.specs.declared.Untried.TheVariants as untried
 use Rattle.join.specs.Joining.{Enterable}
-use Rattle.join.specs.Trial.{room_of, Within, nodes_for, answers_for, Tallied, Formable, TriesForm, Tryable, TriesForms, TriesAll}
+use Rattle.join.specs.Trial.{Tried, room_of, Within, nodes_for, answers_for, Tallied, Formable, TriesForm, Tryable, TriesForms, TriesAll}
 use Rattle.join.proofs.TrialFrame.{throughout-draft, stands-draft, advances-back}
 
 nodes-cons : (find : Finding) (cs : List ℕ) (x : Sides) (s : ℕ) (before : List Word) (w : Word) (ws : List Word)
@@ -119,15 +119,15 @@ module _ {find : Finding} (finds : Finds find) (steady : Steady find) (cs : List
     pub trying-stands : Stands ds x at hands form
     trying-stands = stands-draft cs ds x R.0.1.space _ _ G.tallied.kept low high R.0.0 R.0.1.target ps ks R.0.1.ready.known at hands form G.stands
 
-    pub trying-next : (hands' form' : List ℕ) (r : Match) → Advances ds x ps ks at hands hands' form' r → Advances cs x ps ks at hands hands' form' r
+    pub trying-next : (hands' form' : List ℕ) (r : Found (Cursor × ℕ)) → Advances ds x ps ks at hands hands' form' r → Advances cs x ps ks at hands hands' form' r
     trying-next = advances-back cs ds x R.0.1.space _ _ G.tallied.kept low high R.0.0 R.0.1.target ps ks R.0.1.ready.known at hands form G.stands
 
-    pub tried-long : TriesForms find cs x free root ps ks ds tried.Unknown
+    pub tried-long : TriesForms find cs x free root ps ks ds (Err untried.Unknown)
     tried-long = (G.tallied.kept, tt)
 
-    pub tried-end : to_come ds x ps ks at hands ≡ [] → TriesForms find cs x free root ps ks ds (tried.All y)
+    pub tried-end : to_come ds x ps ks at hands ≡ [] → TriesForms find cs x free root ps ks ds (Ok y)
     tried-end a =
-        let e = trying-next [] [] match.End a in (
+        let e = trying-next [] [] found.End a in (
           G.tallied.kept,
           λ s r.
               let n = G.nodes s r in
@@ -138,9 +138,9 @@ module _ {find : Finding} (finds : Finds find) (steady : Steady find) (cs : List
         )
 
     module _ (hands' form' : List ℕ) where
-      module _ (next : Cursor) (n : ℕ) (b : Advances ds x ps ks at hands hands' form' (match.At next n)) where
-        a : Advances cs x ps ks at hands hands' form' (match.At next n)
-        a = trying-next hands' form' (match.At next n) b
+      module _ (next : Cursor) (n : ℕ) (b : Advances ds x ps ks at hands hands' form' (found.At (next, n))) where
+        a : Advances cs x ps ks at hands hands' form' (found.At (next, n))
+        a = trying-next hands' form' (found.At (next, n)) b
 
         pub trying-less : length (to_come cs x ps ks next hands') < length (to_come cs x ps ks at hands)
         trying-less = let e = ap length a.1.1 in omega arith
@@ -153,7 +153,7 @@ module _ {find : Finding} (finds : Finds find) (steady : Steady find) (cs : List
             ≡ answers_for find cs x s G.before (take n form') + answers_needed_by find (view_in cs x.h) s (take n form' ∷ G.before) (to_come cs x ps ks next hands')
         answers-here s = ap (answers_needed_by find (view_in cs x.h) s G.before) a.1.1 ∙ answers-cons find cs x s G.before (take n form') (to_come cs x ps ks next hands')
 
-        pub trying-on : (ds' : List ℕ) (z : Tally) → TriesForm find x free root ds y (take n form') ds' (tried-form.Counted z) → Trying find cs x free root ps ks ds' next hands' form' z
+        pub trying-on : (ds' : List ℕ) (z : Tally) → TriesForm find x free root ds y (take n form') ds' (Ok z) → Trying find cs x free root ps ks ds' next hands' form' z
         trying-on ds' z f =
             let q = f cs G.before G.tallied in
             record {
@@ -175,13 +175,12 @@ module _ {find : Finding} (finds : Finds find) (steady : Steady find) (cs : List
             let k = G.few in
             (trying-known.bounds, subst (λ (i : ℕ). i < x.h.nodes) (sym R.0.2) R.0.1.target.root_in, R.1, G.tallied.buckets, omega arith)
 
-        pub tried-over : (ds' : List ℕ) → TriesForm find x free root ds y (take n form') ds' tried-form.Over → TriesForms find cs x free root ps ks ds' tried.Over
-        tried-over ds' f =
+        -- the form is not tallied
+        pub tried-none : (ds' : List ℕ) (why : Untried) → TriesForm find x free root ds y (take n form') ds' (Err why) → TriesForms find cs x free root ps ks ds' (Err why)
+        tried-none ds' untried.Over f =
             let q = f cs G.before G.tallied in
             (q.0, λ s r. let u = q.1 s r in let i = nodes-here s in let j = G.nodes s r in omega arith)
-
-        pub tried-unknown : (ds' : List ℕ) → TriesForm find x free root ds y (take n form') ds' tried-form.Unknown → TriesForms find cs x free root ps ks ds' tried.Unknown
-        tried-unknown ds' f = (f cs G.before G.tallied, tt)
+        tried-none ds' untried.Unknown f = (f cs G.before G.tallied, tt)
 
   pub trial-nodes : (ds : List ℕ) → Within x free cs ds → NodesIn ds (x.h.nodes + free)
   trial-nodes ds K =

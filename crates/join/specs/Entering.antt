@@ -1,10 +1,9 @@
 -- What entering the forms of a join leaves, and what it asks of the target.
-use Rattle.std.specs.Prelude.{ℕ, ◌≤◌, ◌<◌, List, ◌≡◌}
+use Rattle.std.specs.Prelude.{ℕ, ◌≤◌, ◌<◌, List, ◌≡◌, Ok}
 use Rattle.plain.specs.Words.{Word}
 use Rattle.space.specs.Layout.{sizes_of}
 use Rattle.space.specs.Sound.{Bounds, subgoal_under}
 use Rattle.space.specs.declared.Head.{Head}
-use Rattle.space.specs.declared.Header.TheVariants as header
 use Rattle.trie.specs.Walks.{Finding}
 use Rattle.store.specs.Changes.{form_given_by, forms_given_by}
 use Rattle.pairing.specs.declared.Sides.{Sides}
@@ -31,7 +30,7 @@ Givable cs h s =
 
 -- it is, whatever comes of it
 abbrev pub GivesForm : Finding → List ℕ → Head → ℕ → Word → List ℕ → Type 0
-GivesForm find cs h s w cs' = cs' ≡ form_given_by find (sizes_of h.edition) cs s w (header.Sound h)
+GivesForm find cs h s w cs' = cs' ≡ form_given_by find (sizes_of h.edition) cs s w (Ok h)
 
 -- every form is given
 abbrev pub Enters : Finding → List ℕ → Sides → ℕ → List ℕ → List ℕ → List ℕ → Type 0

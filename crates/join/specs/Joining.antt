@@ -1,7 +1,10 @@
 -- The join as a call: its three subgoals, once they are read, what is known before its forms are counted, and what the
 -- functions that decide answer and leave.
-use Rattle.std.specs.Prelude.{ℕ, ◌-◌, Bool, true, false, List, [], ◌≡◌, leb, ltb}
+use Rattle.std.specs.Prelude.{ℕ, ◌-◌, Bool, true, false, List, [], ◌≡◌, leb, ltb, Some, Result, Ok, Err}
 use Rattle.basis.specs.Choice.{pick}
+use Rattle.basis.specs.Refusals.{number_of}
+use Rattle.basis.specs.declared.refusals.Refusal.{Refusal}
+use Rattle.basis.specs.declared.refusals.Refusal.TheVariants as refusal
 use Rattle.forms.specs.Stored.{stored_of}
 use Rattle.plain.specs.Coding.{coding_of}
 use Rattle.plain.specs.Joins.{ground, named}
@@ -13,7 +16,6 @@ use Rattle.space.specs.Judging.{subgoal_sound}
 use Rattle.space.specs.Sound.{subgoal_under}
 use Rattle.space.specs.declared.Head.{Head}
 use Rattle.space.specs.declared.Subgoal.{Subgoal}
-use Rattle.space.specs.declared.Header.TheVariants as header
 use Rattle.trie.specs.Walks.{Finding, root_sound}
 use Rattle.store.specs.Views.{answer_trie}
 use Rattle.store.specs.Decisions.{unbroken, chain_of, nodes_needed_by, answers_needed_by}
@@ -21,7 +23,6 @@ use Rattle.store.specs.Changes.{forms_given_by}
 use Rattle.store.specs.Calls.{used_answers}
 use Rattle.store.specs.Clauses.{view_in, Held, AnswersUnder}
 use Rattle.store.specs.Replies.{said_join}
-use Rattle.store.specs.declared.JoinAnswer.{JoinAnswer}
 use Rattle.sides.specs.Chains.{ChainJudged}
 use Rattle.sides.specs.declared.Judged.{Judged}
 use Rattle.sides.specs.declared.Judged.TheVariants.{Damaged, Ground, Variable}
@@ -29,7 +30,6 @@ use Rattle.join.specs.declared.Numbers.{Numbers}
 use Rattle.join.specs.declared.Parties.{Parties}
 use Rattle.pairing.specs.declared.Source.{Source}
 use Rattle.pairing.specs.declared.Sides.{Sides}
-use Rattle.pairing.specs.declared.Counted.TheVariants as counted
 use Rattle.pairing.specs.declared.Sums.{Sums}
 use Rattle.pairing.specs.Pairing.{forms_from}
 use Rattle.pairing.specs.Counting.{all_forms, JoinReady, Fitting, CountedOf}
@@ -46,7 +46,7 @@ join_asked y ps ks = request.join y.first y.second ps y.target ks
 
 -- read and judged, with the target's answer root
 pub record PartiesIn (cs : List ℕ) (h : Head) (y : Parties) : Type 0 where
-  pub space : space_header cs ≡ header.Sound h
+  pub space : space_header cs ≡ Ok h
   pub first : Held cs h y.first y.f
   pub first-sound : subgoal_sound h.nodes h.answers y.f ≡ true
   pub second : Held cs h y.second y.g
@@ -78,11 +78,11 @@ pub record Grounded (cs : List ℕ) (h : Head) (y : Parties) (ps ks : List ℕ) 
   pub second-ground : AnswersGround cs h y.second y.g.first
   pub names : named y.f.variables y.g.variables ps y.t.variables ks ≡ true
 
--- r refuses the join, by whichever way a child is found, or is 0 and the rule lets it go on
-abbrev pub Ruled : List ℕ → Head → Parties → List ℕ → List ℕ → ℕ → Type 0
-Ruled cs h y ps ks r =
-    (r ≡ 0 → Grounded cs h y ps ks)
-    × ((r ≡ 0 → ⊥) → (find : Finding) → AnswersUnder find cs h (join_asked y ps ks) (refused r) cs)
+-- the rule lets the join go on, or r refuses it, by whichever way a child is found
+abbrev pub Ruled : List ℕ → Head → Parties → List ℕ → List ℕ → Result Unit Refusal → Type 0
+Ruled cs h y ps ks (Ok z) = Grounded cs h y ps ks
+Ruled cs h y ps ks (Err r) =
+    (find : Finding) → AnswersUnder find cs h (join_asked y ps ks) (refused (number_of r)) cs
 
 -- the answers of a source were judged sound, and without variables
 unfoldable pub whole_answers : Judged → Bool
@@ -96,21 +96,25 @@ ground_answers Ground = true
 ground_answers Variable = false
 
 -- whatever the answers of the sources were judged to be
-abbrev pub Rules : Parties → Judged → Judged → List ℕ → List ℕ → ℕ → Type 0
+abbrev pub Rules : Parties → Judged → Judged → List ℕ → List ℕ → Result Unit Refusal → Type 0
 Rules y f g ps ks r =
     (cs : List ℕ) (h : Head) → PartiesIn cs h y → ChainJudged cs h y.first f → ChainJudged cs h y.second g
     → Ruled cs h y ps ks r
 
 -- the same where none is damaged
-abbrev pub RulesOn : Parties → Judged → Judged → List ℕ → List ℕ → ℕ → Type 0
+abbrev pub RulesOn : Parties → Judged → Judged → List ℕ → List ℕ → Result Unit Refusal → Type 0
 RulesOn y f g ps ks r = whole_answers f ≡ true → whole_answers g ≡ true → Rules y f g ps ks r
 
 -- ---- what the call answers and leaves
 
+-- how many answers are new, or why not
+abbrev pub JoinAnswer : Type 0
+JoinAnswer = Result ℕ Refusal
+
 -- numbers of subgoals, under the header
 abbrev pub Numbered : List ℕ → Head → Numbers → Type 0
 Numbered cs h a =
-    (header.Sound h ≡ space_header cs) × (is_number h.subgoals a.first ≡ true)
+    (Ok h ≡ space_header cs) × (is_number h.subgoals a.first ≡ true)
     × (is_number h.subgoals a.second ≡ true) × (is_number h.subgoals a.target ≡ true)
 
 -- the join of subgoals by their numbers
@@ -125,19 +129,20 @@ JoinsUnder find cs h y ps ks r cs' = AnswersUnder find cs h (join_asked y ps ks)
 abbrev pub Summed : Finding → List ℕ → Head → Parties → List ℕ → List ℕ → Sums → Type 0
 Summed find cs h y ps ks sums =
     CountedOf find (view_in cs h) y.target (stored_of h.edition) (all_forms cs (sides_of h y) ps ks)
-    (counted.Sums sums)
+    (Some sums)
 
 -- there is room by the sums alone
 unfoldable pub sums_fit : Head → Sums → Bool
 sums_fit h y =
     pick (leb y.missing (h.node_capacity - h.nodes)) (leb y.lacking (h.answer_capacity - h.answers)) false
 
--- by the exact needs r refuses, or is 0 and there is room
-unfoldable pub room_for : Head → ℕ → ℕ → ℕ
+-- whether there is room by the exact needs
+unfoldable pub room_for : Head → ℕ → ℕ → Result Unit Refusal
 room_for h nodes answers =
-    pick (ltb (h.node_capacity - h.nodes) nodes) 10 (pick (ltb (h.answer_capacity - h.answers) answers) 11 0)
+    pick (ltb (h.node_capacity - h.nodes) nodes) (Err refusal.Nodes)
+    (pick (ltb (h.answer_capacity - h.answers) answers) (Err refusal.RecordsLeft) (Ok tt))
 
-abbrev pub TellsRoom : Finding → List ℕ → Sides → ℕ → List ℕ → List ℕ → ℕ → Type 0
+abbrev pub TellsRoom : Finding → List ℕ → Sides → ℕ → List ℕ → List ℕ → Result Unit Refusal → Type 0
 TellsRoom find cs x root ps ks r =
     (s : ℕ) → root ≡ (subgoal_under cs x.h s).root
     → (let ws = all_forms cs x ps ks in
@@ -159,7 +164,7 @@ pub record SomeNew (find : Finding) (cs : List ℕ) (h : Head) (y : Parties) (ps
 
 -- the forms may be entered into subgoal s
 pub record Enterable (cs : List ℕ) (x : Sides) (s : ℕ) (ps ks : List ℕ) : Type 0 where
-  pub space : space_header cs ≡ header.Sound x.h
+  pub space : space_header cs ≡ Ok x.h
   pub ready : JoinReady cs x ps ks
   pub fit : Fitting cs x ps ks
   pub target : Target cs x s

@@ -1,6 +1,8 @@
 -- The forms of a join on trial: what the draft of their new nodes tells of what they need, and that it leaves no trace.
 use Rattle.std.specs.Prelude.{ℕ, ◌+◌, ◌-◌, ◌<◌, ◌≤◌, ◌^◌, min, List, [], ◌∷◌, ◌≡◌, length}
+use Rattle.std.specs.Prelude.{Option, Some, None, Result, Ok, Err}
 use Rattle.basis.specs.Choice.{pick}
+use Rattle.basis.specs.declared.refusals.Refusal.{Refusal}
 use Rattle.plain.specs.Words.{Word, has, most, prefixes}
 use Rattle.space.specs.Layout.{sizes, node_in}
 use Rattle.space.specs.Sound.{Bounds, subgoal_under}
@@ -17,10 +19,8 @@ use Rattle.drafts.specs.Drafts.{Keyed}
 use Rattle.drafts.specs.Notes.{Noted}
 use Rattle.drafts.specs.Wiping.{Blank}
 use Rattle.join.specs.declared.Tally.{Tally}
-use Rattle.join.specs.declared.TriedForm.{TriedForm}
-use Rattle.join.specs.declared.TriedForm.TheVariants as tried-form
-use Rattle.join.specs.declared.Tried.{Tried}
-use Rattle.join.specs.declared.Tried.TheVariants as tried
+use Rattle.join.specs.declared.Untried.{Untried}
+use Rattle.join.specs.declared.Untried.TheVariants as untried
 use Rattle.join.specs.Joining.{Enterable, TellsRoom}
 
 -- the first free nodes, as many as a draft may use
@@ -48,6 +48,10 @@ pub record Tallied (find : Finding) (cs : List ℕ) (x : Sides) (free root : ℕ
       → (es : List Word) × (length (prefixes es) ≡ used) × Keyed (node_in sizes ds) x.h.nodes (prefixes es) es
       × Noted find (view_in cs x.h) s es before
 
+-- the tally of what was tried, or why there is none
+abbrev pub Tried : Type 0
+Tried = Result Tally Untried
+
 -- ---- one form
 
 abbrev pub Formable : List ℕ → Sides → ℕ → ℕ → Word → Tally → Type 0
@@ -56,18 +60,18 @@ Formable ds x free root w y =
     × Bucketed (node_in sizes ds) (room_of x free) y.used × (y.answers + 1 < 2 ^ 64)
 
 -- whichever space and forms were drafted
-abbrev pub TriesForm : Finding → Sides → ℕ → ℕ → List ℕ → Tally → Word → List ℕ → TriedForm → Type 0
-TriesForm find x free root ds y w ds' (tried-form.Counted z) =
+abbrev pub TriesForm : Finding → Sides → ℕ → ℕ → List ℕ → Tally → Word → List ℕ → Tried → Type 0
+TriesForm find x free root ds y w ds' (Ok z) =
     (cs : List ℕ) (before : List Word) → Tallied find cs x free root ds y.used before
     → Tallied find cs x free root ds' z.used (w ∷ before)
     × ((s : ℕ) → root ≡ (subgoal_under cs x.h s).root
     → (z.used ≡ y.used + nodes_for find cs x s before w) × (z.answers ≡ y.answers + answers_for find cs x s before w))
-TriesForm find x free root ds y w ds' tried-form.Over =
+TriesForm find x free root ds y w ds' (Err untried.Over) =
     (cs : List ℕ) (before : List Word) → Tallied find cs x free root ds y.used before
     → Within x free cs ds'
     × ((s : ℕ) → root ≡ (subgoal_under cs x.h s).root
     → x.h.nodes + free < y.used + nodes_for find cs x s before w)
-TriesForm find x free root ds y w ds' tried-form.Unknown =
+TriesForm find x free root ds y w ds' (Err untried.Unknown) =
     (cs : List ℕ) (before : List Word) → Tallied find cs x free root ds y.used before → Within x free cs ds'
 
 -- ---- all forms
@@ -82,15 +86,15 @@ Tryable cs x free root ps ks =
     Roomed cs x root ps ks × (x.h.nodes + free ≤ x.h.node_capacity) × Blank cs (room_of x free)
 
 abbrev pub TriedAs : Finding → List ℕ → Sides → ℕ → ℕ → List ℕ → List ℕ → Tried → Type 0
-TriedAs find cs x free root ps ks (tried.All y) =
+TriedAs find cs x free root ps ks (Ok y) =
     (s : ℕ) → root ≡ (subgoal_under cs x.h s).root
     → (let ws = all_forms cs x ps ks in
     (y.used ≡ x.h.nodes + nodes_needed_by find (view_in cs x.h) s [] ws)
     × (y.answers ≡ answers_needed_by find (view_in cs x.h) s [] ws))
-TriedAs find cs x free root ps ks tried.Over =
+TriedAs find cs x free root ps ks (Err untried.Over) =
     (s : ℕ) → root ≡ (subgoal_under cs x.h s).root
     → free < nodes_needed_by find (view_in cs x.h) s [] (all_forms cs x ps ks)
-TriedAs find cs x free root ps ks tried.Unknown = Unit
+TriedAs find cs x free root ps ks (Err untried.Unknown) = Unit
 
 abbrev pub TriesForms : Finding → List ℕ → Sides → ℕ → ℕ → List ℕ → List ℕ → List ℕ → Tried → Type 0
 TriesForms find cs x free root ps ks cs' r = Within x free cs cs' × TriedAs find cs x free root ps ks r
@@ -104,18 +108,24 @@ abbrev pub HeadCounts : Head → Type 0
 HeadCounts h =
     (h.nodes ≤ h.node_capacity) × (h.answers ≤ h.answer_capacity) × (h.answer_capacity < 2 ^ 32)
 
--- by whichever forms were tried; 255 settles nothing
-abbrev pub Settles : Head → ℕ → Tried → ℕ → Type 0
+-- whether there is room, where that is settled
+abbrev pub TellsIfSettled : Finding → List ℕ → Sides → ℕ → List ℕ → List ℕ → Option (Result Unit Refusal) → Type 0
+TellsIfSettled find cs x root ps ks (Some r) = TellsRoom find cs x root ps ks r
+TellsIfSettled find cs x root ps ks None = Unit
+
+-- by whichever forms were tried
+abbrev pub Settles : Head → ℕ → Tried → Option (Result Unit Refusal) → Type 0
 Settles h free r q =
     (find : Finding) (cs : List ℕ) (x : Sides) (root : ℕ) (ps ks : List ℕ) → x.h ≡ h
-    → TriedAs find cs x free root ps ks r → (q ≡ 255 → ⊥) → TellsRoom find cs x root ps ks q
+    → TriedAs find cs x free root ps ks r → TellsIfSettled find cs x root ps ks q
 
 abbrev pub Triable : List ℕ → Sides → ℕ → ℕ → List ℕ → List ℕ → Type 0
 Triable cs x free root ps ks = Roomed cs x root ps ks × (x.h.nodes + free ≤ x.h.node_capacity)
 
-abbrev pub Settled : Finding → List ℕ → Sides → ℕ → List ℕ → List ℕ → List ℕ → ℕ → Type 0
-Settled find cs x root ps ks cs' q = (cs' ≡ cs) × ((q ≡ 255 → ⊥) → TellsRoom find cs x root ps ks q)
+abbrev pub Settled :
+    Finding → List ℕ → Sides → ℕ → List ℕ → List ℕ → List ℕ → Option (Result Unit Refusal) → Type 0
+Settled find cs x root ps ks cs' q = (cs' ≡ cs) × TellsIfSettled find cs x root ps ks q
 
 -- whether there is room, and the space is as it was
-abbrev pub TellsInPlace : Finding → List ℕ → Sides → ℕ → List ℕ → List ℕ → List ℕ → ℕ → Type 0
+abbrev pub TellsInPlace : Finding → List ℕ → Sides → ℕ → List ℕ → List ℕ → List ℕ → Result Unit Refusal → Type 0
 TellsInPlace find cs x root ps ks cs' r = (cs' ≡ cs) × TellsRoom find cs x root ps ks r

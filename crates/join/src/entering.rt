@@ -5,10 +5,10 @@ ghost use Rattle.join.specs.Entering.{Givable, GivesForm, Enters};
 ghost use Rattle.join.specs.Joining.{Enterable};
 
 use answering::answer_at;
-use pairing::{Match, Request, Sides, Walk};
+use pairing::{Found, Request, Sides, Walk};
+use space::Head;
 use space::heading::read_header;
 use space::records::subgoal_in;
-use space::{Head, Header};
 
 // A form given to subgoal s, whatever comes of it, in a join that began with so many nodes.
 fn give(space: &mut [u32], h: Head, s: usize, tokens: &[u32], index: &[u32], stood: usize)
@@ -16,7 +16,7 @@ fn give(space: &mut [u32], h: Head, s: usize, tokens: &[u32], index: &[u32], sto
     ensures { GivesForm (search_indexed index.now stood) space.old h s tokens.now space.new }
 {
     let g = subgoal_in(space, h, s);
-    answer_at(space, h, s, g, tokens, index, stood);
+    let _ = answer_at(space, h, s, g, tokens, index, stood);
 }
 
 // All forms given to subgoal s.
@@ -27,9 +27,9 @@ pub fn enter(space: &mut [u32], x: Sides, s: usize, asked: &Request)
 {
     let mut walk = Walk::begin(x);
     let mut y = x;
-    while let Match::At(_, n) = walk.advance(space, y, asked) {
+    while let Found::At(n) = walk.advance(space, y, asked) {
         give(space, y.h, s, &walk.form[..n], asked.index, x.h.nodes);
-        let Header::Sound(h) = read_header(space) else {
+        let Ok(h) = read_header(space) else {
             return;
         };
         y.h = h;

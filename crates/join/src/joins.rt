@@ -1,8 +1,7 @@
 // The join as a call: what is judged in its order, then the passes over its forms.
-ghost use Rattle.std.specs.Prelude.{◌≡◌, [], ◌≤◌, ◌<◌, ◌^◌};
+ghost use Rattle.std.specs.Prelude.{◌≡◌, [], ◌≤◌, ◌<◌, ◌^◌, Ok};
 ghost use Rattle.plain.specs.Requests.{join};
 ghost use Rattle.space.specs.Heading.{space_header};
-ghost use Rattle.space.specs.declared.Header.TheVariants as header;
 ghost use Rattle.trie.specs.Walks.{root_sound};
 ghost use Rattle.store.specs.Views.{answer_trie};
 ghost use Rattle.trie.specs.Index.{search_indexed};
@@ -16,22 +15,19 @@ ghost use Rattle.join.specs.Joining.{sums_fit, room_for, TellsRoom, SomeNeeded, 
 ghost use Rattle.join.specs.Trial.{Roomed, TellsInPlace};
 
 use super::entering::enter;
-use super::trial::{UNSETTLED, on_trial};
+use super::trial::on_trial;
 use super::{Numbers, Parties};
 use answering::last_sound;
-use basis::refusals::{
-    LENGTH, NAMES, NODES, NUMBER, RECORDS, RECORDS_LEFT, SOURCE_OPEN, SOURCE_VARIABLE, STATE,
-};
+use basis::refusals::Refusal;
 use basis::wide;
 use pairing::counting::{count, needs};
-use pairing::{Counted, Request, Sides, Source, Sums};
+use pairing::{Request, Sides, Source, Sums};
 use sides::Judged;
 use sides::chains::judge;
 use sides::names::named;
 use space::heading::read_header;
 use space::records::{read_node, read_subgoal};
-use space::{Head, Header, NodeRead, Subgoal, SubgoalRead};
-use store::JoinAnswer;
+use space::{Head, Subgoal};
 
 // A subgoal as the source of a join.
 fn source_of(number: usize, g: Subgoal) -> Source
@@ -69,7 +65,7 @@ fn is_root(space: &[u32], h: Head, root: usize) -> bool
     requires { RootIn space.now h root }
     ensures { result ≡ root_sound (answer_trie (view_in space.now h)) root }
 {
-    let NodeRead::Sound(y) = read_node(space, h.nodes, h.answers, root) else {
+    let Some(y) = read_node(space, h.nodes, h.answers, root) else {
         return false;
     };
     y.parent == root
@@ -91,16 +87,16 @@ fn is_ground(j: Judged) -> bool
     matches!(j, Judged::Ground)
 }
 
-// The refusal by the states, the sources' answers and the names; 0 for none.
-fn ruling(y: Parties, f: Judged, g: Judged, asked: &Request) -> u32
+// What the states, the sources' answers and the names refuse.
+fn ruling(y: Parties, f: Judged, g: Judged, asked: &Request) -> Result<(), Refusal>
     requires { y.t.variables ≤ 32 }
     ensures { RulesOn y f g asked.now.pairs.now asked.now.copies.now result }
 {
     if y.t.state != 0 {
-        return STATE;
+        return Err(Refusal::State);
     }
     if y.f.state == 0 || y.g.state == 0 {
-        return SOURCE_OPEN;
+        return Err(Refusal::SourceOpen);
     }
     if is_ground(f) && is_ground(g) {
         if named(
@@ -110,38 +106,35 @@ fn ruling(y: Parties, f: Judged, g: Judged, asked: &Request) -> u32
             y.g.variables,
             y.t.variables,
         ) {
-            return 0;
+            return Ok(());
         }
-        return NAMES;
+        return Err(Refusal::Names);
     }
-    SOURCE_VARIABLE
+    Err(Refusal::SourceVariable)
 }
 
 // The same, after what is damaged.
-fn rule(y: Parties, f: Judged, g: Judged, asked: &Request) -> u32
+fn rule(y: Parties, f: Judged, g: Judged, asked: &Request) -> Result<(), Refusal>
     requires { y.t.variables ≤ 32 }
     ensures { Rules y f g asked.now.pairs.now asked.now.copies.now result }
 {
     if is_whole(f) && is_whole(g) {
         return ruling(y, f, g, asked);
     }
-    RECORDS
+    Err(Refusal::Records)
 }
 
 // All forms are entered; how many are new is what the answers used rise by.
-fn join_entered(space: &mut [u32], x: Sides, s: usize, asked: &Request) -> JoinAnswer
+fn join_entered(space: &mut [u32], x: Sides, s: usize, asked: &Request) -> Result<u32, Refusal>
     requires { Enterable space.old x s asked.now.pairs.now asked.now.copies.now }
     ensures { EntersAll (search_indexed asked.now.index.now x.h.nodes) space.old x s
         asked.now.pairs.now asked.now.copies.now result
         space.new }
 {
     enter(space, x, s, asked);
-    let header = read_header(space);
-    let Header::Sound(h) = header else {
-        return JoinAnswer::Joined(0);
-    };
+    let h = read_header(space)?;
     let more = h.answers - x.h.answers;
-    JoinAnswer::Joined(more as u32)
+    Ok(more as u32)
 }
 
 // Is there room by the sums alone?
@@ -156,8 +149,8 @@ fn sums_fit(h: Head, y: Sums) -> bool
     y.missing <= nodes && y.lacking <= answers
 }
 
-// The refusal for want of room, by the exact needs; 0 for none.
-fn full(space: &[u32], x: Sides, root: usize, asked: &Request) -> u32
+// Whether there is room by the exact needs.
+fn full(space: &[u32], x: Sides, root: usize, asked: &Request) -> Result<(), Refusal>
     requires ready_to_count { ReadyToCount space.now x asked.now.pairs.now asked.now.copies.now }
     requires root_lt_nodes { root < x.h.nodes }
     ensures { TellsRoom (search_indexed asked.now.index.now x.h.nodes) space.now x root
@@ -167,27 +160,33 @@ fn full(space: &[u32], x: Sides, root: usize, asked: &Request) -> u32
     let answers = (x.h.answer_capacity - x.h.answers) as u64;
     let y = needs(space, x, root, asked, nodes);
     if nodes < y.nodes {
-        return NODES;
+        return Err(Refusal::Nodes);
     }
     if answers < y.answers {
-        return RECORDS_LEFT;
+        return Err(Refusal::RecordsLeft);
     }
-    0
+    Ok(())
 }
 
 // The same where no node is needed, and one answer.
-fn full_for_one(h: Head) -> u32
+fn full_for_one(h: Head) -> Result<(), Refusal>
     ensures { result ≡ room_for h 0 1 }
 {
     if h.answers < h.answer_capacity {
-        return 0;
+        return Ok(());
     }
-    RECORDS_LEFT
+    Err(Refusal::RecordsLeft)
 }
 
-// The refusal for want of room where some form is new. Without variables all forms are the empty one and not counted;
+// Whether there is room where some form is new. Without variables all forms are the empty one and not counted;
 // others are counted on trial where that settles it. A draft takes no more nodes than the tokens that were not found.
-fn room(space: &mut [u32], x: Sides, root: usize, asked: &Request, missing: u64) -> u32
+fn room(
+    space: &mut [u32],
+    x: Sides,
+    root: usize,
+    asked: &Request,
+    missing: u64,
+) -> Result<(), Refusal>
     requires roomed { Roomed space.old x root asked.now.pairs.now asked.now.copies.now }
     requires some_needed { SomeNeeded (search_indexed asked.now.index.now x.h.nodes) space.old x root
         asked.now.pairs.now asked.now.copies.now }
@@ -198,15 +197,20 @@ fn room(space: &mut [u32], x: Sides, root: usize, asked: &Request, missing: u64)
         return full_for_one(x.h);
     }
     let free = ((x.h.node_capacity - x.h.nodes) as u64).min(missing) as usize;
-    let r = on_trial(space, x, root, asked, free);
-    if r == UNSETTLED {
-        return full(space, x, root, asked);
+    match on_trial(space, x, root, asked, free) {
+        Some(r) => r,
+        None => full(space, x, root, asked),
     }
-    r
 }
 
 // Forms that fit, of which some are new: 9 by the last answer, 10, 11, or all are entered.
-fn join_new(space: &mut [u32], h: Head, y: Parties, sums: Sums, asked: &Request) -> JoinAnswer
+fn join_new(
+    space: &mut [u32],
+    h: Head,
+    y: Parties,
+    sums: Sums,
+    asked: &Request,
+) -> Result<u32, Refusal>
     requires { SomeNew (search_indexed asked.now.index.now h.nodes) space.old h y
         asked.now.pairs.now asked.now.copies.now sums }
     ensures { JoinsUnder (search_indexed asked.now.index.now h.nodes) space.old h y
@@ -217,65 +221,50 @@ fn join_new(space: &mut [u32], h: Head, y: Parties, sums: Sums, asked: &Request)
         if sums_fit(h, sums) {
             return join_entered(space, x, y.target, asked);
         }
-        let r = room(space, x, y.t.root, asked, sums.missing);
-        if r == 0 {
-            return join_entered(space, x, y.target, asked);
-        }
-        return JoinAnswer::Refused(r);
+        room(space, x, y.t.root, asked, sums.missing)?;
+        return join_entered(space, x, y.target, asked);
     }
-    JoinAnswer::Refused(RECORDS)
+    Err(Refusal::Records)
 }
 
 // Sources that the rule lets through: 4, 9 by the searches, nothing new, or some.
-fn join_ground(space: &mut [u32], h: Head, y: Parties, asked: &Request) -> JoinAnswer
+fn join_ground(space: &mut [u32], h: Head, y: Parties, asked: &Request) -> Result<u32, Refusal>
     requires { Grounded space.old h y asked.now.pairs.now asked.now.copies.now }
     ensures { JoinsUnder (search_indexed asked.now.index.now h.nodes) space.old h y
         asked.now.pairs.now asked.now.copies.now result space.new }
 {
-    let counted = count(space, sides_of(h, y), y.t.root, asked);
-    let Counted::Sums(sums) = counted else {
-        return JoinAnswer::Refused(LENGTH);
-    };
+    let sums = count(space, sides_of(h, y), y.t.root, asked).ok_or(Refusal::Length)?;
     if sums.sound {
         if sums.lacking == 0 {
-            return JoinAnswer::Joined(0);
+            return Ok(0);
         }
         return join_new(space, h, y, sums, asked);
     }
-    JoinAnswer::Refused(RECORDS)
+    Err(Refusal::Records)
 }
 
 // The three subgoals are read: the sources' answers, then the rule.
-fn join_parties(space: &mut [u32], h: Head, y: Parties, asked: &Request) -> JoinAnswer
+fn join_parties(space: &mut [u32], h: Head, y: Parties, asked: &Request) -> Result<u32, Refusal>
     requires { PartiesIn space.old h y }
     ensures { JoinsUnder (search_indexed asked.now.index.now h.nodes) space.old h y
         asked.now.pairs.now asked.now.copies.now result space.new }
 {
     let f = judge(space, h, y.first, y.f);
     let g = judge(space, h, y.second, y.g);
-    let r = rule(y, f, g, asked);
-    if r == 0 {
-        return join_ground(space, h, y, asked);
-    }
-    JoinAnswer::Refused(r)
+    rule(y, f, g, asked)?;
+    join_ground(space, h, y, asked)
 }
 
 // Subgoals that there are: their records and the target's answer root.
-fn join_known(space: &mut [u32], h: Head, a: Numbers, asked: &Request) -> JoinAnswer
+fn join_known(space: &mut [u32], h: Head, a: Numbers, asked: &Request) -> Result<u32, Refusal>
     requires { Numbered space.old h a }
     ensures { JoinsNumbered (search_indexed asked.now.index.now h.nodes) space.old h a
         asked.now.pairs.now asked.now.copies.now result
         space.new }
 {
-    let SubgoalRead::Sound(f) = read_subgoal(space, h, a.first) else {
-        return JoinAnswer::Refused(RECORDS);
-    };
-    let SubgoalRead::Sound(g) = read_subgoal(space, h, a.second) else {
-        return JoinAnswer::Refused(RECORDS);
-    };
-    let SubgoalRead::Sound(t) = read_subgoal(space, h, a.target) else {
-        return JoinAnswer::Refused(RECORDS);
-    };
+    let f = read_subgoal(space, h, a.first).ok_or(Refusal::Records)?;
+    let g = read_subgoal(space, h, a.second).ok_or(Refusal::Records)?;
+    let t = read_subgoal(space, h, a.target).ok_or(Refusal::Records)?;
     if is_root(space, h, t.root) {
         let y = Parties {
             first: a.first,
@@ -287,12 +276,12 @@ fn join_known(space: &mut [u32], h: Head, a: Numbers, asked: &Request) -> JoinAn
         };
         return join_parties(space, h, y, asked);
     }
-    JoinAnswer::Refused(RECORDS)
+    Err(Refusal::Records)
 }
 
 // In a space whose header is sound: the numbers.
-fn join_in(space: &mut [u32], h: Head, a: Numbers, asked: &Request) -> JoinAnswer
-    requires { header.Sound h ≡ space_header space.old }
+fn join_in(space: &mut [u32], h: Head, a: Numbers, asked: &Request) -> Result<u32, Refusal>
+    requires { Ok h ≡ space_header space.old }
     ensures { JoinsNumbered (search_indexed asked.now.index.now h.nodes) space.old h a
         asked.now.pairs.now asked.now.copies.now result
         space.new }
@@ -303,7 +292,7 @@ fn join_in(space: &mut [u32], h: Head, a: Numbers, asked: &Request) -> JoinAnswe
     {
         return join_known(space, h, a, asked);
     }
-    JoinAnswer::Refused(NUMBER)
+    Err(Refusal::Number)
 }
 
 // Joins two finished subgoals into an open one.
@@ -315,26 +304,22 @@ pub fn join_indexed(
     target: u32,
     copies: &[u32],
     index: &[u32],
-) -> JoinAnswer
+) -> Result<u32, Refusal>
     ensures { AnswersIndexed index.now space.old (join first second pairs.now target copies.now)
         (said_join result) [] space.new }
 {
-    match read_header(space) {
-        Header::Refused(r) => JoinAnswer::Refused(r),
-        Header::Sound(h) => {
-            let a = Numbers {
-                first: wide(first),
-                second: wide(second),
-                target: wide(target),
-            };
-            let asked = Request {
-                pairs,
-                copies,
-                index,
-            };
-            join_in(space, h, a, &asked)
-        }
-    }
+    let h = read_header(space)?;
+    let a = Numbers {
+        first: wide(first),
+        second: wide(second),
+        target: wide(target),
+    };
+    let asked = Request {
+        pairs,
+        copies,
+        index,
+    };
+    join_in(space, h, a, &asked)
 }
 
 // The same without an index.
@@ -345,7 +330,7 @@ pub fn join(
     pairs: &[u32],
     target: u32,
     copies: &[u32],
-) -> JoinAnswer
+) -> Result<u32, Refusal>
     ensures { Answers space.old (join first second pairs.now target copies.now) (said_join result) [] space.new }
 {
     join_indexed(space, first, second, pairs, target, copies, &pairs[..0])

@@ -34,18 +34,9 @@ pub struct Tally {
     pub answers: u64,
 }
 
-// One form more on trial: the tally with it; or it needs more nodes than the draft may use; or the draft cannot tell.
+// Why a count on trial gives no tally: more nodes are needed than the draft may use; or the draft cannot tell.
 #[derive(Clone, Copy)]
-pub enum TriedForm {
-    Counted(Tally),
-    Over,
-    Unknown,
-}
-
-// All forms on trial.
-#[derive(Clone, Copy)]
-pub enum Tried {
-    All(Tally),
+pub enum Untried {
     Over,
     Unknown,
 }

@@ -6,19 +6,16 @@ ghost use Rattle.trie.specs.Index.{search_indexed};
 ghost use Rattle.join.specs.Trial.{Formable, TriesForm, Tryable, TriesForms, TriesAll, room_of};
 ghost use Rattle.join.specs.Trial.{HeadCounts, Settles, Triable, Settled};
 
-use super::{Tally, Tried, TriedForm};
-use basis::refusals::{NODES, RECORDS_LEFT};
+use super::{Tally, Untried};
+use basis::refusals::Refusal;
+use drafts::Room;
 use drafts::drafting::draft;
 use drafts::wiping::{is_blank, wipe};
-use drafts::{Drafted, Room};
-use pairing::{Match, Request, Sides, Walk};
+use pairing::{Found, Request, Sides, Walk};
 use space::Head;
 use space::records::node_in;
 use trie::Walked;
 use trie::walks::walk_tokens;
-
-// No refusal: the count on trial does not settle whether there is room.
-pub const UNSETTLED: u32 = 255;
 
 // The free nodes that a draft may use.
 fn room_of(x: Sides, free: usize) -> Room
@@ -30,7 +27,7 @@ fn room_of(x: Sides, free: usize) -> Room
     }
 }
 
-// One form on trial, in free nodes of which `free` may be used.
+// One form more on trial, in free nodes of which `free` may be used: the tally with it.
 fn try_form(
     space: &mut [u32],
     x: Sides,
@@ -39,7 +36,7 @@ fn try_form(
     tokens: &[u32],
     index: &[u32],
     y: Tally,
-) -> TriedForm
+) -> Result<Tally, Untried>
     requires { Formable space.old x free root tokens.now y }
     ensures { TriesForm (search_indexed index.now x.h.nodes) x free root space.old y tokens.now space.new result }
 {
@@ -54,32 +51,32 @@ fn try_form(
     ) {
         Walked::Whole(leaf) => {
             if node_in(space, x.h.nodes, leaf).link == 0 {
-                TriedForm::Unknown
+                Err(Untried::Unknown)
             } else {
-                TriedForm::Counted(y)
+                Ok(y)
             }
         }
         Walked::Stopped(parent, _, left) => {
-            match draft(
-                space,
-                room_of(x, free),
-                y.used,
-                parent,
-                &tokens[tokens.len() - left..],
-            ) {
-                Drafted::Word(used, held) => TriedForm::Counted(Tally {
-                    used,
-                    answers: y.answers + u64::from(!held),
-                }),
-                Drafted::Full => TriedForm::Over,
-            }
+            let below = &tokens[tokens.len() - left..];
+            let room = room_of(x, free);
+            let drafted = draft(space, room, y.used, parent, below).ok_or(Untried::Over)?;
+            Ok(Tally {
+                used: drafted.used,
+                answers: y.answers + u64::from(!drafted.held),
+            })
         }
-        Walked::Damaged => TriedForm::Unknown,
+        Walked::Damaged => Err(Untried::Unknown),
     }
 }
 
 // All forms on trial.
-fn try_forms(space: &mut [u32], x: Sides, free: usize, root: usize, asked: &Request) -> Tried
+fn try_forms(
+    space: &mut [u32],
+    x: Sides,
+    free: usize,
+    root: usize,
+    asked: &Request,
+) -> Result<Tally, Untried>
     requires { Tryable space.old x free root asked.now.pairs.now asked.now.copies.now }
     ensures { TriesForms (search_indexed asked.now.index.now x.h.nodes) space.old x free root
         asked.now.pairs.now asked.now.copies.now space.new result }
@@ -91,27 +88,24 @@ fn try_forms(space: &mut [u32], x: Sides, free: usize, root: usize, asked: &Requ
     };
     loop {
         match walk.advance(space, x, asked) {
-            Match::At(_, n) => match try_form(
-                space,
-                x,
-                free,
-                root,
-                &walk.form[..n],
-                asked.index,
-                y,
-            ) {
-                TriedForm::Counted(more) => y = more,
-                TriedForm::Over => return Tried::Over,
-                TriedForm::Unknown => return Tried::Unknown,
-            },
-            Match::TooLong => return Tried::Unknown,
-            Match::End => return Tried::All(y),
+            Found::At(n) => {
+                let form = &walk.form[..n];
+                y = try_form(space, x, free, root, form, asked.index, y)?;
+            }
+            Found::TooLong => return Err(Untried::Unknown),
+            Found::End => return Ok(y),
         }
     }
 }
 
 // The same, and the space is as it was.
-fn try_all(space: &mut [u32], x: Sides, free: usize, root: usize, asked: &Request) -> Tried
+fn try_all(
+    space: &mut [u32],
+    x: Sides,
+    free: usize,
+    root: usize,
+    asked: &Request,
+) -> Result<Tally, Untried>
     requires { Tryable space.old x free root asked.now.pairs.now asked.now.copies.now }
     ensures { TriesAll (search_indexed asked.now.index.now x.h.nodes) space.old x free root
         asked.now.pairs.now asked.now.copies.now space.new result }
@@ -121,34 +115,40 @@ fn try_all(space: &mut [u32], x: Sides, free: usize, root: usize, asked: &Reques
     r
 }
 
-// The refusal for want of room by a count on trial in so many nodes, 0 for none; or it does not settle it.
-fn settle(h: Head, free: usize, r: Tried) -> u32
+// Whether there is room by a count on trial in so many nodes; nothing where that does not settle it.
+fn settle(h: Head, free: usize, r: Result<Tally, Untried>) -> Option<Result<(), Refusal>>
     requires { HeadCounts h }
     ensures { Settles h free r result }
 {
     match r {
-        Tried::All(y) => {
+        Ok(y) => {
             if h.node_capacity < y.used {
-                return NODES;
+                return Some(Err(Refusal::Nodes));
             }
             let answers = (h.answer_capacity - h.answers) as u64;
             if answers < y.answers {
-                return RECORDS_LEFT;
+                return Some(Err(Refusal::RecordsLeft));
             }
-            0
+            Some(Ok(()))
         }
-        Tried::Over => {
+        Err(Untried::Over) => {
             if free == h.node_capacity - h.nodes {
-                return NODES;
+                return Some(Err(Refusal::Nodes));
             }
-            UNSETTLED
+            None
         }
-        Tried::Unknown => UNSETTLED,
+        Err(Untried::Unknown) => None,
     }
 }
 
 // The same of the forms of a join, where the free nodes are zeros.
-pub fn on_trial(space: &mut [u32], x: Sides, root: usize, asked: &Request, free: usize) -> u32
+pub fn on_trial(
+    space: &mut [u32],
+    x: Sides,
+    root: usize,
+    asked: &Request,
+    free: usize,
+) -> Option<Result<(), Refusal>>
     requires { Triable space.old x free root asked.now.pairs.now asked.now.copies.now }
     ensures { Settled (search_indexed asked.now.index.now x.h.nodes) space.old x root
         asked.now.pairs.now asked.now.copies.now space.new result }
@@ -157,5 +157,5 @@ pub fn on_trial(space: &mut [u32], x: Sides, root: usize, asked: &Request, free:
         let r = try_all(space, x, free, root, asked);
         return settle(x.h, free, r);
     }
-    UNSETTLED
+    None
 }

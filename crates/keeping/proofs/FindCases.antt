@@ -1,4 +1,5 @@
 -- A law for each case of the search by a ledger, over the cells and records that were read.
+use Rattle.std.specs.Prelude.{None, Some}
 use Prim.Native.Nat.{ℕ, suc, ◌+◌, ◌-◌, ◌^◌, ◌<◌, ◌≤◌}
 use mathlib.Core.Path.{◌≡◌, refl, sym, ap, ◌∙◌}
 use mathlib.Core.Bool.{Bool, true, false}
@@ -14,7 +15,6 @@ use Rattle.basis.proofs.Cases.{by_cases}
 use Rattle.space.specs.Layout.{sizes, node_in}
 use Rattle.space.specs.Judging.{read_node}
 use Rattle.space.specs.declared.Node.{Node}
-use Rattle.space.specs.declared.NodeRead.TheVariants as node
 use Rattle.space.proofs.JudgingLaws.{read-node-sound, read-node-damaged}
 use Rattle.trie.specs.Siblings.{Trie, trie_in, at_sibling, search_children}
 use Rattle.trie.specs.Walks.{walk_from_by, walk_from, walk_by, shown}
@@ -88,11 +88,11 @@ module _ (space : List ℕ) (nodes links parent l : ℕ) where
 
   module _ (h : parent < l) where
     module _ (k : l < nodes) where
-      pub last-damaged : node.Damaged ≡ read_node nodes links (node_in sizes space) l → false ≡ is_last (trie_in sizes space nodes links) parent l
+      pub last-damaged : None ≡ read_node nodes links (node_in sizes space) l → false ≡ is_last (trie_in sizes space nodes links) parent l
       unfolding is_last
       last-damaged e = simp (lt-ltb parent l h, lt-ltb l nodes k, read-node-damaged nodes links (node_in sizes space) l e)
 
-      module _ (y : Node) (e : node.Sound y ≡ read_node nodes links (node_in sizes space) l) where
+      module _ (y : Node) (e : Some y ≡ read_node nodes links (node_in sizes space) l) where
         is : y ≡ node_in sizes space l
         is = (read-node-sound nodes links (node_in sizes space) l e).0
 

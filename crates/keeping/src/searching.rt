@@ -9,14 +9,13 @@ ghost use Rattle.keeping.specs.Clauses.{ledger_in, trie_for, LooksUp, LedgerRoom
 
 use super::slots::mixed_slot;
 use basis::wide;
-use space::NodeRead;
 use space::records::{node_in, read_node};
 use trie::Search;
 use trie::lookups::{confirms, judge};
 use trie::siblings::search_children;
 use trie::slots::slot_after;
 
-// What the slots give: the child, or 0 where they lack it.
+// What the slots give: the child, or 0 where they lack it, as in the table's cells (`probe`).
 fn look_up(space: &[u32], nodes: usize, parent: usize, token: u32, slots: &[u32]) -> usize
     requires { NodesIn space.now nodes × (parent < nodes)
         × (0 < length slots.now) × (length slots.now ≤ 2 ^ 32) }
@@ -47,8 +46,8 @@ fn is_last(space: &[u32], nodes: usize, links: usize, parent: usize, l: usize) -
         return false;
     }
     match read_node(space, nodes, links, l) {
-        NodeRead::Sound(y) => y.parent == parent && y.sibling == 0,
-        NodeRead::Damaged => false,
+        Some(y) => y.parent == parent && y.sibling == 0,
+        None => false,
     }
 }
 
@@ -99,7 +98,7 @@ pub fn search_kept(
         return Search::Last(0);
     }
     let first = y.child;
-    let NodeRead::Sound(z) = read_node(space, nodes, links, first) else {
+    let Some(z) = read_node(space, nodes, links, first) else {
         return Search::Damaged;
     };
     if z.parent != parent {

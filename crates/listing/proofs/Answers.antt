@@ -1,4 +1,5 @@
 -- What the two calls answer, by what the code found.
+use Rattle.std.specs.Prelude.{Some, None, Err}
 use Prim.Native.Nat.{ℕ, ◌-◌, ◌≤◌}
 use mathlib.Core.Bool.{true, false}
 use mathlib.Core.List.{List, [], ◌++◌}
@@ -8,10 +9,10 @@ use lib.ListN.{length, take, drop, length-append, length-drop}
 use lib.Seq.{take_at, length-take-le, take_all}
 use lib.Dec.{eqb}
 use borrow.Author.Tests.{eqb-true}
+use Rattle.basis.specs.declared.refusals.Refusal.TheVariants as refusal
+use Rattle.forms.specs.declared.Unwritten.TheVariants.{Refused}
 use Rattle.listing.specs.declared.Spot.{Spot}
-use Rattle.listing.specs.declared.Listing.{Listing}
-use Rattle.listing.specs.declared.Listing.TheVariants.{Refused}
-use Rattle.listing.specs.Listing.{alphabet, Listed, none, one, listing_out, first_term, term_after, listable, first_answer, after_answer, GivesFirst, GivesAfter}
+use Rattle.listing.specs.Listing.{alphabet, Listed, Listing, listing_out, first_term, term_after, listable, first_answer, after_answer, GivesFirst, GivesAfter}
 use Rattle.listing.specs.Steps.{start, prefixed, first_way, next_way, goes, spelt, is_listed}
 use Rattle.listing.specs.Clauses.{Offers}
 use Rattle.listing.proofs.Tests.{both}
@@ -19,11 +20,11 @@ use Rattle.listing.proofs.Calls.{given, first-steps, holds-steps, after-steps}
 
 prefixed-none : (f : Listed) → prefixed [] f ≡ f
 unfolding prefixed
-prefixed-none none = refl
-prefixed-none (one t) = refl
+prefixed-none None = refl
+prefixed-none (Some t) = refl
 
 module _ (e s : ℕ) (symbols out : List ℕ) where
-  pub first-refused : listable e s symbols ≡ false → GivesFirst e s symbols out (Refused 23) out
+  pub first-refused : listable e s symbols ≡ false → GivesFirst e s symbols out (Err (Refused refusal.Listing)) out
   unfolding first_answer listing_out
   first-refused h = (rw h, refl)
 
@@ -37,12 +38,12 @@ module _ (e s : ℕ) (symbols out : List ℕ) where
       (o.0 ∙ rw (z, h), o.1 ∙ rw z)
 
 module _ (e s : ℕ) (symbols t out : List ℕ) where
-  pub after-refused : listable e s symbols ≡ false → GivesAfter e s symbols t out (Refused 23) out
+  pub after-refused : listable e s symbols ≡ false → GivesAfter e s symbols t out (Err (Refused refusal.Listing)) out
   unfolding after_answer listing_out
   after-refused h = (rw h, refl)
 
   module _ (h : listable e s symbols ≡ true) where
-    pub after-strange : is_listed e s symbols t ≡ false → GivesAfter e s symbols t out (Refused 24) out
+    pub after-strange : is_listed e s symbols t ≡ false → GivesAfter e s symbols t out (Err (Refused refusal.Listed)) out
     unfolding after_answer listing_out
     after-strange l = (rw (h, holds-steps e s symbols (given e s symbols h) t, l), refl)
 

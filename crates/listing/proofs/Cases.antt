@@ -1,12 +1,15 @@
 -- The cases of the definitions that the code's inner functions answer by, one law to each.
+use Rattle.std.specs.Prelude.{Option, Some, None, ◌||◌, ◌==◌, nat_lt, cond}
+use Rattle.std.specs.List.{list_any, position, position_or_len}
+use Rattle.std.specs.Option.{unwrap_or}
+use Rattle.std.proofs.lemmas.List.Recursion.{is_position_or_len}
 use Prim.Native.Nat.{ℕ, suc, ◌+◌, ◌-◌, ◌≤◌, ◌<◌, max}
 use mathlib.Core.Bool.{Bool, true, false}
-use mathlib.Core.List.{List}
+use mathlib.Core.List.{List, [], ◌∷◌}
 use mathlib.Core.Path.{◌≡◌, refl, sym, ap, ◌∙◌}
 use native.Mathlib.Omega.{arith}
-use native.Mathlib.Numerals.{add-one}
-use lib.ListN.{length, take, drop, get_or}
-use lib.Seq.{drop-cons, drop-length, get_or-take}
+use lib.ListN.{length, take, get_or}
+use lib.Seq.{get_or-take}
 use lib.Dec.{eqb, leb, ltb}
 use borrow.Author.Tests.{ltb-true, ltb-false, le-leb, lt-leb, lt-ltb, le-ltb, eq-eqb, ne_eqb}
 use Rattle.basis.specs.Choice.{pick}
@@ -15,6 +18,7 @@ use Rattle.forms.specs.declared.Shape.TheVariants.{Symbol, Pair, Illegal}
 use Rattle.forms.specs.declared.Shape.{Shape}
 use Rattle.forms.specs.Cells.{payload, tag, variable, callable, shape_of, arity_of}
 use Rattle.forms.specs.Numbering.{rank}
+use Rattle.forms.proofs.NumberingLaws.{rank-le}
 use Rattle.listing.specs.declared.Spot.{Spot}
 use Rattle.listing.specs.Listing.{legal_shape, is_symbol, contains}
 use Rattle.listing.specs.Steps.{known_after, passed, allowed, leads_to}
@@ -23,23 +27,39 @@ use Rattle.listing.specs.Clauses.{may_begin, letter_at, place_in, is_letter, fit
 
 -- ---- the place of a cell among others
 
-module _ (cs : List ℕ) (i c : ℕ) (inside : i < length cs) where
-  rank_step : (b : Bool) → eqb (get_or cs i 0) c ≡ b → rank (drop i cs) c ≡ pick b 0 (suc (rank (drop (suc i) cs) c))
-  unfolding rank
-  rank_step b q = ap (λ (l : List ℕ). rank l c) (drop-cons cs i 0 inside) ∙ rw q
-
-  pub rank-here : get_or cs i 0 ≡ c → i ≡ i + rank (drop i cs) c
-  rank-here h = omega (arith, rank_step true (eq-eqb _ _ h))
-
-  pub rank-later : (get_or cs i 0 ≡ c → ⊥) → i + rank (drop i cs) c ≡ i + 1 + rank (drop (i + 1) cs) c
-  rank-later h = rw add-one (omega (arith, rank_step false (ne_eqb _ _ h)))
-
-pub rank-none : (cs : List ℕ) (i c : ℕ) → length cs ≤ i → i ≤ length cs → i ≡ i + rank (drop i cs) c
+rank-place : (cs : List ℕ) (c : ℕ) → rank cs c ≡ position_or_len (λ y. y == c) cs
 unfolding rank
-rank-none cs i c h l =
-    let e : i ≡ length cs = omega arith in
-    let z : rank (drop i cs) c ≡ 0 = ap (λ (l : List ℕ). rank l c) (ap (λ (j : ℕ). drop j cs) e ∙ drop-length cs) in
-    omega arith
+rank-place cs c = is_position_or_len (λ l. rank l c) (λ y. y == c) refl (λ x xs. go (eqb x c) (rank xs c)) cs
+  where
+    go : (b : Bool) (n : ℕ) → pick b 0 (suc n) ≡ cond b 0 (1 + n)
+    go true n = refl
+    go false n = omega arith
+
+-- the library's place, or behind the last, is the definition
+pub rank-found : (cs : List ℕ) (c : ℕ) (r : Option ℕ) (n : ℕ) → r ≡ position (λ y. y == c) cs → n ≡ unwrap_or r (length cs) → n ≡ rank cs c
+rank-found cs c r n p q = q ∙ ap (λ (x : Option ℕ). unwrap_or x (length cs)) p ∙ go ∙ sym (rank-place cs c)
+  where
+    at : ℕ
+    at = position_or_len (λ y. y == c) cs
+
+    go : unwrap_or (position (λ y. y == c) cs) (length cs) ≡ at
+    go = by_cases (nat_lt at (length cs))
+        (λ t. ap (λ (x : Bool). unwrap_or (cond x (Some at) None) (length cs)) t)
+        (λ t. ap (λ (x : Bool). unwrap_or (cond x (Some at) None) (length cs)) t
+        ∙ (let g : length cs ≤ at = ltb-false at (length cs) t in omega (arith, rank-le cs c, rank-place cs c)))
+
+-- the library's test is the definition
+pub any-contains : (cs : List ℕ) (c : ℕ) → list_any (λ y. eqb y c) cs ≡ contains cs c
+unfolding contains rank
+any-contains [] c = refl
+any-contains (x ∷ xs) c = go (eqb x c) (any-contains xs c)
+  where
+    go : (b : Bool) → list_any (λ y. eqb y c) xs ≡ ltb (rank xs c) (length xs)
+        → (b || list_any (λ y. eqb y c) xs) ≡ ltb (pick b 0 (suc (rank xs c))) (suc (length xs))
+    go true k = sym (lt-ltb 0 (suc (length xs)) (omega arith))
+    go false k = k ∙ by_cases (ltb (rank xs c) (length xs))
+        (λ l. let z : rank xs c < length xs = ltb-true _ _ l in l ∙ sym (lt-ltb (suc (rank xs c)) (suc (length xs)) (omega arith)))
+        (λ l. let z : length xs ≤ rank xs c = ltb-false _ _ l in l ∙ sym (le-ltb (suc (rank xs c)) (suc (length xs)) (omega arith)))
 
 -- ---- symbols
 
@@ -133,9 +153,9 @@ module _ (symbols : List ℕ) where
   unfolding is_letter
   is-variable-letter s c v = rw v
 
-  pub is-symbol-letter : (s c r : ℕ) → variable c ≡ false → r ≡ rank symbols c → ltb r (length symbols) ≡ is_letter s symbols c
-  unfolding is_letter contains
-  is-symbol-letter s c r v e = rw (v, e)
+  pub is-symbol-letter : (s c : ℕ) → variable c ≡ false → contains symbols c ≡ is_letter s symbols c
+  unfolding is_letter
+  is-symbol-letter s c v = rw v
 
 -- ---- sums, and what fits
 

@@ -1,5 +1,6 @@
 -- The turns of filling and advancing a term, and of looking through a given one.
-use Prim.Native.Nat.{ℕ, suc, ◌+◌, ◌-◌, ◌≤◌, ◌<◌}
+use Rattle.std.specs.Prelude.{Option, None, Some}
+use Prim.Native.Nat.{ℕ, suc, ◌-◌, ◌≤◌, ◌<◌}
 use mathlib.Core.Bool.{Bool, true, false}
 use mathlib.Core.List.{List, [], ◌∷◌, ◌++◌, append_assoc, append-nil}
 use mathlib.Core.Logic.{inl, inr}
@@ -11,9 +12,7 @@ use borrow.Author.Tests.{eqb-true}
 use Rattle.basis.specs.Choice.{pick}
 use Rattle.forms.specs.Numbering.{rank}
 use Rattle.listing.specs.declared.Spot.{Spot}
-use Rattle.listing.specs.declared.Choice.{Choice}
-use Rattle.listing.specs.declared.Choice.TheVariants.{Cell, Nothing}
-use Rattle.listing.specs.Listing.{alphabet, contains, Listed, none, one}
+use Rattle.listing.specs.Listing.{alphabet, contains, Listed}
 use Rattle.listing.specs.Steps.{start, passed, allowed, can_go_on, first_of, prefixed, or_else, chosen, first_way, later_than, next_way, goes, spelt}
 use Rattle.listing.proofs.Cases.{allowed-due}
 use Rattle.listing.proofs.Tests.{both}
@@ -21,12 +20,12 @@ use Rattle.listing.proofs.Sums.{Fit, fits-cases}
 
 -- ---- what is chosen
 
-first_passes : (test : ℕ → Bool) (cs : List ℕ) (c : ℕ) → Cell c ≡ first_of test cs → test c ≡ true
+first_passes : (test : ℕ → Bool) (cs : List ℕ) (c : ℕ) → Some c ≡ first_of test cs → test c ≡ true
 unfolding first_of
 first_passes test [] c h = absurd (let z : ◌≡◌ {A = ℕ} 0 1 = cc in omega arith)
 first_passes test (x ∷ xs) c h = go (test x) refl h (λ k. first_passes test xs c k)
   where
-    go : (b : Bool) → test x ≡ b → Cell c ≡ pick b (Cell x) (first_of test xs) → (Cell c ≡ first_of test xs → test c ≡ true) → test c ≡ true
+    go : (b : Bool) → test x ≡ b → Some c ≡ pick b (Some x) (first_of test xs) → (Some c ≡ first_of test xs → test c ≡ true) → test c ≡ true
     go true q k f = let z : c ≡ x = cc in ap test z ∙ q
     go false q k f = f k
 
@@ -34,7 +33,7 @@ pub record Chosen (e : ℕ) (p : Spot) (n c : ℕ) : Type 0 where
   pub some-due : 0 < p.due
   pub few-due : (passed e p c).due ≤ n
 
-pub chosen-due : (e : ℕ) (symbols : List ℕ) (p : Spot) (n c : ℕ) (cs : List ℕ) → Cell c ≡ first_of (can_go_on e symbols p n) cs → Chosen e p n c
+pub chosen-due : (e : ℕ) (symbols : List ℕ) (p : Spot) (n c : ℕ) (cs : List ℕ) → Some c ≡ first_of (can_go_on e symbols p n) cs → Chosen e p n c
 unfolding can_go_on
 chosen-due e symbols p n c cs h =
     let b = both (allowed p c) _ (first_passes (can_go_on e symbols p n) cs c h) in
@@ -46,8 +45,8 @@ chosen-due e symbols p n c cs h =
 
 prefixed-append : (xs ys : List ℕ) (f : Listed) → prefixed (xs ++ ys) f ≡ prefixed xs (prefixed ys f)
 unfolding prefixed
-prefixed-append xs ys none = refl
-prefixed-append xs ys (one t) = ap one (append_assoc xs ys t)
+prefixed-append xs ys None = refl
+prefixed-append xs ys (Some t) = ap Some (append_assoc xs ys t)
 
 -- ---- filling
 
@@ -59,7 +58,7 @@ module _ (e s : ℕ) (symbols : List ℕ) (p : Spot) (term : List ℕ) (room : s
       ap (λ (t : List ℕ). prefixed t f) (take-suc-set term' p.at c (omega arith) ∙ ap (λ (t : List ℕ). t ++ (c ∷ [])) k)
       ∙ prefixed-append (take p.at term) (c ∷ []) f
 
-  filled-choice : (r : Choice) → p.at < s → r ≡ first_of (can_go_on e symbols p (s - p.at - 1)) (alphabet s symbols)
+  filled-choice : (r : Option ℕ) → p.at < s → r ≡ first_of (can_go_on e symbols p (s - p.at - 1)) (alphabet s symbols)
       → first_way e symbols (alphabet s symbols) p (s - p.at) ≡ chosen (λ d. first_way e symbols (alphabet s symbols) (passed e p d) (s - p.at - 1)) r
   unfolding first_way
   filled-choice r h k =
@@ -67,7 +66,7 @@ module _ (e s : ℕ) (symbols : List ℕ) (p : Spot) (term : List ℕ) (room : s
       ap (first_way e symbols (alphabet s symbols) p) y
       ∙ ap (chosen (λ d. first_way e symbols (alphabet s symbols) (passed e p d) (s - p.at - 1))) (sym k)
 
-  pub fill_step : (c : ℕ) (q : Spot) → p.at < s → Cell c ≡ first_of (can_go_on e symbols p (s - p.at - 1)) (alphabet s symbols) → q ≡ passed e p c
+  pub fill_step : (c : ℕ) (q : Spot) → p.at < s → Some c ≡ first_of (can_go_on e symbols p (s - p.at - 1)) (alphabet s symbols) → q ≡ passed e p c
       → prefixed (take q.at (set term p.at c)) (first_way e symbols (alphabet s symbols) q (s - q.at))
       ≡ prefixed (take p.at term) (first_way e symbols (alphabet s symbols) p (s - p.at))
   unfolding chosen passed
@@ -75,14 +74,14 @@ module _ (e s : ℕ) (symbols : List ℕ) (p : Spot) (term : List ℕ) (room : s
       let x : s - suc p.at ≡ s - p.at - 1 = omega arith in
       rw (z, x)
       (put-cell term c (first_way e symbols (alphabet s symbols) (passed e p c) (s - p.at - 1)) h room refl
-      ∙ ap (prefixed (take p.at term)) (sym (filled-choice (Cell c) h k)))
+      ∙ ap (prefixed (take p.at term)) (sym (filled-choice (Some c) h k)))
 
-  pub fill_none : p.at < s → Nothing ≡ first_of (can_go_on e symbols p (s - p.at - 1)) (alphabet s symbols)
-      → none ≡ prefixed (take p.at term) (first_way e symbols (alphabet s symbols) p (s - p.at))
+  pub fill_none : p.at < s → None ≡ first_of (can_go_on e symbols p (s - p.at - 1)) (alphabet s symbols)
+      → None ≡ prefixed (take p.at term) (first_way e symbols (alphabet s symbols) p (s - p.at))
   unfolding chosen prefixed
-  fill_none h k = rw (filled-choice Nothing h k)
+  fill_none h k = rw (filled-choice None h k)
 
-  pub fill_done : p.at ≤ s → s ≤ p.at → one (take s term) ≡ prefixed (take p.at term) (first_way e symbols (alphabet s symbols) p (s - p.at))
+  pub fill_done : p.at ≤ s → s ≤ p.at → Some (take s term) ≡ prefixed (take p.at term) (first_way e symbols (alphabet s symbols) p (s - p.at))
   unfolding first_way prefixed
   fill_done h l =
       let x : p.at ≡ s = omega arith in
@@ -91,15 +90,15 @@ module _ (e s : ℕ) (symbols : List ℕ) (p : Spot) (term : List ℕ) (room : s
 
 -- ---- advancing
 
-found_first : (t : List ℕ) (c : ℕ) (xs : List ℕ) (f g : Listed) → one t ≡ prefixed (xs ++ (c ∷ [])) f → one t ≡ prefixed xs (or_else (prefixed (c ∷ []) f) g)
+found_first : (t : List ℕ) (c : ℕ) (xs : List ℕ) (f g : Listed) → Some t ≡ prefixed (xs ++ (c ∷ [])) f → Some t ≡ prefixed xs (or_else (prefixed (c ∷ []) f) g)
 unfolding prefixed or_else
-found_first t c xs none g h = absurd (let z : ◌≡◌ {A = ℕ} 0 1 = cc in omega arith)
-found_first t c xs (one u) g h = h ∙ ap one (append_assoc xs (c ∷ []) u)
+found_first t c xs None g h = absurd (let z : ◌≡◌ {A = ℕ} 0 1 = cc in omega arith)
+found_first t c xs (Some u) g h = h ∙ ap Some (append_assoc xs (c ∷ []) u)
 
-none_found_lem : (xs : List ℕ) (f : Listed) → none ≡ prefixed xs f → f ≡ none
+none_found_lem : (xs : List ℕ) (f : Listed) → None ≡ prefixed xs f → f ≡ None
 unfolding prefixed
-none_found_lem xs none h = refl
-none_found_lem xs (one u) h = absurd (let z : ◌≡◌ {A = ℕ} 0 1 = cc in omega arith)
+none_found_lem xs None h = refl
+none_found_lem xs (Some u) h = absurd (let z : ◌≡◌ {A = ℕ} 0 1 = cc in omega arith)
 
 pub shorter : (n : ℕ) (xs ys : List ℕ) → take (suc n) ys ≡ take (suc n) xs → take n ys ≡ take n xs
 shorter n xs ys h = sym (take-take n (suc n) ys (omega arith)) ∙ ap (take n) h ∙ take-take n (suc n) xs (omega arith)
@@ -121,7 +120,7 @@ pub rest-length : (s at : ℕ) (term : List ℕ) → s ≤ length term → lengt
 rest-length s at term l = length-drop at (take s term) ∙ rw (length-take-le s term l)
 
 module _ (e s : ℕ) (symbols : List ℕ) (p : Spot) (term : List ℕ) (room : s ≤ length term) where
-  pub advance-end : s ≤ p.at → none ≡ prefixed (take p.at term) (next_way e symbols (alphabet s symbols) p (drop p.at (take s term)))
+  pub advance-end : s ≤ p.at → None ≡ prefixed (take p.at term) (next_way e symbols (alphabet s symbols) p (drop p.at (take s term)))
   unfolding next_way prefixed
   advance-end h =
       let l : length (take s term) ≤ p.at = omega (arith, length-take-le s term room) in
@@ -158,8 +157,8 @@ module _ (e s : ℕ) (symbols : List ℕ) (p : Spot) (term : List ℕ) (room : s
         rw (z, n)
 
     -- one is found after it
-    pub advance-found : (t : List ℕ) → one t ≡ prefixed (take q.at term) (next_way e symbols (alphabet s symbols) q (drop q.at (take s term)))
-        → one t ≡ prefixed (take p.at term) (next_way e symbols (alphabet s symbols) p (drop p.at (take s term)))
+    pub advance-found : (t : List ℕ) → Some t ≡ prefixed (take q.at term) (next_way e symbols (alphabet s symbols) q (drop q.at (take s term)))
+        → Some t ≡ prefixed (take p.at term) (next_way e symbols (alphabet s symbols) p (drop p.at (take s term)))
     unfolding passed
     advance-found t h =
         rw way
@@ -167,34 +166,33 @@ module _ (e s : ℕ) (symbols : List ℕ) (p : Spot) (term : List ℕ) (room : s
         (rw (after, take-suc term p.at 0 (omega arith), ← read) at h))
 
     -- none is
-    none-way : none ≡ prefixed (take q.at term) (next_way e symbols (alphabet s symbols) q (drop q.at (take s term)))
-        → (r : Choice) → (j : ℕ) → j ≡ rank (alphabet s symbols) c → r ≡ first_of (can_go_on e symbols p (s - p.at - 1)) (drop (j + 1) (alphabet s symbols))
+    none-way : None ≡ prefixed (take q.at term) (next_way e symbols (alphabet s symbols) q (drop q.at (take s term)))
+        → (r : Option ℕ) → (later : ℕ) → r ≡ first_of (can_go_on e symbols p (s - p.at - 1)) (drop later (alphabet s symbols)) → later ≡ suc (rank (alphabet s symbols) c)
         → next_way e symbols (alphabet s symbols) p (drop p.at (take s term)) ≡ chosen (λ d. first_way e symbols (alphabet s symbols) (passed e p d) (s - p.at - 1)) r
     unfolding passed later_than or_else prefixed
-    none-way h r j z k =
-        let f : next_way e symbols (alphabet s symbols) (passed e p c) (drop (suc p.at) (take s term)) ≡ none = none_found_lem (take (suc p.at) term) _ (rw after at h) in
-        let y : j + 1 ≡ suc (rank (alphabet s symbols) c) = omega arith in
-        way ∙ rw (f, k, y)
+    none-way h r later k z =
+        let f : next_way e symbols (alphabet s symbols) (passed e p c) (drop (suc p.at) (take s term)) ≡ None = none_found_lem (take (suc p.at) term) _ (rw after at h) in
+        way ∙ rw (f, k, z)
 
-    pub advance-none : none ≡ prefixed (take q.at term) (next_way e symbols (alphabet s symbols) q (drop q.at (take s term)))
-        → (j : ℕ) → j ≡ rank (alphabet s symbols) c → Nothing ≡ first_of (can_go_on e symbols p (s - p.at - 1)) (drop (j + 1) (alphabet s symbols))
-        → none ≡ prefixed (take p.at term) (next_way e symbols (alphabet s symbols) p (drop p.at (take s term)))
+    pub advance-none : None ≡ prefixed (take q.at term) (next_way e symbols (alphabet s symbols) q (drop q.at (take s term)))
+        → (later : ℕ) → None ≡ first_of (can_go_on e symbols p (s - p.at - 1)) (drop later (alphabet s symbols)) → later ≡ suc (rank (alphabet s symbols) c)
+        → None ≡ prefixed (take p.at term) (next_way e symbols (alphabet s symbols) p (drop p.at (take s term)))
     unfolding chosen prefixed
-    advance-none h j z k = rw (none-way h Nothing j z k)
+    advance-none h later k z = rw (none-way h None later k z)
 
-    pub advance-cell : none ≡ prefixed (take q.at term) (next_way e symbols (alphabet s symbols) q (drop q.at (take s term)))
-        → (j : ℕ) → j ≡ rank (alphabet s symbols) c → (d : ℕ) → Cell d ≡ first_of (can_go_on e symbols p (s - p.at - 1)) (drop (j + 1) (alphabet s symbols))
+    pub advance-cell : None ≡ prefixed (take q.at term) (next_way e symbols (alphabet s symbols) q (drop q.at (take s term)))
+        → (later d : ℕ) → Some d ≡ first_of (can_go_on e symbols p (s - p.at - 1)) (drop later (alphabet s symbols)) → later ≡ suc (rank (alphabet s symbols) c)
         → (u : Spot) → u ≡ passed e p d → (term' : List ℕ) → s ≤ length term' → take q.at term' ≡ take q.at term
         → (prefixed (take u.at (set term' p.at d)) (first_way e symbols (alphabet s symbols) u (s - u.at))
         ≡ prefixed (take p.at term) (next_way e symbols (alphabet s symbols) p (drop p.at (take s term))))
         × (take p.at (set term' p.at d) ≡ take p.at term)
     unfolding chosen passed
-    advance-cell h j z d k u b term' l t =
+    advance-cell h later d k z u b term' l t =
         let x : s - suc p.at ≡ s - p.at - 1 = omega arith in
         let w : take p.at term' ≡ take p.at term = shorter p.at term term' (rw after at t) in (
           rw (b, x)
               (put-cell e s symbols p term room term' d (first_way e symbols (alphabet s symbols) (passed e p d) (s - p.at - 1)) inside l w
-              ∙ ap (prefixed (take p.at term)) (sym (none-way h (Cell d) j z k))),
+              ∙ ap (prefixed (take p.at term)) (sym (none-way h (Some d) later k z))),
           take-set-le p.at term' p.at d (omega arith) ∙ w,
         )
 

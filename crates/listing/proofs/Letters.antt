@@ -10,7 +10,7 @@ use native.Mathlib.Numerals.{add-one}
 use lib.ListN.{length, take, drop, get_or, set, drop_of_length-le}
 use lib.Seq.{drop-cons, take-suc-set}
 use lib.Dec.{eqb, ltb}
-use borrow.Author.Tests.{ltb-true, ltb-false, lt-ltb, le-ltb, eqb-true, eqb-false, eq-eqb, ne_eqb, le-leb, lt-leb}
+use borrow.Author.Tests.{ltb-true, ltb-false, lt-ltb, eqb-true, eqb-false, eq-eqb, ne_eqb, le-leb, lt-leb}
 use Rattle.basis.specs.Choice.{pick}
 use Rattle.basis.proofs.Tests.{true-not-false}
 use Rattle.forms.specs.Cells.{payload, tag, variable}
@@ -46,22 +46,12 @@ module _ (e : ℕ) (symbols : List ℕ) (i : ℕ) where
     pub symbols-not : is_symbol e c ≡ false → false ≡ are_symbols e (drop i symbols)
     symbols-not h = rw (symbols-step, h)
 
-    module _ (is : is_symbol e c ≡ true) (r : ℕ) (found : r ≡ rank (drop (i + 1) symbols) c) where
-      pub symbols-again : r < length (drop (i + 1) symbols) → false ≡ are_symbols e (drop i symbols)
-      unfolding contains
-      symbols-again h =
-          let f : r ≡ rank (drop (suc i) symbols) c = rw add-one at found in
-          let l : r < length (drop (suc i) symbols) = rw add-one at h in
-          let k : rank (drop (suc i) symbols) c < length (drop (suc i) symbols) = omega arith in
-          rw (symbols-step, is, lt-ltb _ _ k)
+    module _ (is : is_symbol e c ≡ true) where
+      pub symbols-again : contains (drop (i + 1) symbols) c ≡ true → false ≡ are_symbols e (drop i symbols)
+      symbols-again h = let again : contains (drop (suc i) symbols) c ≡ true = rw add-one at h in rw (symbols-step, is, again)
 
-      pub symbols-later : length (drop (i + 1) symbols) ≤ r → are_symbols e (drop i symbols) ≡ are_symbols e (drop (i + 1) symbols)
-      unfolding contains
-      symbols-later h =
-          let f : r ≡ rank (drop (suc i) symbols) c = rw add-one at found in
-          let l : length (drop (suc i) symbols) ≤ r = rw add-one at h in
-          let k : length (drop (suc i) symbols) ≤ rank (drop (suc i) symbols) c = omega arith in
-          rw (symbols-step, is, le-ltb _ _ k, add-one)
+      pub symbols-later : contains (drop (i + 1) symbols) c ≡ false → are_symbols e (drop i symbols) ≡ are_symbols e (drop (i + 1) symbols)
+      symbols-later h = let once : contains (drop (suc i) symbols) c ≡ false = rw add-one at h in rw (symbols-step, is, once, add-one)
 
 -- ---- whether there is a list
 

@@ -1,4 +1,5 @@
 -- The strings that go on from a place, as the tree that their first cells make.
+use Rattle.std.specs.Prelude.{Option, Some}
 use Prim.Native.Nat.{ℕ, zero, suc}
 use mathlib.Core.Bool.{Bool, true, false}
 use mathlib.Core.List.{List, [], ◌∷◌, ◌++◌, map}
@@ -6,7 +7,6 @@ use mathlib.Core.Path.{◌≡◌, refl, sym, ap, ◌∙◌}
 use lib.Dec.{eqb}
 use Rattle.basis.specs.Choice.{pick}
 use Rattle.listing.specs.declared.Spot.{Spot}
-use Rattle.listing.specs.declared.Choice.TheVariants.{Cell}
 use Rattle.listing.specs.Listing.{cells_before, strings, filtered, Listed, first_in}
 use Rattle.listing.specs.Steps.{passed, allowed, any_cell, first_of, prefixed, or_else, chosen, goes}
 
@@ -100,8 +100,8 @@ head-map c (w ∷ ws) = refl
 module _ (ok fit : ℕ → Bool) (tails : ℕ → List (List ℕ)) (fits-full : (c : ℕ) → ok c ≡ true → full (tails c) ≡ fit c) where
   -- one block before the others
   head-one : (c : ℕ) (rest : Listed) (b : Bool) → ok c ≡ b → (ws : List (List ℕ)) → tails c ≡ ws → (d : Bool) → full ws ≡ d
-      → (b ≡ true → d ≡ fit c) → (q : Rattle.listing.specs.declared.Choice.Choice) → chosen (λ x. first_in (tails x)) q ≡ rest
-      → or_else (first_in (pick b (map (λ w. c ∷ w) ws) [])) rest ≡ chosen (λ x. first_in (tails x)) (pick (pick b (fit c) false) (Cell c) q)
+      → (b ≡ true → d ≡ fit c) → (q : Option ℕ) → chosen (λ x. first_in (tails x)) q ≡ rest
+      → or_else (first_in (pick b (map (λ w. c ∷ w) ws) [])) rest ≡ chosen (λ x. first_in (tails x)) (pick (pick b (fit c) false) (Some c) q)
   unfolding first_in or_else chosen prefixed full
   head-one c rest true o [] t d f g q r = rw (← g refl, ← f) (sym r)
   head-one c rest true o (w ∷ ws) t d f g q r = rw (← g refl, ← f, t)

@@ -1,4 +1,5 @@
 -- The turns of the code's loops: what is left to look at gives what the whole gives.
+use Rattle.std.specs.Prelude.{Some, None, Ok, Err}
 use Prim.Native.Nat.{ℕ, zero, suc, ◌+◌, ◌-◌, ◌≤◌, ◌<◌}
 use mathlib.Core.Bool.{Bool, true, false}
 use mathlib.Core.List.{List, ◌++◌}
@@ -12,12 +13,11 @@ use borrow.Author.Tests.{ltb-true, ltb-false, le-leb, lt-leb}
 use Rattle.basis.specs.Choice.{pick}
 use Rattle.basis.proofs.Cases.{by_cases}
 use Rattle.forms.specs.Cells.{tag}
+use Rattle.forms.specs.declared.Unwritten.TheVariants.{Short}
 use Rattle.listing.specs.declared.Spot.{Spot}
-use Rattle.listing.specs.declared.Choice.TheVariants.{Cell, Nothing}
-use Rattle.listing.specs.declared.Listing.TheVariants.{Cells, End, Short}
 use Rattle.listing.specs.Listing.{variable_cells, alphabet, offered, listing_out, listed_cells}
 use Rattle.listing.specs.Steps.{arguments_in, passed, allowed, leads_to, any_cell, sum_reached, sums_below, is_sum, terms_fit, can_go_on, first_of}
-use Rattle.listing.specs.Clauses.{letter_at, fits_by, goes_on_by, listed_result, Offers}
+use Rattle.listing.specs.Clauses.{letter_at, fits_by, goes_on_by, Offers}
 use Rattle.listing.proofs.Numbers.{variables-length}
 use Rattle.listing.proofs.Sums.{sums-get}
 
@@ -84,7 +84,7 @@ goes_by e symbols sums p n c h z = ap (λ (b : Bool). pick (allowed p c) b false
 module _ (e s : ℕ) (symbols : List ℕ) (sums : List Bool) (p : Spot) (n : ℕ) (few : n < 8) (sound : sums ≡ sums_below e symbols 8) where
   module _ (j c : ℕ) (inside : j < length symbols + s) (letter : c ≡ letter_at symbols j) where
     choice-step : (b : Bool) → goes_on_by e sums p n c ≡ b
-        → first_of (can_go_on e symbols p n) (drop j (alphabet s symbols)) ≡ pick b (Cell c) (first_of (can_go_on e symbols p n) (drop (suc j) (alphabet s symbols)))
+        → first_of (can_go_on e symbols p n) (drop j (alphabet s symbols)) ≡ pick b (Some c) (first_of (can_go_on e symbols p n) (drop (suc j) (alphabet s symbols)))
     unfolding first_of
     choice-step b q =
         let z : get_or (alphabet s symbols) j 0 ≡ c = alphabet-get s symbols j inside ∙ sym letter in
@@ -92,7 +92,7 @@ module _ (e s : ℕ) (symbols : List ℕ) (sums : List Bool) (p : Spot) (n : ℕ
         ap (first_of (can_go_on e symbols p n)) (drop-cons (alphabet s symbols) j 0 l)
         ∙ rw (z, sym (goes_by e symbols sums p n c few sound) ∙ q)
 
-    pub choice-here : goes_on_by e sums p n c ≡ true → Cell c ≡ first_of (can_go_on e symbols p n) (drop j (alphabet s symbols))
+    pub choice-here : goes_on_by e sums p n c ≡ true → Some c ≡ first_of (can_go_on e symbols p n) (drop j (alphabet s symbols))
     choice-here q = sym (choice-step true q)
 
     pub choice-later : goes_on_by e sums p n c ≡ false
@@ -100,7 +100,7 @@ module _ (e s : ℕ) (symbols : List ℕ) (sums : List Bool) (p : Spot) (n : ℕ
     choice-later q = rw add-one (choice-step false q)
 
 pub choice-none : (e s : ℕ) (symbols : List ℕ) (p : Spot) (n j : ℕ) → length symbols + s ≤ j
-    → Nothing ≡ first_of (can_go_on e symbols p n) (drop j (alphabet s symbols))
+    → None ≡ first_of (can_go_on e symbols p n) (drop j (alphabet s symbols))
 unfolding first_of
 choice-none e s symbols p n j h =
     let l : length (alphabet s symbols) ≤ j = omega (arith, alphabet-length s symbols) in
@@ -108,15 +108,15 @@ choice-none e s symbols p n j h =
 
 -- ---- what is offered
 
-module _ (found : Bool) (t : List ℕ) (s : ℕ) (out : List ℕ) where
-  pub offers-end : found ≡ false → Offers (listed_result found t) s out End out
-  unfolding listed_result offered listing_out
-  offers-end f = rw f (refl, refl)
+module _ (t : List ℕ) (s : ℕ) (out : List ℕ) where
+  pub offers-short : length out < s → Offers (Some t) s out (Err (Short s)) out
+  unfolding offered listing_out
+  offers-short l = rw (lt-leb s (length out) l) (refl, refl)
 
-  pub offers-short : found ≡ true → length out < s → Offers (listed_result found t) s out (Short s) out
-  unfolding listed_result offered listing_out
-  offers-short f l = rw (f, lt-leb s (length out) l) (refl, refl)
+  pub offers-cells : s ≤ length out → (out' : List ℕ) → out' ≡ t ++ drop s out → Offers (Some t) s out (Ok (Some s)) out'
+  unfolding offered listing_out listed_cells
+  offers-cells l out' w = rw (le-leb s (length out) l) (refl, w)
 
-  pub offers-cells : found ≡ true → s ≤ length out → (out' : List ℕ) → out' ≡ t ++ drop s out → Offers (listed_result found t) s out (Cells s) out'
-  unfolding listed_result offered listing_out listed_cells
-  offers-cells f l out' w = rw (f, le-leb s (length out) l) (refl, w)
+pub offers-end : (s : ℕ) (out : List ℕ) → Offers None s out (Ok None) out
+unfolding offered listing_out
+offers-end s out = (refl, refl)

@@ -1,4 +1,5 @@
 -- The steps find what stands in the list: the first string that goes on from a place, and the one after a string.
+use Rattle.std.specs.Prelude.{Some}
 use Prim.Native.Nat.{ℕ, zero, suc, ◌+◌, ◌-◌, ◌≤◌, ◌<◌}
 use mathlib.Core.Bool.{Bool, true, false}
 use mathlib.Core.List.Memᴰ
@@ -15,7 +16,6 @@ use Rattle.forms.specs.Cells.{kind, payload, tag, variable, shape_of}
 use Rattle.forms.specs.Compact.{same}
 use Rattle.forms.specs.Due.{arguments}
 use Rattle.listing.specs.declared.Spot.{Spot}
-use Rattle.listing.specs.declared.Choice.TheVariants.{Cell}
 use Rattle.listing.specs.Listing.{variable_cells, alphabet, is_symbol, contains, Listed, first_in, next_in}
 use Rattle.listing.specs.Steps.{arguments_in, passed, allowed, any_cell, is_sum, terms_fit, can_go_on, first_of, prefixed, chosen, first_way, later_than, next_way, goes, spelt}
 use Rattle.listing.proofs.Tests.{both, both_hold, same_test, some-cell, cell-some}
@@ -160,7 +160,7 @@ module _ (e s : ℕ) (symbols : List ℕ) (some-cells : 0 < s) (few-cells : s �
   chosen-same test f g h (c ∷ cs) = go (test c) refl (chosen-same test f g h cs)
     where
       go : (b : Bool) → test c ≡ b → chosen f (first_of test cs) ≡ chosen g (first_of test cs)
-          → chosen f (pick b (Cell c) (first_of test cs)) ≡ chosen g (pick b (Cell c) (first_of test cs))
+          → chosen f (pick b (Some c) (first_of test cs)) ≡ chosen g (pick b (Some c) (first_of test cs))
       go true q i = ap (prefixed (c ∷ [])) (h c q)
       go false q i = i
 

@@ -1,12 +1,11 @@
 -- What the inner functions of the code answer: the families that their contracts cite.
 use Rattle.std.specs.Prelude.{ℕ, ◌+◌, ◌-◌, ◌≤◌, Bool, true, false, List, ◌≡◌, length, take, drop, get_or, eqb, leb, ltb}
+use Rattle.std.specs.Prelude.{Option, None, Some}
 use Rattle.basis.specs.Choice.{pick}
 use Rattle.forms.specs.Cells.{payload, tag, variable, callable}
 use Rattle.forms.specs.Numbering.{rank}
 use Rattle.listing.specs.declared.Spot.{Spot}
-use Rattle.listing.specs.declared.Choice.{Choice}
-use Rattle.listing.specs.declared.Listing.{Listing}
-use Rattle.listing.specs.Listing.{listable, alphabet, contains, Listed, none, one, offered, listing_out}
+use Rattle.listing.specs.Listing.{listable, alphabet, contains, Listed, Listing, offered, listing_out}
 use Rattle.listing.specs.Steps.{passed, allowed, sums_below, can_go_on, first_of, prefixed, first_way, next_way}
 use Rattle.listing.specs.Steps.{goes, spelt}
 
@@ -35,8 +34,8 @@ goes_on_by e sums p n c = pick (allowed p c) (fits_by sums (passed e p c).due n)
 
 -- a term that was made in a buffer, or that there is none
 unfoldable pub listed_result : Bool → List ℕ → Listed
-listed_result true t = one t
-listed_result false t = none
+listed_result true t = Some t
+listed_result false t = None
 
 -- ---- contracts
 
@@ -48,7 +47,7 @@ pub record RoomToFill (e s : ℕ) (symbols : List ℕ) (sums : List Bool) (p : S
   pub few : p.due ≤ 8
 
 -- the first cell, from a number on, with which a term can go on
-abbrev pub ChoosesCell : (e s : ℕ) (symbols : List ℕ) (p : Spot) (from : ℕ) → Choice → Type 0
+abbrev pub ChoosesCell : (e s : ℕ) (symbols : List ℕ) (p : Spot) (from : ℕ) → Option ℕ → Type 0
 ChoosesCell e s symbols p from r = r ≡ first_of (can_go_on e symbols p (s - p.at - 1)) (drop from (alphabet s symbols))
 
 -- the cells before the place, and the first way to go on from it

@@ -1,7 +1,11 @@
 -- Every call of a small size (Q-12): the list, its first term and the term after a given one, and what the two calls
 -- answer. The list is all strings of s cells in order, of which those stay that are numbered terms to be called.
 use Rattle.std.specs.Prelude.{ℕ, zero, suc, Bool, true, false, List, [], ◌∷◌, ◌++◌, map, ◌≡◌, length, drop, leb, ltb}
+use Rattle.std.specs.Prelude.{Option, Some, None, Result, Ok, Err}
 use Rattle.basis.specs.Choice.{pick}
+use Rattle.basis.specs.declared.refusals.Refusal.TheVariants as refusal
+use Rattle.forms.specs.declared.Unwritten.{Unwritten}
+use Rattle.forms.specs.declared.Unwritten.TheVariants.{Refused, Short}
 use Rattle.forms.specs.declared.Shape.{Shape}
 use Rattle.forms.specs.declared.Shape.TheVariants.{Symbol, Pair, Illegal}
 use Rattle.forms.specs.Cells.{tag, variable, callable, shape_of, arity_of}
@@ -9,8 +13,6 @@ use Rattle.forms.specs.Terms.{are_terms}
 use Rattle.forms.specs.Numbering.{rank, numbered}
 use Rattle.forms.specs.Compact.{same}
 use Rattle.forms.specs.Converting.{converter_edition}
-use Rattle.listing.specs.declared.Listing.{Listing}
-use Rattle.listing.specs.declared.Listing.TheVariants.{Cells, End, Refused, Short}
 
 -- ---- the list
 
@@ -54,17 +56,16 @@ listing e s symbols = filtered (call_term e) (strings (alphabet s symbols) s)
 -- ---- its first term, and the one after a term
 
 -- a term, or the end
-pub data Listed : Type 0 where
-  none : Listed
-  one : List ℕ → Listed
+abbrev pub Listed : Type 0
+Listed = Option (List ℕ)
 
 unfoldable pub first_in : List (List ℕ) → Listed
-first_in [] = none
-first_in (t ∷ ts) = one t
+first_in [] = None
+first_in (t ∷ ts) = Some t
 
 -- the one that stands after t
 unfoldable pub next_in : List ℕ → List (List ℕ) → Listed
-next_in t [] = none
+next_in t [] = None
 next_in t (u ∷ us) = pick (same t u) (first_in us) (next_in t us)
 
 unfoldable pub holds : List ℕ → List (List ℕ) → Bool
@@ -105,32 +106,36 @@ listable e s symbols =
 
 -- ---- the two calls
 
+-- what they answer: the cells written, or the end of the list; or why neither
+abbrev pub Listing : Type 0
+Listing = Result (Option ℕ) Unwritten
+
 -- a term of s cells goes into an out of `room` cells, or is refused (12) with the need; the end needs no room
 unfoldable pub offered : Listed → ℕ → ℕ → Listing
-offered none s room = End
-offered (one t) s room = pick (leb s room) (Cells s) (Short s)
+offered None s room = Ok None
+offered (Some t) s room = pick (leb s room) (Ok (Some s)) (Err (Short s))
 
 -- the first term: refusals 23 and 12, in this order
 unfoldable pub first_answer : ℕ → ℕ → List ℕ → ℕ → Listing
-first_answer e s symbols room = pick (listable e s symbols) (offered (first_term e s symbols) s room) (Refused 23)
+first_answer e s symbols room =
+    pick (listable e s symbols) (offered (first_term e s symbols) s room) (Err (Refused refusal.Listing))
 
 -- the term after t: refusals 23, 24 and 12, in this order
 unfoldable pub after_answer : ℕ → ℕ → List ℕ → List ℕ → ℕ → Listing
 after_answer e s symbols t room =
     pick (listable e s symbols)
-    (pick (holds t (listing e s symbols)) (offered (term_after e s symbols t) s room) (Refused 24))
-    (Refused 23)
+    (pick (holds t (listing e s symbols)) (offered (term_after e s symbols t) s room) (Err (Refused refusal.Listed)))
+    (Err (Refused refusal.Listing))
 
 unfoldable pub listed_cells : Listed → List ℕ
-listed_cells none = []
-listed_cells (one t) = t
+listed_cells None = []
+listed_cells (Some t) = t
 
 -- what is in out afterwards: the term before what was there; without one, what was there
 unfoldable pub listing_out : Listing → Listed → List ℕ → List ℕ
-listing_out (Cells n) f out = listed_cells f ++ drop n out
-listing_out End f out = out
-listing_out (Refused r) f out = out
-listing_out (Short n) f out = out
+listing_out (Ok (Some n)) f out = listed_cells f ++ drop n out
+listing_out (Ok None) f out = out
+listing_out (Err e) f out = out
 
 -- ---- contracts
 

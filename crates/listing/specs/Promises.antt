@@ -1,14 +1,14 @@
 -- What is proved of the list, for all that may be given: nothing else stands in it and nothing is missed; its order;
 -- that the two calls give it term by term; that no two are variants; and that each may be called.
 use Rattle.std.specs.Prelude.{ℕ, zero, suc, ◌≤◌, ◌<◌, Bool, true, false, List, [], ◌∷◌, ◌≡◌, length, get_or, eqb, ltb}
+use Rattle.std.specs.Prelude.{Ok, None, Some}
 use Rattle.basis.specs.Choice.{pick}
-use Rattle.forms.specs.declared.Reading.TheVariants.{Form}
 use Rattle.forms.specs.Cells.{variable, arity_of}
 use Rattle.forms.specs.Terms.{are_terms}
 use Rattle.forms.specs.Numbering.{rank, met, numbered}
 use Rattle.forms.specs.Stored.{StoredForm}
-use Rattle.forms.specs.Converting.{reading}
-use Rattle.listing.specs.Listing.{alphabet, begins, listing, Listed, none, one, holds, contains, first_term}
+use Rattle.forms.specs.Converting.{reading, formed}
+use Rattle.listing.specs.Listing.{alphabet, begins, listing, Listed, holds, contains, first_term}
 use Rattle.listing.specs.Listing.{term_after, listable}
 
 -- a numbered term of exactly s cells that begins with an atom or a functor, over the symbols and variables
@@ -28,8 +28,8 @@ stands_earlier cells (x ∷ xs) (y ∷ ys) = pick (eqb x y) (stands_earlier cell
 -- the terms that follow from f on, one call after another, up to n of them
 unfoldable pub walked : ℕ → ℕ → List ℕ → ℕ → Listed → List (List ℕ)
 walked e s symbols zero f = []
-walked e s symbols (suc n) none = []
-walked e s symbols (suc n) (one t) = t ∷ walked e s symbols n (term_after e s symbols t)
+walked e s symbols (suc n) None = []
+walked e s symbols (suc n) (Some t) = t ∷ walked e s symbols n (term_after e s symbols t)
 
 module _ (e s : ℕ) (symbols : List ℕ) where
   -- what stands in the list belongs there, and what belongs there stands in it
@@ -62,7 +62,7 @@ module _ (e s : ℕ) (symbols : List ℕ) where
   -- and it begins as a call does
   abbrev pub ListCallable : Type 0
   ListCallable = (t : List ℕ) → holds t (listing e s symbols) ≡ true
-      → ((w : StoredForm) → reading (arity_of e) w 1 t ≡ Form (length (w.form t)) (length (met [] t)))
+      → ((w : StoredForm) → reading (arity_of e) w 1 t ≡ Ok (formed (length (w.form t)) (length (met [] t))))
       × (begins t ≡ true)
 
 -- all of it, wherever there is a list

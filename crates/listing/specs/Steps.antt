@@ -1,15 +1,13 @@
 -- The steps by which the code finds the first term and the one after a term without making the list: what may stand at
 -- a place, whether a term can still be ended there, the first cell that will do, and the filling from a place on.
 use Rattle.std.specs.Prelude.{ℕ, zero, suc, ◌-◌, Bool, true, false, List, [], ◌∷◌, ◌++◌, length, drop, get_or, eqb, leb}
-use Rattle.std.specs.Prelude.{ltb}
+use Rattle.std.specs.Prelude.{ltb, Option, None, Some}
 use Rattle.basis.specs.Choice.{pick}
 use Rattle.forms.specs.Cells.{payload, variable, callable, shape_of, arity_of}
 use Rattle.forms.specs.Numbering.{rank}
 use Rattle.forms.specs.Due.{arguments, due_after}
 use Rattle.listing.specs.declared.Spot.{Spot}
-use Rattle.listing.specs.declared.Choice.{Choice}
-use Rattle.listing.specs.declared.Choice.TheVariants.{Cell, Nothing}
-use Rattle.listing.specs.Listing.{alphabet, contains, Listed, none, one}
+use Rattle.listing.specs.Listing.{alphabet, contains, Listed}
 
 -- the arity of a cell in the edition
 abbrev pub arguments_in : ℕ → ℕ → ℕ
@@ -79,27 +77,27 @@ can_go_on e symbols p n c = pick (allowed p c) (terms_fit e symbols (passed e p 
 
 -- ---- the first cell that will do, and the filling
 
-unfoldable pub first_of : (ℕ → Bool) → List ℕ → Choice
-first_of test [] = Nothing
-first_of test (c ∷ cs) = pick (test c) (Cell c) (first_of test cs)
+unfoldable pub first_of : (ℕ → Bool) → List ℕ → Option ℕ
+first_of test [] = None
+first_of test (c ∷ cs) = pick (test c) (Some c) (first_of test cs)
 
 -- these cells before a term
 unfoldable pub prefixed : List ℕ → Listed → Listed
-prefixed cs none = none
-prefixed cs (one t) = one (cs ++ t)
+prefixed cs None = None
+prefixed cs (Some t) = Some (cs ++ t)
 
 unfoldable pub or_else : Listed → Listed → Listed
-or_else none g = g
-or_else (one t) g = one t
+or_else None g = g
+or_else (Some t) g = Some t
 
 -- what is chosen stands before what `rest` gives after it
-unfoldable pub chosen : (ℕ → Listed) → Choice → Listed
-chosen rest (Cell c) = prefixed (c ∷ []) (rest c)
-chosen rest Nothing = none
+unfoldable pub chosen : (ℕ → Listed) → Option ℕ → Listed
+chosen rest (Some c) = prefixed (c ∷ []) (rest c)
+chosen rest None = None
 
 -- the first way to go on with n cells
 unfoldable pub first_way : ℕ → List ℕ → List ℕ → Spot → ℕ → Listed
-first_way e symbols cells p zero = one []
+first_way e symbols cells p zero = Some []
 first_way e symbols cells p (suc n) =
     chosen (λ c. first_way e symbols cells (passed e p c) n) (first_of (can_go_on e symbols p n) cells)
 
@@ -109,7 +107,7 @@ later_than cells c = drop (suc (rank cells c)) cells
 
 -- the next way after these cells: a later end, or a later cell here
 unfoldable pub next_way : ℕ → List ℕ → List ℕ → Spot → List ℕ → Listed
-next_way e symbols cells p [] = none
+next_way e symbols cells p [] = None
 next_way e symbols cells p (c ∷ cs) =
     or_else (prefixed (c ∷ []) (next_way e symbols cells (passed e p c) cs))
     (chosen (λ d. first_way e symbols cells (passed e p d) (length cs))

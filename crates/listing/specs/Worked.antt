@@ -1,11 +1,12 @@
 -- Lists worked out, and what the two calls answer by them.
-use Rattle.std.specs.Prelude.{ℕ, ◌+◌, ◌*◌, List, [], ◌∷◌, ◌≡◌, refl}
+use Rattle.std.specs.Prelude.{ℕ, ◌+◌, ◌*◌, List, [], ◌∷◌, ◌≡◌, refl, Some, None, Ok, Err}
+use Rattle.basis.specs.declared.refusals.Refusal.TheVariants as refusal
+use Rattle.forms.specs.declared.Unwritten.TheVariants.{Refused, Short}
 use Rattle.forms.specs.Cells.{tag, nil, PAIR, callable, shape_of, arity_of}
 use Rattle.forms.specs.Terms.{pairs, every, applied, paired, begun, reads, are_terms}
 use Rattle.forms.specs.Numbering.{rank, seen, met, renamed, numbered}
 use Rattle.forms.specs.Compact.{same}
 use Rattle.forms.specs.Converting.{converter_edition}
-use Rattle.listing.specs.declared.Listing.TheVariants.{Cells, End, Refused, Short}
 use Rattle.listing.specs.Listing.{variable_cells, alphabet, cells_before, strings, filtered, begins, call_term}
 use Rattle.listing.specs.Listing.{listing, first_in, next_in, holds, first_term, term_after, legal_shape, is_symbol}
 use Rattle.listing.specs.Listing.{contains, are_symbols, listable, offered, first_answer, after_answer, listed_cells}
@@ -39,28 +40,28 @@ WorkedLists =
     -- of one cell: the atoms given
     × (listing 2 1 (atom 9 ∷ int 5 ∷ fun 2 1 ∷ nil ∷ []) ≡ (atom 9 ∷ []) ∷ (nil ∷ []) ∷ [])
     -- the first term, the one after a term, and the end, which needs no room
-    × (first_answer 1 3 two 4 ≡ Cells 3)
+    × (first_answer 1 3 two 4 ≡ Ok (Some 3))
     × (listing_out (first_answer 1 3 two 4) (first_term 1 3 two) (1 ∷ 2 ∷ 3 ∷ 4 ∷ [])
     ≡ fun 1 2 ∷ atom 7 ∷ atom 7 ∷ 4 ∷ [])
     × (listed_cells (term_after 1 3 two (fun 1 2 ∷ atom 7 ∷ var 0 ∷ [])) ≡ fun 1 2 ∷ var 0 ∷ atom 7 ∷ [])
-    × (after_answer 1 3 two (fun 1 2 ∷ var 0 ∷ var 1 ∷ []) 0 ≡ End)
-    × (first_answer 1 2 two 0 ≡ End)
-    × (first_answer 1 1 [] 0 ≡ End)
+    × (after_answer 1 3 two (fun 1 2 ∷ var 0 ∷ var 1 ∷ []) 0 ≡ Ok None)
+    × (first_answer 1 2 two 0 ≡ Ok None)
+    × (first_answer 1 1 [] 0 ≡ Ok None)
 
 abbrev pub WorkedRefusals : Type 0
 WorkedRefusals =
     -- 12 with the need; 24 before it: a variable out of its number, and another length
-    (first_answer 1 3 two 2 ≡ Short 3)
-    × (after_answer 1 3 two (fun 1 2 ∷ var 1 ∷ var 0 ∷ []) 0 ≡ Refused 24)
-    × (after_answer 1 3 two (atom 7 ∷ []) 0 ≡ Refused 24)
+    (first_answer 1 3 two 2 ≡ Err (Short 3))
+    × (after_answer 1 3 two (fun 1 2 ∷ var 1 ∷ var 0 ∷ []) 0 ≡ Err (Refused refusal.Listed))
+    × (after_answer 1 3 two (atom 7 ∷ []) 0 ≡ Err (Refused refusal.Listed))
     -- 23 before 24: the edition, the size, a symbol twice, a variable, arity 0, a pair with a payload
-    × (after_answer 3 3 two (atom 7 ∷ []) 0 ≡ Refused 23)
-    × (first_answer 1 0 two 9 ≡ Refused 23)
-    × (first_answer 1 9 two 9 ≡ Refused 23)
-    × (first_answer 1 3 (atom 7 ∷ atom 7 ∷ []) 9 ≡ Refused 23)
-    × (first_answer 1 3 (var 0 ∷ []) 9 ≡ Refused 23)
-    × (first_answer 1 3 (fun 1 0 ∷ []) 9 ≡ Refused 23)
-    × (first_answer 2 3 ((PAIR + 1) ∷ []) 9 ≡ Refused 23)
+    × (after_answer 3 3 two (atom 7 ∷ []) 0 ≡ Err (Refused refusal.Listing))
+    × (first_answer 1 0 two 9 ≡ Err (Refused refusal.Listing))
+    × (first_answer 1 9 two 9 ≡ Err (Refused refusal.Listing))
+    × (first_answer 1 3 (atom 7 ∷ atom 7 ∷ []) 9 ≡ Err (Refused refusal.Listing))
+    × (first_answer 1 3 (var 0 ∷ []) 9 ≡ Err (Refused refusal.Listing))
+    × (first_answer 1 3 (fun 1 0 ∷ []) 9 ≡ Err (Refused refusal.Listing))
+    × (first_answer 2 3 ((PAIR + 1) ∷ []) 9 ≡ Err (Refused refusal.Listing))
 
 pub worked : WorkedLists
 unfolding listing alphabet variable_cells strings cells_before filtered call_term begins callable first_in next_in holds

@@ -2,27 +2,16 @@
 // of at most eight cells, and which of the numbers below eight are sums of the symbols' arities.
 #![tactic(auto)]
 
-ghost use Rattle.std.specs.Prelude.{◌≡◌, true, ◌+◌, ◌-◌, ◌≤◌, ◌<◌, length, take, drop};
-ghost use Rattle.forms.specs.Numbering.{rank};
+ghost use Rattle.std.specs.Prelude.{◌≡◌, true, ◌+◌, ◌-◌, ◌≤◌, ◌<◌, ◌==◌, length, take, drop, position};
 ghost use Rattle.listing.specs.Listing.{is_symbol, are_symbols, listable, GivesFirst, GivesAfter};
 ghost use Rattle.listing.specs.Steps.{start, known_after, allowed, passed, leads_to, sum_reached, sums_below};
 ghost use Rattle.listing.specs.Steps.{is_listed};
 ghost use Rattle.listing.specs.Clauses.{may_begin, letter_at, place_in, is_letter, fits_by, goes_on_by};
-ghost use Rattle.listing.specs.Clauses.{listed_result, ChoosesCell, RoomToFill, FillsFrom, RoomToAdvance};
-ghost use Rattle.listing.specs.Clauses.{AdvancesFrom, Offers};
+ghost use Rattle.listing.specs.Clauses.{ChoosesCell, RoomToFill, FillsFrom, RoomToAdvance, AdvancesFrom, Offers};
 
 use basis::limits::{MOST_LISTED, MOST_SYMBOLS};
-use basis::refusals::{LISTED, LISTING};
-
-// What a call of the listing answers: the cells written, the end of the list, the number of a refusal, or, for refusal
-// 12, the cells that out would need.
-#[derive(Clone, Copy)]
-pub enum Listing {
-    Cells(usize),
-    End,
-    Refused(u32),
-    Short(usize),
-}
+use basis::refusals::Refusal;
+use forms::Unwritten;
 
 // A place of a term: how many cells stand before it, how many variables are known there, and how many terms are due.
 #[derive(Clone, Copy)]
@@ -32,25 +21,13 @@ struct Spot {
     due: usize,
 }
 
-// The cell to go on with, or that there is none.
-#[derive(Clone, Copy)]
-enum Choice {
-    Cell(u32),
-    Nothing,
-}
-
 // ---- what is given
 
-// The place of c among the symbols, or their number.
-fn find(symbols: &[u32], c: u32) -> usize
-    ensures { (result ≡ rank symbols.now c) × (result ≤ length symbols.now) }
+// The place of c among the symbols.
+fn find(symbols: &[u32], c: u32) -> Option<usize>
+    ensures { result ≡ position (λ symbol. symbol == c) symbols.now }
 {
-    for (i, &symbol) in symbols.iter().enumerate() {
-        if symbol == c {
-            return i;
-        }
-    }
-    symbols.len()
+    symbols.iter().position(|symbol| *symbol == c)
 }
 
 // Whether a cell is an atom, an integer, a functor or the pair, legal in the edition.
@@ -65,8 +42,7 @@ fn are_symbols(symbols: &[u32], edition: u32) -> bool
     ensures { result ≡ are_symbols edition symbols.now }
 {
     for (i, &c) in symbols.iter().enumerate() {
-        let later = &symbols[i + 1..];
-        if !is_symbol(c, edition) || find(later, c) < later.len() {
+        if !is_symbol(c, edition) || symbols[i + 1..].contains(&c) {
             return false;
         }
     }
@@ -159,7 +135,7 @@ fn place_of(symbols: &[u32], c: u32) -> usize
     if forms::is_variable(c) {
         return symbols.len() + forms::payload_of(c);
     }
-    find(symbols, c)
+    find(symbols, c).unwrap_or(symbols.len())
 }
 
 // Whether c is one of them, where terms have s cells.
@@ -169,7 +145,7 @@ fn is_letter(symbols: &[u32], s: usize, c: u32) -> bool
     if forms::is_variable(c) {
         return forms::payload_of(c) < s;
     }
-    find(symbols, c) < symbols.len()
+    symbols.contains(&c)
 }
 
 // Whether a term stands in the list.
@@ -257,7 +233,7 @@ fn choose(
     s: usize,
     sums: &[bool; MOST_LISTED],
     edition: u32,
-) -> Choice
+) -> Option<u32>
     requires { RoomToFill edition s symbols.now sums.now place × (place.at < s) }
     ensures { ChoosesCell edition s symbols.now place from result }
 {
@@ -265,13 +241,14 @@ fn choose(
     for j in from..symbols.len() + s {
         let c = letter(symbols, j);
         if goes_on(c, place, left, sums, edition) {
-            return Choice::Cell(c);
+            return Some(c);
         }
     }
-    Choice::Nothing
+    None
 }
 
 // Fills the term from a place on with the first cells that end it. False where there are none.
+// A bool, as the term is changed in place and an Option would hold nothing; so is that of `advance`.
 fn fill(
     symbols: &[u32],
     s: usize,
@@ -285,7 +262,7 @@ fn fill(
 {
     let mut place = from;
     for at in from.at..s {
-        let Choice::Cell(c) = choose(symbols, 0, place, s, sums, edition) else {
+        let Some(c) = choose(symbols, 0, place, s, sums, edition) else {
             return false;
         };
         term[at] = c;
@@ -318,7 +295,7 @@ fn advance(
     let later = place_of(symbols, c) + 1;
     // The place is written anew, so that its own copy is never lent and stays in registers.
     let here = Spot { at, ..place };
-    let Choice::Cell(d) = choose(symbols, later, here, s, sums, edition) else {
+    let Some(d) = choose(symbols, later, here, s, sums, edition) else {
         return false;
     };
     term[at] = d;
@@ -326,53 +303,59 @@ fn advance(
     fill(symbols, s, sums, edition, term, next)
 }
 
-// Writes the term that was found, if it fits.
-fn offer(found: bool, term: &[u32; MOST_LISTED], s: usize, out: &mut [u32]) -> Listing
+// Writes the term of s cells that was found, if it fits.
+fn offer(term: &[u32; MOST_LISTED], s: usize, out: &mut [u32]) -> Result<Option<usize>, Unwritten>
     requires { s ≤ 8 }
-    ensures { Offers (listed_result found (take s term.now)) s out.old result out.new }
+    ensures { Offers (Some (take s term.now)) s out.old result out.new }
 {
-    if !found {
-        return Listing::End;
-    }
     if out.len() < s {
-        return Listing::Short(s);
+        return Err(Unwritten::Short(s));
     }
     convert::copy(term, s, out);
-    Listing::Cells(s)
+    Ok(Some(s))
 }
 
-// The first call of s cells over the symbols, in an edition.
-pub fn first_term(symbols: &[u32], s: usize, out: &mut [u32], edition: u32) -> Listing
+// The first call of s cells over the symbols, in an edition: the cells written, or None at the end of the list.
+pub fn first_term(
+    symbols: &[u32],
+    s: usize,
+    out: &mut [u32],
+    edition: u32,
+) -> Result<Option<usize>, Unwritten>
     ensures { GivesFirst edition s symbols.now out.old result out.new }
 {
     if !is_listable(symbols, s, edition) {
-        return Listing::Refused(LISTING);
+        return Err(Unwritten::Refused(Refusal::Listing));
     }
     let sums = sums_of(symbols, edition);
     let mut term = [0; MOST_LISTED];
-    let found = fill(symbols, s, &sums, edition, &mut term, beginning());
-    offer(found, &term, s, out)
+    if !fill(symbols, s, &sums, edition, &mut term, beginning()) {
+        return Ok(None);
+    }
+    offer(&term, s, out)
 }
 
-// The call after a given one in the list of those of s cells over the symbols, in an edition.
+// The call after a given one in the list of those of s cells over the symbols, in an edition; None behind the last.
 pub fn term_after(
     symbols: &[u32],
     s: usize,
     given: &[u32],
     out: &mut [u32],
     edition: u32,
-) -> Listing
+) -> Result<Option<usize>, Unwritten>
     ensures { GivesAfter edition s symbols.now given.now out.old result out.new }
 {
     if !is_listable(symbols, s, edition) {
-        return Listing::Refused(LISTING);
+        return Err(Unwritten::Refused(Refusal::Listing));
     }
     if !is_listed(symbols, s, given, edition) {
-        return Listing::Refused(LISTED);
+        return Err(Unwritten::Refused(Refusal::Listed));
     }
     let sums = sums_of(symbols, edition);
     let mut term = [0; MOST_LISTED];
     convert::copy(given, s, &mut term);
-    let found = advance(symbols, s, &sums, edition, &mut term, beginning());
-    offer(found, &term, s, out)
+    if !advance(symbols, s, &sums, edition, &mut term, beginning()) {
+        return Ok(None);
+    }
+    offer(&term, s, out)
 }

@@ -1,11 +1,12 @@
 -- What the exports return, and every byte of out afterwards, for every input and every out.
-use Rattle.std.specs.Prelude.{ℕ, ◌+◌, ◌*◌, ◌^◌, ◌/◌, ◌%◌, ◌≤◌, ◌<◌, List, ◌++◌, ◌≡◌, length, take, drop, eqb}
+use Rattle.std.specs.Prelude.{ℕ, ◌+◌, ◌*◌, ◌^◌, ◌/◌, ◌%◌, ◌≤◌, ◌<◌, List, ◌++◌, ◌≡◌, length, take, drop, eqb, Ok, Err}
 use Rattle.basis.specs.Choice.{pick}
-use Rattle.forms.specs.declared.Answer.{Answer}
-use Rattle.forms.specs.declared.Answer.TheVariants.{Cells, Refused, Short}
+use Rattle.basis.specs.Refusals.{number_of}
+use Rattle.basis.specs.declared.refusals.Refusal.TheVariants as refusal
+use Rattle.forms.specs.declared.Unwritten.TheVariants.{Refused, Short}
 use Rattle.forms.specs.Cells.{arity_of}
 use Rattle.forms.specs.Stored.{StoredForm, compact_stored, stored_of}
-use Rattle.forms.specs.Converting.{fitting, compacting, expanding, converter_edition}
+use Rattle.forms.specs.Converting.{Answer, fitting, compacting, expanding, converter_edition}
 use Rattle.marshalling.specs.Bytes.{cells_of, bytes_of}
 
 -- what a call returns, and the bytes of out after it
@@ -14,15 +15,14 @@ pub data Outcome : Type 0 where
 
 -- an answer as a number: the cells written, or 2^31 + the refusal; the need of 12 is not given
 unfoldable pub returned : Answer → ℕ
-returned (Cells n) = n
-returned (Refused r) = 2 ^ 31 + r
-returned (Short n) = 2 ^ 31 + 12
+returned (Ok n) = n
+returned (Err (Refused r)) = 2 ^ 31 + number_of r
+returned (Err (Short n)) = 2 ^ 31 + 12
 
 -- the bytes of out: those of the cells written before what was there; refused, what was there
 unfoldable pub written_bytes : Answer → List ℕ → List ℕ → List ℕ
-written_bytes (Cells n) cells out = bytes_of cells ++ drop (4 * n) out
-written_bytes (Refused r) cells out = out
-written_bytes (Short n) cells out = out
+written_bytes (Ok n) cells out = bytes_of cells ++ drop (4 * n) out
+written_bytes (Err e) cells out = out
 
 -- the outcome of an answer, where `cells` are those to be written
 unfoldable pub outcome_of : Answer → List ℕ → List ℕ → Outcome
@@ -31,7 +31,8 @@ outcome_of a cells out = outcome (returned a) (written_bytes a cells out)
 -- a converter's answer over bytes: a byte count of input not divisible by 4 is 3, before all else;
 -- only whole cells of out are room
 unfoldable pub exported : (List ℕ → ℕ → Answer) → List ℕ → List ℕ → Answer
-exported converter input out = pick (eqb (length input % 4) 0) (converter (cells_of input) (length out / 4)) (Refused 3)
+exported converter input out =
+    pick (eqb (length input % 4) 0) (converter (cells_of input) (length out / 4)) (Err (Refused refusal.Term))
 
 -- `compact_bytes` of one term
 unfoldable pub compact_bytes : (ℕ → ℕ) → StoredForm → List ℕ → List ℕ → Outcome

@@ -4,20 +4,31 @@
 
 ghost use Rattle.std.specs.Prelude.{◌≡◌, ◌++◌, ◌*◌, ◌^◌, ◌/◌, ◌≤◌, ◌<◌, length, take, drop};
 ghost use Rattle.marshalling.specs.Bytes.{cells_of, bytes_of};
-ghost use Rattle.marshalling.specs.Export.{CompactRoom, ExpandRoom, Delivers};
+ghost use Rattle.marshalling.specs.Export.{CompactRoom, ExpandRoom, Delivers, returned};
 ghost use Rattle.marshalling.specs.Export.{CompactsBytes, CompactsBytesIn, ExpandsBytes, ExpandsBytesIn};
 
 use basis::limits::{MOST_CELLS, MOST_TOKENS};
-use basis::refusals::{FORM, HEADER, LENGTH, OUT, TERM};
+use basis::refusals::Refusal;
 use convert::buffers::{
     FEW_CELLS, FEW_TOKENS, FORM_OF_FEW, FORM_OF_MOST, FORM_OF_SOME, MANY_TOKENS, SOME_CELLS,
     SOME_TOKENS, TERMS_OF_FEW, TERMS_OF_MANY, TERMS_OF_MOST, TERMS_OF_SOME, cells_rung,
     tokens_rung,
 };
-use forms::{Loading, Reading};
+use forms::Unwritten;
 
 // A refusal is returned as 2^31 plus its number.
 const REFUSED: u32 = 2147483648;
+
+// An answer as the one number that the C interface returns; the need of 12 is not given.
+fn returned(answer: Result<u32, Unwritten>) -> u32
+    ensures { result ≡ returned answer }
+{
+    match answer {
+        Ok(n) => n,
+        Err(Unwritten::Refused(refusal)) => REFUSED + u32::from(refusal),
+        Err(Unwritten::Short(_)) => REFUSED + u32::from(Refusal::Out),
+    }
+}
 
 // Reads the n cells of bytes into the start of cells.
 fn decode(bytes: &[u8], n: usize, cells: &mut [u32])
@@ -44,17 +55,17 @@ fn encode(cells: &[u32], n: usize, out: &mut [u8])
     }
 }
 
-// Writes the first n cells to out if it has room for them, and returns n; bytes past its last whole
+// Writes the first n cells to out if it has room for them, and answers n; bytes past its last whole
 // cell are no room. A count below 2^31 is told from a refusal.
-fn deliver(cells: &[u32], n: usize, out: &mut [u8]) -> u32
+fn deliver(cells: &[u32], n: usize, out: &mut [u8]) -> Result<u32, Unwritten>
     requires { (n ≤ length cells.now) × (n < 2 ^ 31) }
-    ensures { Delivers cells.now n out.old result out.new }
+    ensures { Delivers cells.now n out.old (returned result) out.new }
 {
     if out.len() / 4 < n {
-        return REFUSED + OUT;
+        return Err(Unwritten::Short(n));
     }
     encode(cells, n, out);
-    n as u32
+    Ok(n as u32)
 }
 
 // Compacts the n cells of input, with buffers that are long enough for them: their form has at most three tokens for
@@ -67,26 +78,23 @@ fn compact_with(
     form: &mut [u32],
     out: &mut [u8],
     edition: u32,
-) -> u32
+) -> Result<u32, Unwritten>
     requires { CompactRoom n input.now cells.old vars.old form.old }
-    ensures { CompactsBytes edition input.now out.old result out.new }
+    ensures { CompactsBytes edition input.now out.old (returned result) out.new }
 {
     decode(input, n, cells);
-    let read = convert::read_terms(&cells[..n], 1, vars, form, edition);
-    let Reading::Form(k, _) = read else {
-        return REFUSED + forms::refused_by(read);
-    };
-    deliver(form, k, out)
+    let read = convert::read_terms(&cells[..n], 1, vars, form, edition)?;
+    deliver(form, read.tokens, out)
 }
 
 // Compacts one term. Short terms get short buffers, since making a buffer clears it; over 256 cells
 // nothing is read.
-fn compact_input(input: &[u8], out: &mut [u8], edition: u32) -> u32
-    ensures { CompactsBytes edition input.now out.old result out.new }
+fn compact_input(input: &[u8], out: &mut [u8], edition: u32) -> Result<u32, Unwritten>
+    ensures { CompactsBytes edition input.now out.old (returned result) out.new }
 {
     let bytes = input.len();
     if bytes % 4 != 0 {
-        return REFUSED + TERM;
+        return Err(Unwritten::Refused(Refusal::Term));
     }
     let n = bytes / 4;
     let rung = cells_rung(n);
@@ -108,7 +116,7 @@ fn compact_input(input: &[u8], out: &mut [u8], edition: u32) -> u32
         let mut form = [0u32; FORM_OF_MOST];
         return compact_with(input, n, &mut cells, &mut vars, &mut form, out, edition);
     }
-    REFUSED + LENGTH
+    Err(Unwritten::Refused(Refusal::Length))
 }
 
 // Expands the n cells of input, with buffers that are long enough for them: each token writes at most
@@ -120,25 +128,25 @@ fn expand_with(
     cells: &mut [u32],
     out: &mut [u8],
     edition: u32,
-) -> u32
+) -> Result<u32, Unwritten>
     requires { ExpandRoom n input.now form.old cells.old }
-    ensures { ExpandsBytes edition input.now out.old result out.new }
+    ensures { ExpandsBytes edition input.now out.old (returned result) out.new }
 {
     decode(input, n, form);
-    let Loading::Terms(k) = convert::load_terms(&form[..n], 1, cells, edition) else {
-        return REFUSED + FORM;
+    let Some(k) = convert::load_terms(&form[..n], 1, cells, edition) else {
+        return Err(Unwritten::Refused(Refusal::Form));
     };
     deliver(cells, k, out)
 }
 
 // Expands the form of one term. Short forms get short buffers, since making a buffer clears it; no
 // legal form is over 383 tokens, so nothing longer is read.
-fn expand_input(input: &[u8], out: &mut [u8], edition: u32) -> u32
-    ensures { ExpandsBytes edition input.now out.old result out.new }
+fn expand_input(input: &[u8], out: &mut [u8], edition: u32) -> Result<u32, Unwritten>
+    ensures { ExpandsBytes edition input.now out.old (returned result) out.new }
 {
     let bytes = input.len();
     if bytes % 4 != 0 {
-        return REFUSED + TERM;
+        return Err(Unwritten::Refused(Refusal::Term));
     }
     let n = bytes / 4;
     let rung = tokens_rung(n);
@@ -162,7 +170,7 @@ fn expand_input(input: &[u8], out: &mut [u8], edition: u32) -> u32
         let mut cells = [0u32; TERMS_OF_MOST];
         return expand_with(input, n, &mut form, &mut cells, out, edition);
     }
-    REFUSED + FORM
+    Err(Unwritten::Refused(Refusal::Form))
 }
 
 // Compacts one term in the edition of this number.
@@ -170,9 +178,9 @@ pub fn compact_bytes(input: &[u8], out: &mut [u8], edition: u32) -> u32
     ensures { CompactsBytesIn edition input.now out.old result out.new }
 {
     if forms::is_converter_edition(edition) {
-        return compact_input(input, out, edition);
+        return returned(compact_input(input, out, edition));
     }
-    REFUSED + HEADER
+    returned(Err(Unwritten::Refused(Refusal::Header)))
 }
 
 // Expands the form of one term in the edition of this number.
@@ -180,7 +188,7 @@ pub fn expand_bytes(input: &[u8], out: &mut [u8], edition: u32) -> u32
     ensures { ExpandsBytesIn edition input.now out.old result out.new }
 {
     if forms::is_converter_edition(edition) {
-        return expand_input(input, out, edition);
+        return returned(expand_input(input, out, edition));
     }
-    REFUSED + HEADER
+    returned(Err(Unwritten::Refused(Refusal::Header)))
 }

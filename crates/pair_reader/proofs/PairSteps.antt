@@ -1,4 +1,7 @@
 -- One law for each branch of the term reader and the list reader of pair form.
+use Rattle.forms.specs.Places.{placed}
+use Rattle.forms.specs.declared.Place.{Place}
+use Rattle.std.specs.Prelude.{None, Option, Some}
 use Prim.Native.Nat.{ℕ, suc, zero, ◌+◌, ◌*◌, ◌-◌, ◌≤◌, ◌<◌}
 use mathlib.Core.List.{List, [], ◌∷◌, ◌++◌, append-nil}
 use mathlib.Core.Bool.{Bool, true, false}
@@ -12,8 +15,6 @@ use lib.Dec.{leb}
 use borrow.Author.Tests.{ne_eqb, leb-true, leb-false}
 use Rattle.forms.specs.declared.Shape.{Shape}
 use Rattle.forms.specs.declared.Shape.TheVariants.{Symbol, Pair, Illegal}
-use Rattle.forms.specs.declared.Step.{Step}
-use Rattle.forms.specs.declared.Step.TheVariants.{Done, Malformed}
 use Rattle.forms.specs.Cells.{shape_of, nil, PAIR, BLIST, ELIST, EPAIR}
 use Rattle.forms.specs.Terms.{Term, cell, arg, pairs, every, applied, paired, begun, reads}
 use Rattle.forms.specs.Due.{due_after}
@@ -44,7 +45,7 @@ module _ (arity : ℕ → ℕ) (s : List ℕ) where
 
   -- ---- the term reader
 
-  pub terms-none : (at n : ℕ) (vars : List ℕ) (count : ℕ) (out : List ℕ) (to : ℕ) → n ≡ 0 → count ≤ length vars → TermsRan arity s at n vars count out to vars out (Done at to count)
+  pub terms-none : (at n : ℕ) (vars : List ℕ) (count : ℕ) (out : List ℕ) (to : ℕ) → n ≡ 0 → count ≤ length vars → TermsRan arity s at n vars count out to vars out (Some (placed at to count))
   unfolding every
   terms-none at n vars count out to e h = rw e (omega arith, omega arith, stored-none vars count out to h)
 
@@ -88,28 +89,28 @@ module _ (arity : ℕ → ℕ) (s : List ℕ) where
     terms-pair-short e g = rw (at_pair e) (single (terms_at arity s (at + 1)) g)
 
     module _ (vars : List ℕ) (count : ℕ) (out : List ℕ) (to : ℕ) (vars' out' : List ℕ) where
-      symbol-ran : (vars₁ : List ℕ) (count₁ : ℕ) (out₁ : List ℕ) (to₁ k : ℕ) (ts : List Term) (m : ℕ) → n ≡ suc m → (r : Step)
+      symbol-ran : (vars₁ : List ℕ) (count₁ : ℕ) (out₁ : List ℕ) (to₁ k : ℕ) (ts : List Term) (m : ℕ) → n ≡ suc m → (r : Option Place)
           → terms_at arity s at ≡ applied k (cell (get_or s at 0)) ts → terms_at arity s (at + 1) ≡ ts
           → Stored (get_or s at 0 ∷ []) vars count out to vars₁ count₁ out₁ to₁
           → TermsRan arity s (at + 1) (k + m) vars₁ count₁ out₁ to₁ vars' out' r → TermsRan arity s at n vars count out to vars' out' r
       unfolding pairs compact
-      symbol-ran vars₁ count₁ out₁ to₁ k ts m p (Done next end count') e e' v w =
+      symbol-ran vars₁ count₁ out₁ to₁ k ts m p (Some place) e e' v w =
           let c : ℕ = get_or s at 0 in
           let w₁ : k + m ≤ length ts = rw e' at w.0 in
           let l : k ≤ length ts = omega arith in
-          let x : next ≡ at + 1 + length (every pairs (take (k + m) ts)) = rw e' at w.1 in
-          let u : Stored (every compact (take (k + m) ts)) vars₁ count₁ out₁ to₁ vars' count' out' end = rw e' at w.2 in
+          let x : place.at ≡ at + 1 + length (every pairs (take (k + m) ts)) = rw e' at w.1 in
+          let u : Stored (every compact (take (k + m) ts)) vars₁ count₁ out₁ to₁ vars' place.count out' place.to = rw e' at w.2 in
           rw (e, p) (
             omega (arith, applied-length k (cell c) ts l),
             rw (applied-every pairs pairs-joins k m (cell c) ts l) (omega arith),
-            rw (applied-every compact compact-joins k m (cell c) ts l) (stored-append (c ∷ []) (every compact (take (k + m) ts)) vars count out to vars₁ count₁ out₁ to₁ vars' count' out' end v u),
+            rw (applied-every compact compact-joins k m (cell c) ts l) (stored-append (c ∷ []) (every compact (take (k + m) ts)) vars count out to vars₁ count₁ out₁ to₁ vars' place.count out' place.to v u),
           )
-      symbol-ran vars₁ count₁ out₁ to₁ k ts m p Malformed e e' v w =
+      symbol-ran vars₁ count₁ out₁ to₁ k ts m p None e e' v w =
           let w₁ : length ts < k + (n - 1) = omega (arith, rw e' at w) in
           rw e (few k (cell (get_or s at 0)) ts (leb k (length ts)) refl w₁)
 
       -- a symbol is stored, and its arguments are due
-      pub terms-symbol : (vars₁ : List ℕ) (count₁ : ℕ) (out₁ : List ℕ) (to₁ k due : ℕ) (r : Step) → shape_of arity (get_or s at 0) ≡ Symbol k → due ≡ due_after n k
+      pub terms-symbol : (vars₁ : List ℕ) (count₁ : ℕ) (out₁ : List ℕ) (to₁ k due : ℕ) (r : Option Place) → shape_of arity (get_or s at 0) ≡ Symbol k → due ≡ due_after n k
           → Stored (get_or s at 0 ∷ []) vars count out to vars₁ count₁ out₁ to₁
           → TermsRan arity s (at + 1) due vars₁ count₁ out₁ to₁ vars' out' r → TermsRan arity s at n vars count out to vars' out' r
       terms-symbol vars₁ count₁ out₁ to₁ k due r e d v w =
@@ -117,7 +118,7 @@ module _ (arity : ℕ → ℕ) (s : List ℕ) where
 
   module _ (at : ℕ) (vars : List ℕ) (count : ℕ) (out : List ℕ) (to : ℕ) (vars₁ : List ℕ) (count₁ : ℕ) (out₁ : List ℕ) (next end : ℕ) where
     pair-ran : (ts : List Term) → terms_at arity s at ≡ paired ts → 2 ≤ length ts → next ≡ at + 1 + length (every pairs (take 2 ts))
-        → Stored (BLIST ∷ elements_of ts) vars count out to vars₁ count₁ out₁ end → TermsRan arity s at 1 vars count out to vars₁ out₁ (Done next end count₁)
+        → Stored (BLIST ∷ elements_of ts) vars count out to vars₁ count₁ out₁ end → TermsRan arity s at 1 vars count out to vars₁ out₁ (Some (placed next end count₁))
     unfolding pairs compact paired every elements_of
     pair-ran [] e g q v = absurd (not-suc-le-zero g)
     pair-ran (x ∷ []) e g q v = absurd (omega arith)
@@ -125,7 +126,7 @@ module _ (arity : ℕ → ℕ) (s : List ℕ) where
 
     -- a list is stored, which is one term
     pub terms-pair : at < length s → shape_of arity (get_or s at 0) ≡ Pair → count ≤ length vars
-        → ListRan arity s (at + 1) vars count (set out to BLIST) (to + 1) vars₁ out₁ (Done next end count₁) → TermsRan arity s at 1 vars count out to vars₁ out₁ (Done next end count₁)
+        → ListRan arity s (at + 1) vars count (set out to BLIST) (to + 1) vars₁ out₁ (Some (placed next end count₁)) → TermsRan arity s at 1 vars count out to vars₁ out₁ (Some (placed next end count₁))
     terms-pair h e g v =
         pair-ran (terms_at arity s (at + 1)) (at_pair at 1 (omega arith) h e) v.0 v.1
         (stored-append (BLIST ∷ []) (elements_of (terms_at arity s (at + 1))) vars count out to vars count (set out to BLIST) (to + 1) vars₁ count₁ out₁ end (stored-cell vars count out to BLIST refl g) v.2)
@@ -161,7 +162,7 @@ module _ (arity : ℕ → ℕ) (s : List ℕ) where
   first (t ∷ ts) us h e = (t, rw e)
 
   module _ (at : ℕ) (vars : List ℕ) (count : ℕ) (out : List ℕ) (to : ℕ) (vars₁ : List ℕ) (count₁ : ℕ) (out₁ : List ℕ) (next end : ℕ)
-      (v : TermsRan arity s at 1 vars count out to vars₁ out₁ (Done next end count₁)) where
+      (v : TermsRan arity s at 1 vars count out to vars₁ out₁ (Some (placed next end count₁))) where
     -- the term, and what stands behind it
     element : (t : Term) × (terms_at arity s at ≡ t ∷ terms_at arity s next)
     element = first (terms_at arity s at) (terms_at arity s next) v.0 (at_after at 1 next v.0 v.1)
@@ -178,67 +179,67 @@ module _ (arity : ℕ → ℕ) (s : List ℕ) where
       unfolding every
       first-stored = let q : Stored (compact x ++ []) vars count out to vars₁ count₁ out₁ end = rw e at v.2 in rw append-nil at q
 
-      one-ran : (vars' out' : List ℕ) (m : ℕ) (r : Step) → TermsRan arity s next m vars₁ count₁ out₁ end vars' out' r → TermsRan arity s at (suc m) vars count out to vars' out' r
+      one-ran : (vars' out' : List ℕ) (m : ℕ) (r : Option Place) → TermsRan arity s next m vars₁ count₁ out₁ end vars' out' r → TermsRan arity s at (suc m) vars count out to vars' out' r
       unfolding every
-      one-ran vars' out' m (Done a b d) w =
+      one-ran vars' out' m (Some place) w =
           let k : m ≤ length us = rw e' at w.0 in
-          let l : a ≡ next + length (every pairs (take m us)) = rw e' at w.1 in
-          let o : Stored (every compact (take m us)) vars₁ count₁ out₁ end vars' d out' b = rw e' at w.2 in
+          let l : place.at ≡ next + length (every pairs (take m us)) = rw e' at w.1 in
+          let o : Stored (every compact (take m us)) vars₁ count₁ out₁ end vars' place.count out' place.to = rw e' at w.2 in
           rw e (
             omega arith,
             simp length-append (omega (arith, first_next)),
-            stored-append (compact x) (every compact (take m us)) vars count out to vars₁ count₁ out₁ end vars' d out' b first-stored o,
+            stored-append (compact x) (every compact (take m us)) vars count out to vars₁ count₁ out₁ end vars' place.count out' place.to first-stored o,
           )
-      one-ran vars' out' m Malformed w = let k : length us < m = rw e' at w in rw e (omega arith)
+      one-ran vars' out' m None w = let k : length us < m = rw e' at w in rw e (omega arith)
 
       nil-ran : (out' : List ℕ) (ts : List Term) → us ≡ cell nil ∷ ts → end < length out
-          → out' ≡ sets out₁ to (ELIST ∷ take (end - to) (drop to out₁)) → ListRan arity s at vars count out to vars₁ out' (Done (next + 1) (end + 1) count₁)
+          → out' ≡ sets out₁ to (ELIST ∷ take (end - to) (drop to out₁)) → ListRan arity s at vars count out to vars₁ out' (Some (placed (next + 1) (end + 1) count₁))
       unfolding elements_of elements every pairs
       nil-ran out' ts p h w =
           rw (e, p)
           (omega arith, simp length-append (omega (arith, first_next)), stored_last (compact x) vars count out to vars₁ count₁ out₁ end out' first-stored h w)
 
-      more-ran : (vars' out' : List ℕ) (ts : List Term) (r : Step) → us ≡ paired ts → terms_at arity s (next + 1) ≡ ts
+      more-ran : (vars' out' : List ℕ) (ts : List Term) (r : Option Place) → us ≡ paired ts → terms_at arity s (next + 1) ≡ ts
           → ListRan arity s (next + 1) vars₁ count₁ out₁ end vars' out' r → ListRan arity s at vars count out to vars' out' r
       unfolding elements_of elements every pairs paired
-      more-ran vars' out' [] (Done a b d) p q w = absurd (not-suc-le-zero (rw q at w.0))
-      more-ran vars' out' (y ∷ []) (Done a b d) p q w = let z : 2 ≤ 1 = rw q at w.0 in absurd (omega arith)
-      more-ran vars' out' (y ∷ u ∷ ts) (Done a b d) p q w =
-          let l : a ≡ next + 1 + length (pairs y ++ (pairs u ++ [])) = rw q at w.1 in
-          let m : Stored (elements (compact y) u) vars₁ count₁ out₁ end vars' d out' b = rw q at w.2 in
+      more-ran vars' out' [] (Some place) p q w = absurd (not-suc-le-zero (rw q at w.0))
+      more-ran vars' out' (y ∷ []) (Some place) p q w = let z : 2 ≤ 1 = rw q at w.0 in absurd (omega arith)
+      more-ran vars' out' (y ∷ u ∷ ts) (Some place) p q w =
+          let l : place.at ≡ next + 1 + length (pairs y ++ (pairs u ++ [])) = rw q at w.1 in
+          let m : Stored (elements (compact y) u) vars₁ count₁ out₁ end vars' place.count out' place.to = rw q at w.2 in
           rw (e, p) (
             omega arith,
             simp length-append (omega (arith, first_next, simp length-append at l)),
-            stored-append (compact x) (elements (compact y) u) vars count out to vars₁ count₁ out₁ end vars' d out' b first-stored m,
+            stored-append (compact x) (elements (compact y) u) vars count out to vars₁ count₁ out₁ end vars' place.count out' place.to first-stored m,
           )
-      more-ran vars' out' [] Malformed p q w = rw (e, p) (omega arith)
-      more-ran vars' out' (y ∷ []) Malformed p q w = rw (e, p) (omega arith)
-      more-ran vars' out' (y ∷ u ∷ ts) Malformed p q w = let z : suc (suc (length ts)) < 2 = rw q at w in absurd (omega arith)
+      more-ran vars' out' [] None p q w = rw (e, p) (omega arith)
+      more-ran vars' out' (y ∷ []) None p q w = rw (e, p) (omega arith)
+      more-ran vars' out' (y ∷ u ∷ ts) None p q w = let z : suc (suc (length ts)) < 2 = rw q at w in absurd (omega arith)
 
-      tail-ran : (vars' out' : List ℕ) (ts : List Term) (r : Step) → us ≡ ts → ((t : Term) (ts' : List Term) → ts ≡ t ∷ ts' → Ending t) → count₁ ≤ length vars₁
+      tail-ran : (vars' out' : List ℕ) (ts : List Term) (r : Option Place) → us ≡ ts → ((t : Term) (ts' : List Term) → ts ≡ t ∷ ts' → Ending t) → count₁ ≤ length vars₁
           → TermsRan arity s next 1 vars₁ count₁ (set out₁ end EPAIR) (end + 1) vars' out' r → ListRan arity s at vars count out to vars' out' r
       unfolding elements_of every Ending
-      tail-ran vars' out' [] (Done a b d) p f g w = absurd (not-suc-le-zero (rw (e', p) at w.0))
-      tail-ran vars' out' (t ∷ ts) (Done a b d) p f g w =
-          let l : a ≡ next + length (pairs t ++ []) = rw (e', p) at w.1 in
-          let m : Stored (compact t ++ []) vars₁ count₁ (set out₁ end EPAIR) (end + 1) vars' d out' b = rw (e', p) at w.2 in
-          let m' : Stored (compact t) vars₁ count₁ (set out₁ end EPAIR) (end + 1) vars' d out' b = rw append-nil at m in
-          let o : Stored (EPAIR ∷ compact t) vars₁ count₁ out₁ end vars' d out' b =
-          stored-append (EPAIR ∷ []) (compact t) vars₁ count₁ out₁ end vars₁ count₁ (set out₁ end EPAIR) (end + 1) vars' d out' b (stored-cell vars₁ count₁ out₁ end EPAIR refl g) m' in
+      tail-ran vars' out' [] (Some place) p f g w = absurd (not-suc-le-zero (rw (e', p) at w.0))
+      tail-ran vars' out' (t ∷ ts) (Some place) p f g w =
+          let l : place.at ≡ next + length (pairs t ++ []) = rw (e', p) at w.1 in
+          let m : Stored (compact t ++ []) vars₁ count₁ (set out₁ end EPAIR) (end + 1) vars' place.count out' place.to = rw (e', p) at w.2 in
+          let m' : Stored (compact t) vars₁ count₁ (set out₁ end EPAIR) (end + 1) vars' place.count out' place.to = rw append-nil at m in
+          let o : Stored (EPAIR ∷ compact t) vars₁ count₁ out₁ end vars' place.count out' place.to =
+          stored-append (EPAIR ∷ []) (compact t) vars₁ count₁ out₁ end vars₁ count₁ (set out₁ end EPAIR) (end + 1) vars' place.count out' place.to (stored-cell vars₁ count₁ out₁ end EPAIR refl g) m' in
           rw (e, p) (
             omega arith,
             simp length-append (omega (arith, first_next, simp length-append at l)),
-            rw (f t ts refl (compact x)) (stored-append (compact x) (EPAIR ∷ compact t) vars count out to vars₁ count₁ out₁ end vars' d out' b first-stored o),
+            rw (f t ts refl (compact x)) (stored-append (compact x) (EPAIR ∷ compact t) vars count out to vars₁ count₁ out₁ end vars' place.count out' place.to first-stored o),
           )
-      tail-ran vars' out' [] Malformed p f g w = rw (e, p) (omega arith)
-      tail-ran vars' out' (t ∷ ts) Malformed p f g w = let z : suc (length ts) < 1 = rw (e', p) at w in absurd (omega arith)
+      tail-ran vars' out' [] None p f g w = rw (e, p) (omega arith)
+      tail-ran vars' out' (t ∷ ts) None p f g w = let z : suc (length ts) < 1 = rw (e', p) at w in absurd (omega arith)
 
       first_count : count ≤ length vars → count₁ ≤ count + length (pairs x)
       first_count h =
           omega (arith, first-stored.count_at, ap length (met-compact x (take count vars)), met-length (pairs x) (take count vars), length-take-le count vars h)
 
     -- it is one of n terms, and the others follow
-    pub terms-one : (vars' out' : List ℕ) (n due : ℕ) (r : Step) → 0 < n → due ≡ n - 1
+    pub terms-one : (vars' out' : List ℕ) (n due : ℕ) (r : Option Place) → 0 < n → due ≡ n - 1
         → TermsRan arity s next due vars₁ count₁ out₁ end vars' out' r → TermsRan arity s at n vars count out to vars' out' r
     terms-one vars' out' n due r h d w =
         let z : suc due ≡ n = omega arith in
@@ -246,18 +247,18 @@ module _ (arity : ℕ → ℕ) (s : List ℕ) where
 
     -- the element is the last one
     pub list-nil : (out' : List ℕ) → next < length s → get_or s next 0 ≡ nil → end < length out
-        → out' ≡ sets out₁ to (ELIST ∷ take (end - to) (drop to out₁)) → ListRan arity s at vars count out to vars₁ out' (Done (next + 1) (end + 1) count₁)
+        → out' ≡ sets out₁ to (ELIST ∷ take (end - to) (drop to out₁)) → ListRan arity s at vars count out to vars₁ out' (Some (placed (next + 1) (end + 1) count₁))
     unfolding begun shape_of applied
     list-nil out' h q k w = nil-ran element.0 (terms_at arity s next) element.1 refl out' (terms_at arity s (next + 1)) (rw (at-cons next h, q)) k w
 
     -- another element follows
-    pub list-more : (vars' out' : List ℕ) (r : Step) → next < length s → get_or s next 0 ≡ PAIR
+    pub list-more : (vars' out' : List ℕ) (r : Option Place) → next < length s → get_or s next 0 ≡ PAIR
         → ListRan arity s (next + 1) vars₁ count₁ out₁ end vars' out' r → ListRan arity s at vars count out to vars' out' r
     unfolding begun shape_of
     list-more vars' out' r h q w = more-ran element.0 (terms_at arity s next) element.1 refl vars' out' (terms_at arity s (next + 1)) r (rw (at-cons next h, q)) refl w
 
     -- the list ends in another term
-    pub list-tail : (vars' out' : List ℕ) (r : Step) → next < length s → (get_or s next 0 ≡ nil → ⊥) → (get_or s next 0 ≡ PAIR → ⊥) → count₁ ≤ length vars₁
+    pub list-tail : (vars' out' : List ℕ) (r : Option Place) → next < length s → (get_or s next 0 ≡ nil → ⊥) → (get_or s next 0 ≡ PAIR → ⊥) → count₁ ≤ length vars₁
         → TermsRan arity s next 1 vars₁ count₁ (set out₁ end EPAIR) (end + 1) vars' out' r → ListRan arity s at vars count out to vars' out' r
     list-tail vars' out' r h f g k w =
         tail-ran element.0 (terms_at arity s next) element.1 refl vars' out' (terms_at arity s next) r refl

@@ -1,5 +1,8 @@
 -- The loop invariants of the readers of pair form: what is still to be read gives the whole, and the terms still due are
 -- the sum over the cells read (crates/forms/specs/Due.antt).
+use Rattle.forms.specs.Places.{placed}
+use Rattle.forms.specs.declared.Place.{Place}
+use Rattle.std.specs.Prelude.{Option, Some}
 use Prim.Native.Nat.{ℕ, ◌+◌, ◌*◌, ◌-◌, ◌≤◌, ◌<◌}
 use mathlib.Core.List.{List, [], ◌∷◌}
 use mathlib.Core.Path.{◌≡◌, refl, sym, ◌∙◌}
@@ -11,8 +14,6 @@ use Rattle.forms.specs.Cells.{shape_of}
 use Rattle.forms.specs.Due.{arguments, due_after, due_of}
 use Rattle.forms.proofs.DueLaws.{due-next, due-terms, due-within}
 use Rattle.forms.proofs.NumberingLaws.{met-length}
-use Rattle.forms.specs.declared.Step.{Step}
-use Rattle.forms.specs.declared.Step.TheVariants.{Done}
 use Rattle.pair_reader.specs.Storing.{Stores, TermsRan, ListRan}
 use Rattle.pair_reader.proofs.PairSteps.{terms-none, terms-symbol, terms-one, term-room}
 
@@ -24,7 +25,7 @@ pub record TermsTurn (arity : ℕ → ℕ) (s : List ℕ) (from n : ℕ) (vars�
   pub room : 2 * to ≤ 3 * at
   pub vars-kept : length vars ≡ length vars₀
   pub out-kept : length out ≡ length out₀
-  pub goes_on : (vars' out' : List ℕ) (r : Step) → TermsRan arity s at due vars count out to vars' out' r → TermsRan arity s from n vars₀ known out₀ start vars' out' r
+  pub goes_on : (vars' out' : List ℕ) (r : Option Place) → TermsRan arity s at due vars count out to vars' out' r → TermsRan arity s from n vars₀ known out₀ start vars' out' r
 
 module _ (arity : ℕ → ℕ) (s : List ℕ) (from n : ℕ) (vars₀ : List ℕ) (known : ℕ) (out₀ : List ℕ) (start : ℕ) where
   -- before the first cell
@@ -40,8 +41,8 @@ module _ (arity : ℕ → ℕ) (s : List ℕ) (from n : ℕ) (vars₀ : List ℕ
 
     module _ (wide : length s ≤ length vars₀) where
       -- none is due
-      pub turn_last : due ≤ 0 → TermsRan arity s from n vars₀ known out₀ start vars out (Done at to count)
-      turn_last h = turn.goes_on vars out (Done at to count) (terms-none arity s at due vars count out to (omega arith) (omega arith))
+      pub turn_last : due ≤ 0 → TermsRan arity s from n vars₀ known out₀ start vars out (Some (placed at to count))
+      turn_last h = turn.goes_on vars out (Some (placed at to count)) (terms-none arity s at due vars count out to (omega arith) (omega arith))
 
       module _ (some : 0 < due) (vars₁ out₁ : List ℕ) (due₁ count₁ : ℕ) (kept : length out₁ ≡ length out) where
         -- after a symbol
@@ -63,7 +64,7 @@ module _ (arity : ℕ → ℕ) (s : List ℕ) (from n : ℕ) (vars₀ : List ℕ
             }
 
         -- after a term
-        pub turn-term : (next end : ℕ) → due₁ ≡ due - 1 → TermsRan arity s at 1 vars count out to vars₁ out₁ (Done next end count₁)
+        pub turn-term : (next end : ℕ) → due₁ ≡ due - 1 → TermsRan arity s at 1 vars count out to vars₁ out₁ (Some (placed next end count₁))
             → TermsTurn arity s from n vars₀ known out₀ start vars₁ out₁ next due₁ count₁ end
         turn-term next end d v =
             let f = term-room arity s at vars count out to vars₁ count₁ out₁ next end v turn.at_in turn.count-in (omega arith) in
@@ -86,4 +87,4 @@ pub record ListTurn (arity : ℕ → ℕ) (s : List ℕ) (from : ℕ) (vars₀ :
   pub room : 2 * to + 1 ≤ 3 * at
   pub vars-kept : length vars ≡ length vars₀
   pub out-kept : length out ≡ length out₀
-  pub goes_on : (vars' out' : List ℕ) (r : Step) → ListRan arity s at vars count out to vars' out' r → ListRan arity s from vars₀ known out₀ start vars' out' r
+  pub goes_on : (vars' out' : List ℕ) (r : Option Place) → ListRan arity s at vars count out to vars' out' r → ListRan arity s from vars₀ known out₀ start vars' out' r

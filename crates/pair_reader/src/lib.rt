@@ -3,9 +3,10 @@
 
 ghost use Rattle.std.specs.Prelude.{◌≡◌, ◌∷◌, ◌+◌, ◌*◌, ◌-◌, ◌^◌, ◌≤◌, ◌<◌, length, take, drop};
 ghost use Rattle.std.proofs.lemmas.List.Edits.{sets};
-ghost use Rattle.pair_reader.specs.Storing.{placed, Ranks, Stores, PairRoom, ReadsTerms, ReadsList};
+ghost use Rattle.pair_reader.specs.Storing.{Ranks, Stores, PairRoom, ReadsTerms, ReadsList};
+ghost use Rattle.forms.specs.Places.{placed};
 
-use forms::{Place, Step};
+use forms::Place;
 
 // The rank of the variable c among the first `count` cells of vars, or count. Puts c behind them.
 fn number(vars: &mut [u32], count: usize, c: u32) -> usize
@@ -48,12 +49,12 @@ pub fn store(c: u32, vars: &mut [u32], count: usize, out: &mut [u32], to: usize)
 // is begun here, with n, which the number of cells bounds: each term has one at least. Constants that stand before any
 // other cell take no call, and come to stand in out where they stand in s. At the first other cell `scan` goes on with
 // what is due there.
-pub fn terms(s: &[u32], n: usize, vars: &mut [u32], out: &mut [u32], edition: u32) -> Step
+pub fn terms(s: &[u32], n: usize, vars: &mut [u32], out: &mut [u32], edition: u32) -> Option<Place>
     requires { PairRoom s.now (placed 0 0 0) vars.old out.old }
     ensures { ReadsTerms edition s.now (placed 0 0 0) n vars.old out.old vars.new out.new result }
 {
     if s.len() < n {
-        return Step::Malformed;
+        return None;
     }
     for (at, &c) in s[..n].iter().enumerate() {
         if !forms::is_constant(c) {
@@ -66,23 +67,35 @@ pub fn terms(s: &[u32], n: usize, vars: &mut [u32], out: &mut [u32], edition: u3
         }
         out[at] = c;
     }
-    Step::Done(n, n, 0)
+    Some(Place {
+        at: n,
+        to: n,
+        count: 0,
+    })
 }
 
 // Reads the n terms that are due at a place, and writes their compact forms. In a pair's place its element and its tail
 // become due, and the list reader reads both.
 #[cycle(element_list_scan_term)]
-fn scan(s: &[u32], from: Place, n: usize, vars: &mut [u32], out: &mut [u32], edition: u32) -> Step
+fn scan(
+    s: &[u32],
+    from: Place,
+    n: usize,
+    vars: &mut [u32],
+    out: &mut [u32],
+    edition: u32,
+) -> Option<Place>
     requires { PairRoom s.now from vars.old out.old × (n ≤ 256) }
     ensures { ReadsTerms edition s.now from n vars.old out.old vars.new out.new result }
 {
+    // A turn passes a cell or a whole list, so `at` goes on by what was read.
     let mut at = from.at;
     let mut due = n;
     let mut count = from.count;
     let mut to = from.to;
     while 0 < due {
         if s.len() <= at {
-            return Step::Malformed;
+            return None;
         }
         let c = s[at];
         match forms::shape_of(c, edition) {
@@ -94,19 +107,16 @@ fn scan(s: &[u32], from: Place, n: usize, vars: &mut [u32], out: &mut [u32], edi
             }
             forms::Shape::Pair => {
                 out[to] = forms::BLIST;
-                let Step::Done(next, end, met) = list(s, at + 1, vars, count, out, to + 1, edition)
-                else {
-                    return Step::Malformed;
-                };
-                at = next;
-                to = end;
-                count = met;
+                let after = list(s, at + 1, vars, count, out, to + 1, edition)?;
+                at = after.at;
+                to = after.to;
+                count = after.count;
                 due = forms::due_after(due, 2) - 2;
             }
-            forms::Shape::Illegal => return Step::Malformed,
+            forms::Shape::Illegal => return None,
         }
     }
-    Step::Done(at, to, count)
+    Some(Place { at, to, count })
 }
 
 // Reads the term at a place. The list reader has its place in numbers, and here they are put together: with a struct
@@ -120,7 +130,7 @@ fn term(
     out: &mut [u32],
     to: usize,
     edition: u32,
-) -> Step
+) -> Option<Place>
     requires { PairRoom s.now (placed at to count) vars.old out.old }
     ensures { ReadsTerms edition s.now (placed at to count) 1 vars.old out.old vars.new out.new result }
 {
@@ -138,7 +148,7 @@ fn list(
     out: &mut [u32],
     start: usize,
     edition: u32,
-) -> Step
+) -> Option<Place>
     requires { PairRoom s.now (placed from start known) vars.old out.old × (2 * start + 1 ≤ 3 * from) }
     ensures { ReadsList edition s.now (placed from start known) vars.old out.old vars.new out.new result }
 {
@@ -146,24 +156,26 @@ fn list(
     let mut count = known;
     let mut to = start;
     loop {
-        let Step::Done(next, end, met) = element(s, at, vars, count, out, to, edition) else {
-            return Step::Malformed;
-        };
-        if s.len() <= next {
-            return Step::Malformed;
+        let after = element(s, at, vars, count, out, to, edition)?;
+        if s.len() <= after.at {
+            return None;
         }
-        let c = s[next];
+        let c = s[after.at];
         if c == forms::NIL {
-            insert(out, to, end, forms::ELIST);
-            return Step::Done(next + 1, end + 1, met);
+            insert(out, to, after.to, forms::ELIST);
+            return Some(Place {
+                at: after.at + 1,
+                to: after.to + 1,
+                count: after.count,
+            });
         }
         if c != forms::PAIR {
-            out[end] = forms::EPAIR;
-            return term(s, next, vars, met, out, end + 1, edition);
+            out[after.to] = forms::EPAIR;
+            return term(s, after.at, vars, after.count, out, after.to + 1, edition);
         }
-        at = next + 1;
-        to = end;
-        count = met;
+        at = after.at + 1;
+        to = after.to;
+        count = after.count;
     }
 }
 
@@ -177,17 +189,21 @@ fn element(
     out: &mut [u32],
     to: usize,
     edition: u32,
-) -> Step
+) -> Option<Place>
     requires { PairRoom s.now (placed at to count) vars.old out.old }
     ensures { ReadsTerms edition s.now (placed at to count) 1 vars.old out.old vars.new out.new result }
 {
     if s.len() <= at {
-        return Step::Malformed;
+        return None;
     }
     let c = s[at];
     if forms::is_constant(c) {
         out[to] = c;
-        return Step::Done(at + 1, to + 1, count);
+        return Some(Place {
+            at: at + 1,
+            to: to + 1,
+            count,
+        });
     }
     term(s, at, vars, count, out, to, edition)
 }

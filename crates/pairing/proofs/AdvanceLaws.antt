@@ -14,7 +14,6 @@ use Rattle.parts.specs.Parts.{parts, InHand}
 use Rattle.pairing.specs.declared.Sides.{Sides}
 use Rattle.pairing.specs.declared.Cursor.{Cursor}
 use Rattle.pairing.specs.declared.Found.TheVariants as found
-use Rattle.pairing.specs.declared.Match.TheVariants as match
 use Rattle.pairing.specs.Pairing.{forms_from, form_in, AnswerTakeable, TakesAnswer, Throughout, Compared, Stands, parts_from, to_come, FirstTooLong, Finds, Advances}
 use Rattle.pairing.proofs.RemainsLaws.{forms-none, Stop, remains-some}
 use Rattle.pairing.proofs.HandLaws.{form_in_lem, hand-said}
@@ -48,7 +47,7 @@ module _ (cs : List ℕ) (x : Sides) (ps ks : List ℕ) (k : Throughout cs x ps 
 
     -- what was found with the answer in hand
     module _ (form' : List ℕ) where
-      pub advanced-at : (next n : ℕ) → Finds cs x ps ks inner hands form' (found.At next n) → Advances cs x ps ks from hands0 hands form' (match.At (cursor outer next) n)
+      pub advanced-at : (next n : ℕ) → Finds cs x ps ks inner hands form' (found.At (next, n)) → Advances cs x ps ks from hands0 hands form' (found.At (cursor outer next, n))
       advanced-at next n f = (
         record { outer = a.stands.outer; inner = f.0 },
         (f.1.0, a.passed ∙ ap (λ (ws : List Word). ws ++ behind) f.1.1, f.1.2),

@@ -7,6 +7,7 @@ use native.Mathlib.Omega.{arith}
 use lib.ListN.{length, take}
 use lib.Seq.{length-take-le}
 use borrow.Author.Tests.{le-leb, lt-leb}
+use Rattle.std.specs.Prelude.{None, Some}
 use Rattle.basis.specs.Choice.{pick}
 use Rattle.forms.specs.Stored.{StoredForm, stored_of}
 use Rattle.plain.specs.Words.{Word}
@@ -29,10 +30,9 @@ use native.Mathlib.Nat.{mul-le-mul_left}
 use Rattle.pairing.specs.declared.Source.{Source}
 use Rattle.pairing.specs.declared.Sides.{Sides}
 use Rattle.pairing.specs.declared.Cursor.{Cursor}
-use Rattle.pairing.specs.declared.Match.{Match}
-use Rattle.pairing.specs.declared.Match.TheVariants as match
 use Rattle.pairing.specs.declared.Sums.{Sums}
-use Rattle.pairing.specs.declared.Counted.TheVariants as counted
+use Rattle.pairing.specs.declared.Found.{Found}
+use Rattle.pairing.specs.declared.Found.TheVariants as found
 use Rattle.pairing.specs.declared.Walk.{Walk as JoinWalk}
 use Rattle.pairing.specs.Pairing.{forms_from, Remains, Stands, WalkStands, WalksOn, parts_from, to_come, FirstTooLong, Advances}
 use Rattle.pairing.specs.Counting.{Begun, all_forms, JoinReady, one_more, added, CountsForms}
@@ -75,11 +75,11 @@ pub not-long : (edition : ℕ) (ws : List Word) → all_fit (stored_of edition) 
 not-long edition ws f t = true≢false (sym f ∙ ap (all_fit (stored_of edition)) t.2 ∙ unfit-cons (stored_of edition) t.0 t.1 t.3)
 
 -- a walk over forms that all fit ends where none is still to come
-pub walk-ended : (cs : List ℕ) (x : Sides) (ps ks : List ℕ) (w w' : JoinWalk) (r : Match) → WalksOn cs x ps ks w w' r → ((next : Cursor) (n : ℕ) → r ≡ match.At next n → ⊥)
+pub walk-ended : (cs : List ℕ) (x : Sides) (ps ks : List ℕ) (w w' : JoinWalk) (r : Found ℕ) → WalksOn cs x ps ks w w' r → ((n : ℕ) → r ≡ found.At n → ⊥)
     → all_fit (stored_of x.h.edition) (to_come cs x ps ks w.at w.first) ≡ true → to_come cs x ps ks w.at w.first ≡ []
-walk-ended cs x ps ks w w' (match.At next n) a z f = absurd (z next n refl)
-walk-ended cs x ps ks w w' match.TooLong a z f = absurd (not-long x.h.edition (to_come cs x ps ks w.at w.first) f a)
-walk-ended cs x ps ks w w' match.End a z f = a
+walk-ended cs x ps ks w w' (found.At n) a z f = absurd (z n refl)
+walk-ended cs x ps ks w w' found.TooLong a z f = absurd (not-long x.h.edition (to_come cs x ps ks w.at w.first) f a)
+walk-ended cs x ps ks w w' found.End a z f = a
 
 abbrev pub no_sums : Sums
 no_sums = record { sound = true; missing = 0; lacking = 0 }
@@ -147,7 +147,7 @@ module _ (find : Finding) where
         }
 
     module _ (at : Cursor) (hands form : List ℕ) (y : Sums) (c : Counting cs x root ps ks at hands form y) where
-      pub counted-end : to_come cs x ps ks at hands ≡ [] → CountsForms find cs x root ps ks (counted.Sums y)
+      pub counted-end : to_come cs x ps ks at hands ≡ [] → CountsForms find cs x root ps ks (Some y)
       unfolding all_fit all_sound_by sum_missing sum_lacking
       counted-end e s p = (
         c.fit ∙ ap (all_fit (stored_of x.h.edition)) e,
@@ -160,10 +160,10 @@ module _ (find : Finding) where
           and-true true = refl
           and-true false = refl
 
-      pub counted-long : FirstTooLong x.h.edition (to_come cs x ps ks at hands) → CountsForms find cs x root ps ks counted.TooLong
+      pub counted-long : FirstTooLong x.h.edition (to_come cs x ps ks at hands) → CountsForms find cs x root ps ks None
       counted-long e s p = c.fit ∙ ap (all_fit (stored_of x.h.edition)) e.2 ∙ unfit-cons (stored_of x.h.edition) e.0 e.1 e.3
 
-      module _ (hands' form' : List ℕ) (next : Cursor) (n : ℕ) (a : Advances cs x ps ks at hands hands' form' (match.At next n)) (m : Met) (q : Searched find cs x.h root (take n form') m) where
+      module _ (hands' form' : List ℕ) (next : Cursor) (n : ℕ) (a : Advances cs x ps ks at hands hands' form' (found.At (next, n))) (m : Met) (q : Searched find cs x.h root (take n form') m) where
         abbrev w : Word
         w = take n form'
 

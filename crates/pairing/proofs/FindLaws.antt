@@ -6,6 +6,7 @@ use mathlib.Core.List.{List, [], ◌∷◌, map}
 use Prim.Native.Nat.{ℕ, ◌≤◌, ◌<◌}
 use native.Mathlib.Omega.{arith}
 use lib.ListN.{length, take, length-take}
+use Rattle.std.specs.Prelude.{None, Option, Some}
 use Rattle.basis.specs.Choice.{pick}
 use Rattle.forms.specs.Stored.{StoredForm, stored_of}
 use Rattle.plain.specs.Words.{Word}
@@ -14,8 +15,6 @@ use Rattle.space.specs.Sound.{answer_under}
 use Rattle.space.specs.declared.Answer.{Answer}
 use Rattle.parts.specs.Parts.{parts, InHand}
 use Rattle.parts.specs.Hands.{Comparable, Compares, Copyable, Copies, Holds}
-use Rattle.parts.specs.declared.Together.{Together}
-use Rattle.parts.specs.declared.Together.TheVariants.{Form, TooLong}
 use Rattle.pairing.specs.declared.Sides.{Sides}
 use Rattle.pairing.specs.declared.Found.TheVariants as found
 use Rattle.pairing.specs.Pairing.{forms_from, Remains, hand, most_tokens, form_in, AnswerTakeable, TakesAnswer, Throughout, Compared, parts_from, along_hand, Finds}
@@ -134,16 +133,16 @@ module _ (cs : List ℕ) (x : Sides) (ps ks : List ℕ) (k : Throughout cs x ps 
           room = omega (arith, s, f.form-room);
         }
 
-        module _ (form' : List ℕ) (w : Together) (p : Copies x.h.edition ks hands second' used form' w) where
+        module _ (form' : List ℕ) (w : Option ℕ) (p : Copies x.h.edition ks hands second' used form' w) where
           put : Holds (stored_of x.h.edition) (copied ks us vs) form' w
           put = p.holds x.first.variables x.second.variables (form_in x.first.variables hands) stop.form first-held second-held k.copied
 
-          pub finding-long : w ≡ TooLong → Finds cs x ps ks from hands form' found.TooLong
+          pub finding-long : w ≡ None → Finds cs x ps ks from hands form' found.TooLong
           finding-long e = (copied ks us vs, along_hand cs x ps ks y.next hands, step r c true q, subst (Holds (stored_of x.h.edition) (copied ks us vs) form') e put)
 
-          pub finding-at : (n : ℕ) → w ≡ Form n → Finds cs x ps ks from hands form' (found.At y.next n)
+          pub finding-at : (n : ℕ) → w ≡ Some n → Finds cs x ps ks from hands form' (found.At (y.next, n))
           finding-at n e =
-              let h : Holds (stored_of x.h.edition) (copied ks us vs) form' (Form n) = subst (Holds (stored_of x.h.edition) (copied ks us vs) form') e put in
+              let h : Holds (stored_of x.h.edition) (copied ks us vs) form' (Some n) = subst (Holds (stored_of x.h.edition) (copied ks us vs) form') e put in
               let l : length (take n form') ≡ n = ap length h.1 ∙ sym h.0 in (
                 record { rest = stop.behind; held = λ b. first-held; hands-room = o.hands-room; form-room = p.size ∙ s ∙ f.form-room },
                 (

@@ -21,9 +21,9 @@ use Rattle.sides.specs.Searches.{Searched, MeetsOneMore}
 use Rattle.sides.specs.declared.Met.{Met}
 use Rattle.pairing.specs.declared.Sides.{Sides}
 use Rattle.pairing.specs.declared.Cursor.{Cursor}
-use Rattle.pairing.specs.declared.Match.TheVariants as match
 use Rattle.pairing.specs.declared.Needs.{Needs}
 use Rattle.sides.specs.declared.Earlier.{Earlier}
+use Rattle.pairing.specs.declared.Found.TheVariants as found
 use Rattle.pairing.specs.declared.Walk.{Walk}
 use Rattle.pairing.specs.Pairing.{Stands, to_come, Advances}
 use Rattle.pairing.specs.Counting.{Begun, all_forms, JoinReady, Fitting, backwards, EarlierOf, one_new, needs_more, NeedsUpTo}
@@ -110,7 +110,7 @@ module _ (cs : List ℕ) (x : Sides) (ps ks : List ℕ) (w : Word) where
     pub comparing-short : (count : ℕ) → count ≤ length (all_forms cs x ps ks) → i < count → to_come cs x ps ks at hands ≡ [] → ⊥
     comparing-short count l k z = omega (arith, ap length (c.are ∙ ap (λ (ws : List Word). c.done ++ ws) z ∙ append-nil c.done), c.passed)
 
-    pub comparing-on : (hands' form' : List ℕ) (next : Cursor) (n : ℕ) → Advances cs x ps ks at hands hands' form' (match.At next n) → (b : Earlier) → MeetsOneMore e (take n form') w b
+    pub comparing-on : (hands' form' : List ℕ) (next : Cursor) (n : ℕ) → Advances cs x ps ks at hands hands' form' (found.At (next, n)) → (b : Earlier) → MeetsOneMore e (take n form') w b
         → Comparing cs x ps ks w next hands' form' (i + 1) b
     comparing-on hands' form' next n a b m =
         let v : Word = take n form' in
@@ -195,7 +195,7 @@ module _ (find : Finding) where
       pub needed-over : (free : ℕ) → free < y.nodes → NeedsUpTo free find cs x root ps ks y
       needed-over free o s p = (omega (arith, c.nodes s p), λ l. absurd (omega arith))
 
-      module _ (hands' form' : List ℕ) (next : Cursor) (n : ℕ) (a : Advances cs x ps ks at hands hands' form' (match.At next n)) where
+      module _ (hands' form' : List ℕ) (next : Cursor) (n : ℕ) (a : Advances cs x ps ks at hands hands' form' (found.At (next, n))) where
         fewer : length (to_come cs x ps ks at hands) ≡ suc (length (to_come cs x ps ks next hands'))
         fewer = ap length a.1.1
 

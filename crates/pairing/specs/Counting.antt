@@ -1,5 +1,6 @@
 -- What the forms of a join need, as the functions that go through all of them say it.
 use Rattle.std.specs.Prelude.{ℕ, ◌+◌, ◌-◌, ◌≤◌, min, Bool, true, false, ◌&&◌, List, [], ◌∷◌, ◌≡◌, length, take}
+use Rattle.std.specs.Prelude.{Option, Some, None}
 use Rattle.basis.specs.Choice.{pick}
 use Rattle.forms.specs.Stored.{StoredForm, stored_of}
 use Rattle.plain.specs.Words.{Word, most, has}
@@ -16,8 +17,6 @@ use Rattle.pairing.specs.declared.Sides.{Sides}
 use Rattle.pairing.specs.declared.Cursor.{Cursor}
 use Rattle.pairing.specs.declared.Walk.{Walk}
 use Rattle.pairing.specs.declared.Sums.{Sums}
-use Rattle.pairing.specs.declared.Counted.{Counted}
-use Rattle.pairing.specs.declared.Counted.TheVariants as counted
 use Rattle.pairing.specs.declared.Needs.{Needs}
 use Rattle.sides.specs.declared.Earlier.{Earlier}
 use Rattle.pairing.specs.Pairing.{hand, most_tokens, Remains, Throughout, parts_from}
@@ -65,14 +64,14 @@ added y m = record {
 }
 
 -- the sums of the forms, unless one does not fit
-abbrev pub CountedOf : Finding → View → ℕ → StoredForm → List Word → Counted → Type 0
-CountedOf find v s stored ws (counted.Sums y) =
+abbrev pub CountedOf : Finding → View → ℕ → StoredForm → List Word → Option Sums → Type 0
+CountedOf find v s stored ws (Some y) =
     (all_fit stored ws ≡ true) × (y.sound ≡ all_sound_by find v s ws) × (y.missing ≡ sum_missing find v s ws)
     × (y.lacking ≡ sum_lacking find v s ws)
-CountedOf find v s stored ws counted.TooLong = all_fit stored ws ≡ false
+CountedOf find v s stored ws None = all_fit stored ws ≡ false
 
 -- for whichever target has this answer root
-abbrev pub CountsForms : Finding → List ℕ → Sides → ℕ → List ℕ → List ℕ → Counted → Type 0
+abbrev pub CountsForms : Finding → List ℕ → Sides → ℕ → List ℕ → List ℕ → Option Sums → Type 0
 CountsForms find cs x root ps ks r =
     (s : ℕ) → root ≡ (subgoal_under cs x.h s).root
     → CountedOf find (view_in cs x.h) s (stored_of x.h.edition) (all_forms cs x ps ks) r

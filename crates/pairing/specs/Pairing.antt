@@ -19,8 +19,6 @@ use Rattle.pairing.specs.declared.Cursor.{Cursor}
 use Rattle.pairing.specs.declared.Walk.{Walk}
 use Rattle.pairing.specs.declared.Found.{Found}
 use Rattle.pairing.specs.declared.Found.TheVariants as found
-use Rattle.pairing.specs.declared.Match.{Match}
-use Rattle.pairing.specs.declared.Match.TheVariants as match
 
 -- ---- the answers of a source
 
@@ -142,21 +140,22 @@ FirstTooLong edition ws = (w : Word) × (rest : List Word) × (ws ≡ w ∷ rest
     × (256 < length ((stored_of edition).cells w))
 
 -- what the search for a match with the answer in hand answers and leaves
-abbrev pub Finds : List ℕ → Sides → List ℕ → List ℕ → ℕ → List ℕ → List ℕ → Found → Type 0
-Finds cs x ps ks from hands form' (found.At next n) =
-    Compared cs x next hands form'
-    × FormLeft x.h.edition form' n (along_hand cs x ps ks from hands) (along_hand cs x ps ks next hands)
+abbrev pub Finds : List ℕ → Sides → List ℕ → List ℕ → ℕ → List ℕ → List ℕ → Found (ℕ × ℕ) → Type 0
+Finds cs x ps ks from hands form' (found.At p) =
+    Compared cs x p.0 hands form'
+    × FormLeft x.h.edition form' p.1 (along_hand cs x ps ks from hands) (along_hand cs x ps ks p.0 hands)
 Finds cs x ps ks from hands form' found.TooLong = FirstTooLong x.h.edition (along_hand cs x ps ks from hands)
 Finds cs x ps ks from hands form' found.End =
     (along_hand cs x ps ks from hands ≡ []) × (length form' ≡ most_tokens)
 
 -- what the search for the next match answers and leaves
-abbrev pub Advances : List ℕ → Sides → List ℕ → List ℕ → Cursor → List ℕ → List ℕ → List ℕ → Match → Type 0
-Advances cs x ps ks from hands hands' form' (match.At next n) =
-    Stands cs x next hands' form'
-    × FormLeft x.h.edition form' n (to_come cs x ps ks from hands) (to_come cs x ps ks next hands')
-Advances cs x ps ks from hands hands' form' match.TooLong = FirstTooLong x.h.edition (to_come cs x ps ks from hands)
-Advances cs x ps ks from hands hands' form' match.End = to_come cs x ps ks from hands ≡ []
+abbrev pub Advances :
+    List ℕ → Sides → List ℕ → List ℕ → Cursor → List ℕ → List ℕ → List ℕ → Found (Cursor × ℕ) → Type 0
+Advances cs x ps ks from hands hands' form' (found.At p) =
+    Stands cs x p.0 hands' form'
+    × FormLeft x.h.edition form' p.1 (to_come cs x ps ks from hands) (to_come cs x ps ks p.0 hands')
+Advances cs x ps ks from hands hands' form' found.TooLong = FirstTooLong x.h.edition (to_come cs x ps ks from hands)
+Advances cs x ps ks from hands hands' form' found.End = to_come cs x ps ks from hands ≡ []
 
 -- ---- a walk
 
@@ -164,7 +163,7 @@ abbrev pub WalkStands : List ℕ → Sides → Walk → Type 0
 WalkStands cs x w = Stands cs x w.at w.first w.form
 
 -- the walk stands behind the match, and its form is in the cells of the walk
-abbrev pub WalksOn : List ℕ → Sides → List ℕ → List ℕ → Walk → Walk → Match → Type 0
-WalksOn cs x ps ks w w' (match.At next n) = Advances cs x ps ks w.at w.first w'.first w'.form (match.At w'.at n)
-WalksOn cs x ps ks w w' match.TooLong = FirstTooLong x.h.edition (to_come cs x ps ks w.at w.first)
-WalksOn cs x ps ks w w' match.End = to_come cs x ps ks w.at w.first ≡ []
+abbrev pub WalksOn : List ℕ → Sides → List ℕ → List ℕ → Walk → Walk → Found ℕ → Type 0
+WalksOn cs x ps ks w w' (found.At n) = Advances cs x ps ks w.at w.first w'.first w'.form (found.At (w'.at, n))
+WalksOn cs x ps ks w w' found.TooLong = FirstTooLong x.h.edition (to_come cs x ps ks w.at w.first)
+WalksOn cs x ps ks w w' found.End = to_come cs x ps ks w.at w.first ≡ []

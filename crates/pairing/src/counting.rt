@@ -5,7 +5,7 @@ ghost use Rattle.pairing.specs.Counting.{all_forms, added};
 ghost use Rattle.pairing.specs.Counting.{JoinReady, CountsForms, ReadyToCount};
 ghost use Rattle.pairing.specs.Counting.{EarlierOf, needs_more, NeedsUpTo};
 
-use super::{Counted, Match, Needs, Request, Sides, Sums, Walk};
+use super::{Found, Needs, Request, Sides, Sums, Walk};
 use sides::searches::{meet, search};
 use sides::{Earlier, Met};
 
@@ -22,8 +22,8 @@ fn add(y: Sums, m: Met) -> Sums
     }
 }
 
-// The sums over all forms, searched from this answer root on; or that one is too long.
-pub fn count(space: &[u32], x: Sides, root: usize, asked: &Request) -> Counted
+// The sums over all forms, searched from this answer root on; nothing where one is too long.
+pub fn count(space: &[u32], x: Sides, root: usize, asked: &Request) -> Option<Sums>
     requires { JoinReady space.now x asked.now.pairs.now asked.now.copies.now × (root < x.h.nodes) }
     ensures { CountsForms (search_indexed asked.now.index.now x.h.nodes) space.now x root
         asked.now.pairs.now asked.now.copies.now result }
@@ -36,12 +36,12 @@ pub fn count(space: &[u32], x: Sides, root: usize, asked: &Request) -> Counted
     };
     loop {
         match walk.advance(space, x, asked) {
-            Match::At(_, n) => {
+            Found::At(n) => {
                 let met = search(space, x.h, root, &walk.form[..n], asked.index);
                 sums = add(sums, met);
             }
-            Match::TooLong => return Counted::TooLong,
-            Match::End => return Counted::Sums(sums),
+            Found::TooLong => return None,
+            Found::End => return Some(sums),
         }
     }
 }
@@ -58,7 +58,7 @@ fn earlier(space: &[u32], x: Sides, asked: &Request, own: &[u32], count: usize) 
         held: false,
     };
     for i in 0..count {
-        let Match::At(_, n) = walk.advance(space, x, asked) else {
+        let Found::At(n) = walk.advance(space, x, asked) else {
             return e;
         };
         e = meet(e, &walk.form[..n], own);
@@ -94,9 +94,10 @@ pub fn needs(space: &[u32], x: Sides, root: usize, asked: &Request, free: u64) -
         nodes: 0,
         answers: 0,
     };
+    // A count of the forms so far, which ends with the walk and not at a number that is known.
     let mut i = 0;
     loop {
-        let Match::At(_, n) = walk.advance(space, x, asked) else {
+        let Found::At(n) = walk.advance(space, x, asked) else {
             return y;
         };
         let form = &walk.form[..n];

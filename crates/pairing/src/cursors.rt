@@ -4,9 +4,9 @@ ghost use Rattle.pairing.specs.Pairing.{Gatherable, Gathers, AnswerTakeable, Tak
 ghost use Rattle.pairing.specs.Pairing.{hand, Throughout, Compared, Finds, WalkStands, WalksOn};
 ghost use Rattle.pairing.specs.Counting.{Begun};
 
-use super::{Cursor, Found, Match, Request, Sides, Source, Walk};
+use super::{Cursor, Found, Request, Sides, Source, Walk};
 use basis::limits::MOST_TOKENS;
-use parts::{HAND, Together, matches, put_together, take_in_hand};
+use parts::{HAND, matches, put_together, take_in_hand};
 use space::Head;
 use space::records::{answer_in, node_in};
 use trie::End;
@@ -19,13 +19,11 @@ fn gather_path(space: &[u32], end: End, cells: &mut [u32]) -> usize
     ensures { Gathers space.now end cells.old cells.new result }
 {
     let mut n = end.leaf;
-    let mut at = cells.len();
-    while 0 < at {
+    for at in (0..cells.len()).rev() {
         let y = node_in(space, end.nodes, n);
         if y.parent == n {
-            return at;
+            return at + 1;
         }
-        at -= 1;
         cells[at] = y.token;
         n = y.parent;
     }
@@ -47,7 +45,8 @@ fn take_answer(space: &[u32], h: Head, y: Source, leaf: usize, held: &mut [u32],
     take_in_hand(&form[k..], y.variables, held, h.edition);
 }
 
-// The answers of the second from `from` on, up to one that matches the first's in hand. Its form is left in form.
+// The answers of the second from `from` on, up to one that matches the first's in hand: the answer behind it, and the
+// tokens of the form, which is left in form.
 fn find_match(
     space: &[u32],
     x: Sides,
@@ -56,7 +55,7 @@ fn find_match(
     second: &mut [u32],
     asked: &Request,
     form: &mut [u32],
-) -> Found
+) -> Found<(usize, usize)>
     requires throughout { Throughout space.now x asked.now.pairs.now asked.now.copies.now }
     requires compared { Compared space.now x from first.now form.old }
     requires room { length second.old ≡ hand }
@@ -68,8 +67,8 @@ fn find_match(
         take_answer(space, x.h, x.second, y.leaf, second, form);
         if matches(asked.pairs, first, second) {
             return match put_together(asked.copies, first, second, form, x.h.edition) {
-                Together::Form(n) => Found::At(y.next, n),
-                Together::TooLong => Found::TooLong,
+                Some(n) => Found::At((y.next, n)),
+                None => Found::TooLong,
             };
         }
         b = y.next;
@@ -93,8 +92,8 @@ impl Walk {
         }
     }
 
-    // The next pair that matches, from where the join stands. Its form is left in the cells of the walk.
-    pub fn advance(&mut self, space: &[u32], x: Sides, asked: &Request) -> Match
+    // The tokens of the next pair that matches, from where the join stands. Its form is left in the cells of the walk.
+    pub fn advance(&mut self, space: &[u32], x: Sides, asked: &Request) -> Found<usize>
         requires throughout { Throughout space.now x asked.now.pairs.now asked.now.copies.now }
         requires stands { WalkStands space.now x self.old }
         ensures { WalksOn space.now x asked.now.pairs.now asked.now.copies.now self.old self.new result }
@@ -110,15 +109,15 @@ impl Walk {
                 &mut self.form,
             );
             match found {
-                Found::At(inner, n) => {
+                Found::At((inner, n)) => {
                     self.at.inner = inner;
-                    return Match::At(self.at, n);
+                    return Found::At(n);
                 }
-                Found::TooLong => return Match::TooLong,
+                Found::TooLong => return Found::TooLong,
                 Found::End => {}
             }
             if self.at.outer == 0 {
-                return Match::End;
+                return Found::End;
             }
             let y = answer_in(space, x.h, self.at.outer);
             take_answer(space, x.h, x.first, y.leaf, &mut self.first, &mut self.form);

@@ -34,7 +34,7 @@ pub struct Sides {
 }
 
 // Where a join stands: the answer of the first to be taken in hand next, and the answer of the second to be compared
-// next with the one in hand; 0 for none.
+// next with the one in hand; 0 for none, as a chain of answers ends in the cells: `chain_from`.
 #[derive(Clone, Copy)]
 pub struct Cursor {
     pub outer: usize,
@@ -60,36 +60,21 @@ pub struct Walk {
     pub form: [u32; MOST_TOKENS],
 }
 
-// The next answer of the second that matches the one in hand: the answer behind it, and the tokens of the joined
-// answer; or a joined answer of too many cells; or none.
+// The next pair that matches, by what is to be known of it; or a joined answer of too many cells; or none.
 #[derive(Clone, Copy)]
-pub enum Found {
-    At(usize, usize),
-    TooLong,
-    End,
-}
-
-// The same of all pairs that are still to come.
-#[derive(Clone, Copy)]
-pub enum Match {
-    At(Cursor, usize),
+pub enum Found<T> {
+    At(T),
     TooLong,
     End,
 }
 
 // What forms need by a search of each: whether no damaged record was met, the tokens that were not found, and how many
-// forms were not.
+// forms were not. `sound` is a flag and not None: 4 for a form behind precedes 9, so the pass goes on (`CountedOf`).
 #[derive(Clone, Copy)]
 pub struct Sums {
     pub sound: bool,
     pub missing: u64,
     pub lacking: u64,
-}
-
-#[derive(Clone, Copy)]
-pub enum Counted {
-    Sums(Sums),
-    TooLong,
 }
 
 // What they need exactly.

@@ -1,4 +1,5 @@
 -- Terms of answers in hand put together copy by copy.
+use Rattle.std.specs.Prelude.{Some, None}
 use Prim.Native.Nat.{ℕ, ◌+◌, ◌*◌, ◌/◌, ◌≤◌, ◌<◌}
 use mathlib.Core.Bool.{Bool, true, false}
 use mathlib.Core.List.{List, ◌++◌, append_assoc, append-nil}
@@ -16,7 +17,6 @@ use Rattle.forms.specs.Stored.{stored_of}
 use Rattle.forms.proofs.ReadLaws.{AllWellFormed}
 use Rattle.plain.specs.Words.{Word}
 use Rattle.plain.specs.Joins.{Terms, term_at, copies_named, copied}
-use Rattle.parts.specs.declared.Together.TheVariants.{Form, TooLong}
 use Rattle.parts.specs.Parts.{parts, InHand}
 use Rattle.parts.specs.Segments.{Spans, segment, Countable, CountsTo, Room, Extends}
 use Rattle.parts.specs.Hands.{Copyable, Copies}
@@ -167,7 +167,7 @@ module _ (e : ℕ) (copies outer inner form : List ℕ) (i to : ℕ) (g : Gather
           };
     }
 
-    pub gathered-over : (form₀ : List ℕ) → length form' ≡ length form₀ → 383 < end → Copies e copies outer inner form₀ form' TooLong
+    pub gathered-over : (form₀ : List ℕ) → length form' ≡ length form₀ → 383 < end → Copies e copies outer inner form₀ form' None
     gathered-over form₀ z l = record {
       holds = λ m n u v f k y.
           whole_long (rule_of e) copies (copied copies (parts (stored_of e) u) (parts (stored_of e) v)) (whole (rule_of e) m n u v copies outer inner f k y)
@@ -194,7 +194,7 @@ module _ (e : ℕ) (copies outer inner form : List ℕ) (i to : ℕ) (g : Gather
     size_of : (w : Word) → w ≡ take to form → length w ≡ to
     size_of w y = ap length y ∙ length-take-le to form (omega (arith, g.small, g.room))
 
-    pub gathered-short : 2 * to ≤ 256 → Copies e copies outer inner form₀ form (Form to)
+    pub gathered-short : 2 * to ≤ 256 → Copies e copies outer inner form₀ form (Some to)
     gathered-short l = record {
       holds = λ m n u v f k y.
           let w : Word = copied copies (parts (stored_of e) u) (parts (stored_of e) v) in
@@ -221,10 +221,10 @@ module _ (e : ℕ) (copies outer inner form : List ℕ) (i to : ℕ) (g : Gather
           whole_cells (rule_of e) copies (copied copies (parts (stored_of e) u) (parts (stored_of e) v)) t form to (length copies / 2) r (gathered m n u v f k y)
           (omega (arith, half (length t.these) t.count, t.count)) counts
 
-      pub gathered-long : 256 < r → Copies e copies outer inner form₀ form TooLong
+      pub gathered-long : 256 < r → Copies e copies outer inner form₀ form None
       gathered-long l = record { holds = λ m n u v f k y. omega (arith, cells m n u v f k y); size = z }
 
-      pub gathered-form : r ≤ 256 → Copies e copies outer inner form₀ form (Form to)
+      pub gathered-form : r ≤ 256 → Copies e copies outer inner form₀ form (Some to)
       gathered-form l = record {
         holds = λ m n u v f k y.
             let w : Word = copied copies (parts (stored_of e) u) (parts (stored_of e) v) in

@@ -1,11 +1,9 @@
 -- What the functions over answers in hand ask and give: the contracts' parts.
-use Rattle.std.specs.Prelude.{ℕ, ◌+◌, ◌≤◌, ◌<◌, Bool, true, List, ◌≡◌, length, take}
+use Rattle.std.specs.Prelude.{ℕ, ◌+◌, ◌≤◌, ◌<◌, Bool, true, Option, Some, None, List, ◌≡◌, length, take}
 use Rattle.forms.specs.Stored.{StoredForm, stored_of}
 use Rattle.plain.specs.Words.{Word}
 use Rattle.plain.specs.Joins.{matching, copied, pairs_named, copies_named}
 use Rattle.parts.specs.Parts.{parts, GroundForm, tokens_start, InHand}
-use Rattle.parts.specs.declared.Together.{Together}
-use Rattle.parts.specs.declared.Together.TheVariants.{Form, TooLong}
 
 -- ---- an answer taken in hand
 
@@ -53,12 +51,12 @@ pub record Copyable (e : ℕ) (copies outer inner form : List ℕ) : Type 0 wher
   pub room : 383 ≤ length form
 
 -- the form w stands at the start of the cells and fits, or it does not fit
-abbrev pub Holds : StoredForm → Word → List ℕ → Together → Type 0
-Holds s w form (Form k) = (k ≡ length w) × (take k form ≡ w) × (length (s.cells w) ≤ 256)
-Holds s w form TooLong = 256 < length (s.cells w)
+abbrev pub Holds : StoredForm → Word → List ℕ → Option ℕ → Type 0
+Holds s w form (Some k) = (k ≡ length w) × (take k form ≡ w) × (length (s.cells w) ≤ 256)
+Holds s w form None = 256 < length (s.cells w)
 
 -- the terms that the copies name were put together, whatever forms are in hand
-pub record Copies (e : ℕ) (copies outer inner form form' : List ℕ) (r : Together) : Type 0 where
+pub record Copies (e : ℕ) (copies outer inner form form' : List ℕ) (r : Option ℕ) : Type 0 where
   pub holds : (m n : ℕ) (u v : Word) → InHand (stored_of e) m u outer → InHand (stored_of e) n v inner
       → copies_named m n copies ≡ true
       → Holds (stored_of e) (copied copies (parts (stored_of e) u) (parts (stored_of e) v)) form' r

@@ -36,7 +36,7 @@ fn copy_term(held: &[u32], x: usize, form: &mut [u32], to: usize) -> usize
     behind
 }
 
-// The same of term x of the answer on a side: 0 the first, else the second.
+// The same of term x of the answer on a side: 0 the first, else the second. A number, as in the cells of the copies.
 pub fn copy_from(
     side: u32,
     x: usize,

@@ -16,13 +16,6 @@ pub const HANDED: usize = MOST_VARIABLES + 1;
 // The cells of an answer in hand.
 pub const HAND: usize = HANDED + MOST_TOKENS;
 
-// What putting terms together gives: the tokens of their form, or that they are over 256 cells.
-#[derive(Clone, Copy)]
-pub enum Together {
-    Form(usize),
-    TooLong,
-}
-
 // Takes a form of m terms in hand. A term ends where no argument is due and no list is open. Within a list nothing is
 // due: the term behind its ELIST or EPAIR ends it and counts for it.
 pub fn take_in_hand(form: &[u32], m: usize, held: &mut [u32], edition: u32)
@@ -69,15 +62,15 @@ pub fn matches(pairs: &[u32], outer: &[u32], inner: &[u32]) -> bool
     true
 }
 
-// Puts the terms that the copies name, a side and a term each, one after another into form. Forms of more than 383
-// tokens are always over 256 cells, and those of at most 128 never.
+// Puts the terms that the copies name, a side and a term each, one after another into form: how many tokens it has, or
+// None where the terms are over 256 cells. Forms of more than 383 tokens always are, and those of at most 128 never.
 pub fn put_together(
     copies: &[u32],
     outer: &[u32],
     inner: &[u32],
     form: &mut [u32],
     edition: u32,
-) -> Together
+) -> Option<usize>
     requires { Copyable edition copies.now outer.now inner.now form.old }
     ensures { Copies edition copies.now outer.now inner.now form.old form.new result }
 {
@@ -86,13 +79,13 @@ pub fn put_together(
         let x = basis::wide(copies[i + 1]);
         to = hands::copy_from(copies[i], x, outer, inner, form, to);
         if MOST_TOKENS < to {
-            return Together::TooLong;
+            return None;
         }
     }
     if MOST_CELLS < 2 * to
         && MOST_CELLS < tokens::cells_of(&form[..to], copies.len() / 2, edition)
     {
-        return Together::TooLong;
+        return None;
     }
-    Together::Form(to)
+    Some(to)
 }

@@ -1,4 +1,5 @@
 -- Whether a path is a legal form, and how many variables it has.
+use Rattle.std.specs.Prelude.{None, Some}
 use Prim.Native.Nat.{ℕ, ◌+◌, ◌≤◌}
 use mathlib.Core.Path.{◌≡◌, refl, sym, ap}
 use mathlib.Core.Bool.{Bool, true, false}
@@ -8,7 +9,6 @@ use lib.ListN.{length, get_or}
 use Rattle.forms.specs.Stored.{stored_of}
 use Rattle.forms.specs.Numbering.{met}
 use Rattle.forms.specs.Converting.{loading}
-use Rattle.forms.specs.declared.Loading.TheVariants.{Terms, NoForm}
 use Rattle.plain.specs.Words.{Word}
 use Rattle.trie.specs.Paths.{Path, none}
 use Rattle.plain.specs.Coding.{predicate}
@@ -30,10 +30,10 @@ begins-first [] r n e = absurd (n refl)
 begins-first (c ∷ w) r n e = e
 
 module _ (edition m : ℕ) (called : Bool) (w : Word) where
-  pub worth-none : NoForm ≡ loading (stored_of edition) m w → 0 ≡ form_worth edition m called w
+  pub worth-none : None ≡ loading (stored_of edition) m w → 0 ≡ form_worth edition m called w
   worth-none e = rw (← form-refused (stored_of edition) m w e) refl
 
-  module _ (n variables : ℕ) (e : Terms n ≡ loading (stored_of edition) m w) where
+  module _ (n variables : ℕ) (e : Some n ≡ loading (stored_of edition) m w) where
     pub few-variables : variables ≡ length (met [] w) → variables ≤ 32
     few-variables v =
         let h : (stored_of edition).legal m w ≡ true = sym (form-loaded (stored_of edition) m w n e) in

@@ -14,22 +14,22 @@ ghost use Rattle.path_terms.specs.Tasks.{BothBegun, Done, DoneTo};
 use convert::buffers::{
     FEW_TOKENS, SOME_TOKENS, TERMS_OF_FEW, TERMS_OF_MOST, TERMS_OF_SOME, tokens_rung,
 };
-use convert::{Loaded, expand_terms, load_counted};
-use forms::{Answer, is_callable};
+use convert::{expand_terms, load_counted};
+use forms::{Unwritten, is_callable};
 use instances::instance_path;
 use trie::End;
 use trie::paths::{CELLS, LEVELS, few_path, whole_path};
 
 // What paths are gathered for: the terms of an answer, its instance, or what a path is worth, that of an answer or of a
-// subgoal, which is called. A number that each caller gives as a constant: so the compiler can make a copy of
-// `use_begun` for each, without the other tasks.
-const LOAD: u32 = 0;
-
-const INSTANCE: u32 = 1;
-
-const JUDGE: u32 = 2;
-
-const CALLED: u32 = 3;
+// subgoal, which is called. Each caller gives a constant: so the compiler can make a copy of `use_begun` for each,
+// without the other tasks.
+#[derive(Clone, Copy)]
+enum Task {
+    Load,
+    Instance,
+    Judge,
+    Called,
+}
 
 // The ends of an answer's path and of its subgoal's, what gathering each in few cells came to, and how many terms the
 // answer has. Where there is one path, it stands twice.
@@ -51,19 +51,19 @@ fn begins(form: &[u32]) -> bool
 }
 
 // What a gathered path is worth as the form of m legal terms: one more than its variables, or 0 where it is none, or
-// where it is to be called and is no predicate's. A plain number: with an enum that is taken apart by each who asks,
-// the check of a space took up to a quarter longer. The buffer is long enough for the terms.
+// where it is to be called and is no predicate's. The buffer is long enough for the terms.
+// A plain number: with an enum the check of a space took up to 1.28 times as long (docs/DECISIONS.md).
 fn form_worth_with(form: &[u32], m: usize, called: bool, cells: &mut [u32], edition: u32) -> usize
     requires { RoomForTerms form.now cells.old }
     ensures { result ≡ form_worth edition m called form.now }
 {
-    let Loaded::Counted(_, variables) = load_counted(form, m, cells, edition) else {
+    let Some(loaded) = load_counted(form, m, cells, edition) else {
         return 0;
     };
     if called && !begins(form) {
         return 0;
     }
-    variables + 1
+    loaded.variables + 1
 }
 
 // The same with a buffer of its own. Short forms get short ones.
@@ -84,13 +84,15 @@ fn form_worth(form: &[u32], m: usize, called: bool, edition: u32) -> usize
 }
 
 // Loads the form of m terms: one more than their cells, which are written where there is room for them; 0 for what is
-// no legal form.
+// no legal form. A number, as `form_worth` is.
+// A plain number, as an instance gives, since `use_begun` answers for every task.
 fn load_form(form: &[u32], m: usize, out: &mut [u32], edition: u32) -> usize
     ensures { LoadsOf form.now m edition out.old result out.new }
 {
     match expand_terms(&form[..], m, out, edition) {
-        Answer::Cells(n) | Answer::Short(n) => n + 1,
-        Answer::Refused(_) => 0,
+        Ok(n) => n + 1,
+        Err(Unwritten::Short(n)) => n + 1,
+        Err(Unwritten::Refused(_)) => 0,
     }
 }
 
@@ -98,7 +100,7 @@ fn load_form(form: &[u32], m: usize, out: &mut [u32], edition: u32) -> usize
 // in `use_begun`, and not in a function for both: the compiler would put all three users into that one, and
 // `use_begun` with it would be too long to be copied for each task.
 fn use_long(
-    task: u32,
+    task: Task,
     space: &[u32],
     x: Paths,
     few: &[u32; LEVELS],
@@ -113,25 +115,27 @@ fn use_long(
     if k == 0 {
         return 0;
     }
-    if task == LOAD {
-        return load_form(&path[k..], x.m, out, x.edition);
+    match task {
+        Task::Load => load_form(&path[k..], x.m, out, x.edition),
+        Task::Judge | Task::Called => {
+            form_worth(&path[k..], x.m, matches!(task, Task::Called), x.edition)
+        }
+        Task::Instance => {
+            let mut above = [0u32; CELLS];
+            let j = whole_path(space, x.subgoal, x.above, called, &mut above);
+            if j == 0 {
+                return 0;
+            }
+            instance_path(&above[j..], &path[k..], x.m, out, x.edition)
+        }
     }
-    if task != INSTANCE {
-        return form_worth(&path[k..], x.m, task == CALLED, x.edition);
-    }
-    let mut above = [0u32; CELLS];
-    let j = whole_path(space, x.subgoal, x.above, called, &mut above);
-    if j == 0 {
-        return 0;
-    }
-    instance_path(&above[j..], &path[k..], x.m, out, x.edition)
 }
 
 // A task is done with paths that were begun in few cells: in these where they hold them. The choice between few cells
 // and those of a whole path stands here alone. It calls `use_long` at two places: called at one, that would be copied
 // in, and this function be too long to be copied for each task.
 fn use_begun(
-    task: u32,
+    task: Task,
     space: &[u32],
     x: Paths,
     few: &[u32; LEVELS],
@@ -146,22 +150,24 @@ fn use_begun(
     }
     let path = &few[..];
     let k = x.begun;
-    if task == LOAD {
-        return load_form(&path[k..], x.m, out, x.edition);
+    match task {
+        Task::Load => load_form(&path[k..], x.m, out, x.edition),
+        Task::Judge | Task::Called => {
+            form_worth(&path[k..], x.m, matches!(task, Task::Called), x.edition)
+        }
+        Task::Instance => {
+            if LEVELS < x.above {
+                return use_long(task, space, x, few, called, out);
+            }
+            let above = &called[..];
+            let j = x.above;
+            instance_path(&above[j..], &path[k..], x.m, out, x.edition)
+        }
     }
-    if task != INSTANCE {
-        return form_worth(&path[k..], x.m, task == CALLED, x.edition);
-    }
-    if LEVELS < x.above {
-        return use_long(task, space, x, few, called, out);
-    }
-    let above = &called[..];
-    let j = x.above;
-    instance_path(&above[j..], &path[k..], x.m, out, x.edition)
 }
 
 // A task with one path, from its leaf up.
-fn use_one(task: u32, space: &[u32], end: End, m: usize, out: &mut [u32], edition: u32) -> usize
+fn use_one(task: Task, space: &[u32], end: End, m: usize, out: &mut [u32], edition: u32) -> usize
     requires { Ends space.now end }
     ensures { Done task edition (path_to space.now end) (path_to space.now end) m out.old result out.new }
 {
@@ -185,9 +191,9 @@ pub fn path_worth(space: &[u32], end: End, m: usize, called: bool, edition: u32)
 {
     let mut none: [u32; 0] = [];
     if called {
-        return use_one(CALLED, space, end, m, &mut none, edition);
+        return use_one(Task::Called, space, end, m, &mut none, edition);
     }
-    use_one(JUDGE, space, end, m, &mut none, edition)
+    use_one(Task::Judge, space, end, m, &mut none, edition)
 }
 
 // The terms of an answer, by its path from the leaf up.
@@ -195,7 +201,7 @@ pub fn load_path(space: &[u32], end: End, m: usize, out: &mut [u32], edition: u3
     requires { Ends space.now end }
     ensures { LoadsTo space.now end m edition out.old result out.new }
 {
-    use_one(LOAD, space, end, m, out, edition)
+    use_one(Task::Load, space, end, m, out, edition)
 }
 
 // The instance of an answer, by its path and its subgoal's from the leaves up.
@@ -222,5 +228,5 @@ pub fn instance_paths(
         m,
         edition,
     };
-    use_begun(INSTANCE, space, x, &few, &called, out)
+    use_begun(Task::Instance, space, x, &few, &called, out)
 }

@@ -1,5 +1,6 @@
 -- Counts, next, load and instance leave the space as it is, which their contracts say too, and say no more cells written than
 -- were lent.
+use Rattle.std.specs.Prelude.{Err, Ok}
 use Prim.Native.Nat.{ℕ, ◌≤◌}
 use mathlib.Core.Path.{◌≡◌, refl, sym}
 use mathlib.Core.Bool.{Bool, true, false}
@@ -14,10 +15,8 @@ use Rattle.plain.specs.Words.{Word}
 use Rattle.plain.specs.Coding.{Coding, coding_of}
 use Rattle.plain.specs.Requests.{Reply, Request, next, load, instance, counts, lent, State, lacks_next, at, cells, refused, short}
 use Rattle.space.specs.Layout.{Sizes, sizes_of}
-use Rattle.space.specs.Heading.{space_header}
+use Rattle.space.specs.Heading.{space_header, Header}
 use Rattle.space.specs.declared.Head.{Head}
-use Rattle.space.specs.declared.Header.{Header}
-use Rattle.space.specs.declared.Header.TheVariants as header
 use Rattle.trie.specs.Paths.{Path, gather, longest}
 use Rattle.trie.specs.Paths as path
 use Rattle.trie.specs.Siblings.{search_children}
@@ -111,8 +110,8 @@ module _ (c : Coding) (v : View) where
 module _ (cs : List ℕ) (q : Request) where
   under_stays : (e : Header) → ((c : Coding) (v : View) → Reads (decide c v q)) → cs ≡ (under_any cs q e).state
   unfolding under_any_by under_by
-  under_stays (header.Sound h) x = sym (x _ _ _ cs h)
-  under_stays (header.Refused r) x = refl
+  under_stays (Ok h) x = sym (x _ _ _ cs h)
+  under_stays (Err r) x = refl
 
   step_stays : ((c : Coding) (v : View) → Reads (decide c v q)) → cs ≡ (space_step cs q).state
   unfolding space_step_by
@@ -155,8 +154,8 @@ gives_fits ks v room after n e =
 module _ (cs : List ℕ) where
   under-fits : (q : Request) (e : Header) → ((c : Coding) (v : View) → Fits (decide c v q)) → (n : ℕ) → (under_any cs q e).reply ≡ cells n → n ≤ length (lent q)
   unfolding under_any_by under_by
-  under-fits q (header.Sound h) x n e = x (coding_of h.edition) (view_of (sizes_of h.edition) cs h) (view_of (sizes_of h.edition) cs h) (length (lent q)) _ n e
-  under-fits q (header.Refused r) x n e = let z : ◌≡◌ {A = ℕ} 0 1 = cc in absurd (omega arith)
+  under-fits q (Ok h) x n e = x (coding_of h.edition) (view_of (sizes_of h.edition) cs h) (view_of (sizes_of h.edition) cs h) (length (lent q)) _ n e
+  under-fits q (Err r) x n e = let z : ◌≡◌ {A = ℕ} 0 1 = cc in absurd (omega arith)
 
   module _ (a : ℕ) (out : List ℕ) (n : ℕ) where
     pub load_fits : (space_step cs (load a out)).reply ≡ cells n → n ≤ length out

@@ -7,77 +7,68 @@ ghost use Rattle.space.specs.Sound.{Bounds};
 ghost use Rattle.store.specs.Decisions.{says, state_of, starting, handed, onward};
 ghost use Rattle.store.specs.Calls.{Answers};
 ghost use Rattle.store.specs.Clauses.{view_in};
-ghost use Rattle.store.specs.Replies.{said_next, said_cells, said_counts};
+ghost use Rattle.store.specs.Replies.{said_onward, said_next, said_cells, said_counts};
 ghost use Rattle.instances.specs.Leaving.{sized};
 ghost use Rattle.reads.specs.Reading.{decided, Fills};
 ghost use Rattle.reads.specs.Pairs.{PairRead};
 
-use basis::refusals::{NUMBER, RECORDS};
+use basis::refusals::Refusal;
 use basis::wide;
-use forms::Answer;
+use forms::Unwritten;
 use path_terms::{instance_paths, load_path};
 use space::heading::read_header;
 use space::records::{answer_in, read_answer, read_subgoal};
-use space::{AnswerRead, Head, Header, Subgoal, SubgoalRead};
-use store::{Counts, CountsAnswer, NextAnswer, State};
+use space::{Answer, Head, Subgoal};
+use store::{Counts, Next, State};
 use trie::ends::{answer_end, subgoal_end};
 
 // Nodes, subgoals and answers used.
-pub fn counts(space: &[u32]) -> CountsAnswer
+pub fn counts(space: &[u32]) -> Result<Counts, Refusal>
     ensures { Answers space.now counts (said_counts result) [] space.now }
 {
-    match read_header(space) {
-        Header::Sound(h) => CountsAnswer::Used(Counts {
-            nodes: h.nodes as u32,
-            subgoals: h.subgoals as u32,
-            answers: h.answers as u32,
-        }),
-        Header::Refused(r) => CountsAnswer::Refused(r),
-    }
+    let h = read_header(space)?;
+    Ok(Counts {
+        nodes: h.nodes as u32,
+        subgoals: h.subgoals as u32,
+        answers: h.answers as u32,
+    })
 }
 
 // What next says of a subgoal of this state where no answer is left.
-fn lacking(state: usize) -> NextAnswer
-    ensures { said_next result ≡ lacks_next (state_of state) }
+fn lacking(state: usize) -> Next
+    ensures { said_onward result ≡ lacks_next (state_of state) }
 {
     if state == 0 {
-        return NextAnswer::Lacking(State::Open);
+        return Next::Lacking(State::Open);
     }
-    NextAnswer::Lacking(State::Finished)
+    Next::Lacking(State::Finished)
 }
 
 // Answer a, which a record names, is handed out: it is to be the subgoal's. Where there is none, its state is told.
-fn hand_out(space: &[u32], h: Head, s: usize, state: usize, a: usize) -> NextAnswer
+fn hand_out(space: &[u32], h: Head, s: usize, state: usize, a: usize) -> Result<Next, Refusal>
     requires { Bounds space.now h × (a ≤ h.answers) × (state ≡ ((view_in space.now h).subgoal s).state) }
     ensures { says (said_next result) ≡ handed (view_in space.now h) s a }
 {
     if a == 0 {
-        return lacking(state);
+        return Ok(lacking(state));
     }
-    let AnswerRead::Sound(y) = read_answer(space, h, a) else {
-        return NextAnswer::Refused(RECORDS);
-    };
-    let number = a as u32;
-    if y.subgoal == s {
-        return NextAnswer::At(number);
+    let y = read_answer(space, h, a).ok_or(Refusal::Records)?;
+    if y.subgoal != s {
+        return Err(Refusal::Records);
     }
-    NextAnswer::Refused(RECORDS)
+    Ok(Next::At(a as u32))
 }
 
 // From answer a on, or from the subgoal's first answer.
-fn go_on(space: &[u32], h: Head, s: usize, a: usize) -> NextAnswer
+fn go_on(space: &[u32], h: Head, s: usize, a: usize) -> Result<Next, Refusal>
     requires { Bounds space.now h × (1 ≤ s) × (s ≤ h.subgoals) × (a ≤ h.answers) }
     ensures { says (said_next result) ≡ onward (view_in space.now h) s a }
 {
-    let SubgoalRead::Sound(g) = read_subgoal(space, h, s) else {
-        return NextAnswer::Refused(RECORDS);
-    };
+    let g = read_subgoal(space, h, s).ok_or(Refusal::Records)?;
     if a == 0 {
         return hand_out(space, h, s, g.state, g.first);
     }
-    let AnswerRead::Sound(y) = read_answer(space, h, a) else {
-        return NextAnswer::Refused(RECORDS);
-    };
+    let y = read_answer(space, h, a).ok_or(Refusal::Records)?;
     hand_out(space, h, s, g.state, y.next)
 }
 
@@ -90,106 +81,88 @@ fn starts(space: &[u32], h: Head, s: usize, a: usize) -> bool
 }
 
 // Next, under a sound header.
-fn next_in(space: &[u32], h: Head, s: usize, a: usize) -> NextAnswer
+fn next_in(space: &[u32], h: Head, s: usize, a: usize) -> Result<Next, Refusal>
     requires { Bounds space.now h }
     ensures { says (said_next result) ≡ decided (next s a) space.now h }
 {
     if s == 0 || h.subgoals < s || !starts(space, h, s, a) {
-        return NextAnswer::Refused(NUMBER);
+        return Err(Refusal::Number);
     }
     go_on(space, h, s, a)
 }
 
 // The subgoal's first answer after a given one, or after none.
-pub fn next(space: &[u32], subgoal: u32, after: u32) -> NextAnswer
+pub fn next(space: &[u32], subgoal: u32, after: u32) -> Result<Next, Refusal>
     ensures { Answers space.now (next subgoal after) (said_next result) [] space.now }
 {
-    match read_header(space) {
-        Header::Sound(h) => next_in(space, h, wide(subgoal), wide(after)),
-        Header::Refused(r) => NextAnswer::Refused(r),
-    }
+    let h = read_header(space)?;
+    next_in(space, h, wide(subgoal), wide(after))
 }
 
 // Answer a and the subgoal that it names, or the refusal.
-fn read_pair(space: &[u32], h: Head, a: usize) -> Result<(space::Answer, Subgoal), u32>
+fn read_pair(space: &[u32], h: Head, a: usize) -> Result<(Answer, Subgoal), Refusal>
     requires { Bounds space.now h }
     ensures { PairRead space.now h a result }
 {
     if a == 0 || h.answers < a {
-        return Err(NUMBER);
+        return Err(Refusal::Number);
     }
-    let AnswerRead::Sound(y) = read_answer(space, h, a) else {
-        return Err(RECORDS);
-    };
-    let SubgoalRead::Sound(g) = read_subgoal(space, h, y.subgoal) else {
-        return Err(RECORDS);
-    };
+    let y = read_answer(space, h, a).ok_or(Refusal::Records)?;
+    let g = read_subgoal(space, h, y.subgoal).ok_or(Refusal::Records)?;
     Ok((y, g))
 }
 
 // The answer to a number of cells that were to be written to so much room: 0 is damage, any other one more than they
 // are.
-fn cells_answer(room: usize, n: usize) -> Answer
+fn cells_answer(room: usize, n: usize) -> Result<usize, Unwritten>
     ensures { said_cells result ≡ sized room n }
 {
     if n == 0 {
-        return Answer::Refused(RECORDS);
+        return Err(Unwritten::Refused(Refusal::Records));
     }
     let cells = n - 1;
     if room < cells {
-        return Answer::Short(cells);
+        return Err(Unwritten::Short(cells));
     }
-    Answer::Cells(cells)
+    Ok(cells)
 }
 
 // Load, under a sound header.
-fn load_in(space: &[u32], h: Head, a: usize, out: &mut [u32]) -> Answer
+fn load_in(space: &[u32], h: Head, a: usize, out: &mut [u32]) -> Result<usize, Unwritten>
     requires { Bounds space.now h }
     ensures { Fills (decided (load a out.old)) space.now h out.old result out.new }
 {
-    match read_pair(space, h, a) {
-        Ok((y, g)) => {
-            let end = answer_end(h, g, y);
-            let room = out.len();
-            let n = load_path(space, end, g.variables, out, h.edition);
-            cells_answer(room, n)
-        }
-        Err(r) => Answer::Refused(r),
-    }
+    let (y, g) = read_pair(space, h, a)?;
+    let end = answer_end(h, g, y);
+    let room = out.len();
+    let n = load_path(space, end, g.variables, out, h.edition);
+    cells_answer(room, n)
 }
 
 // The terms of an answer in pair form.
-pub fn load(space: &[u32], answer: u32, out: &mut [u32]) -> Answer
+pub fn load(space: &[u32], answer: u32, out: &mut [u32]) -> Result<usize, Unwritten>
     ensures { Answers space.now (load answer out.old) (said_cells result) out.new space.now }
 {
-    match read_header(space) {
-        Header::Sound(h) => load_in(space, h, wide(answer), out),
-        Header::Refused(r) => Answer::Refused(r),
-    }
+    let h = read_header(space)?;
+    load_in(space, h, wide(answer), out)
 }
 
 // Instance, under a sound header.
-fn instance_in(space: &[u32], h: Head, a: usize, out: &mut [u32]) -> Answer
+fn instance_in(space: &[u32], h: Head, a: usize, out: &mut [u32]) -> Result<usize, Unwritten>
     requires { Bounds space.now h }
     ensures { Fills (decided (instance a out.old)) space.now h out.old result out.new }
 {
-    match read_pair(space, h, a) {
-        Ok((y, g)) => {
-            let end = answer_end(h, g, y);
-            let room = out.len();
-            let n = instance_paths(space, end, subgoal_end(h, g), g.variables, out, h.edition);
-            cells_answer(room, n)
-        }
-        Err(r) => Answer::Refused(r),
-    }
+    let (y, g) = read_pair(space, h, a)?;
+    let end = answer_end(h, g, y);
+    let room = out.len();
+    let n = instance_paths(space, end, subgoal_end(h, g), g.variables, out, h.edition);
+    cells_answer(room, n)
 }
 
 // The subgoal of an answer with variable i replaced by the answer's term i, in pair form.
-pub fn instance(space: &[u32], answer: u32, out: &mut [u32]) -> Answer
+pub fn instance(space: &[u32], answer: u32, out: &mut [u32]) -> Result<usize, Unwritten>
     ensures { Answers space.now (instance answer out.old) (said_cells result) out.new space.now }
 {
-    match read_header(space) {
-        Header::Sound(h) => instance_in(space, h, wide(answer), out),
-        Header::Refused(r) => Answer::Refused(r),
-    }
+    let h = read_header(space)?;
+    instance_in(space, h, wide(answer), out)
 }

@@ -1,25 +1,26 @@
 -- A law for each case of why: the way down by first children, the subgoal of a leaf, the reason.
+use Rattle.std.specs.Prelude.{Err, None, Ok, Result, Some}
+use Rattle.basis.specs.Refusals.{number_of}
+use Rattle.basis.specs.declared.refusals.Refusal.{Refusal}
+use Rattle.basis.specs.declared.refusals.Refusal.TheVariants as refusal
 use Prim.Native.Nat.{ℕ, zero, suc, ◌+◌, ◌-◌, ◌<◌, ◌≤◌}
 use mathlib.Core.Path.{◌≡◌, refl, sym, ap, ◌∙◌}
 use mathlib.Core.Bool.{Bool, true, false, ◌&&◌}
-use mathlib.Core.List.{List, [], ◌++◌}
+use mathlib.Core.List.{List, []}
 use native.Mathlib.Omega.{arith}
-use lib.ListN.{length, get_or, take, drop, length-take, length-drop, length-append}
-use lib.Seq.{take_at}
+use lib.ListN.{length, get_or, take, drop, length-take, length-drop}
 use lib.Dec.{eqb, ltb}
-use borrow.Author.Tests.{eq-eqb, ne_eqb, ltb-true}
+use borrow.Author.Tests.{eq-eqb, ne_eqb}
 use Rattle.basis.specs.Choice.{pick}
 use Rattle.forms.specs.Cells.{callable, arity_of}
-use Rattle.forms.specs.Converting.{reading}
+use Rattle.forms.specs.Converting.{reading, formed}
 use Rattle.forms.specs.Numbering.{met}
 use Rattle.forms.specs.Stored.{stored_of}
-use Rattle.forms.specs.declared.Reading.TheVariants.{Form, Refusal}
 use Rattle.plain.specs.Requests.{State, Reply, new, old_subgoal, old_as, new_past, because, refused, why, lent}
 use Rattle.space.specs.Layout.{sizes, node_in}
 use Rattle.space.specs.Judging.{read_node}
 use Rattle.space.specs.declared.Head.{Head}
 use Rattle.space.specs.declared.Node.{Node}
-use Rattle.space.specs.declared.NodeRead.TheVariants as node
 use Rattle.space.proofs.JudgingLaws.{node-bounds, follows-rises, read-node-sound, read-node-damaged}
 use Rattle.trie.specs.Siblings.{trie_in, sound}
 use Rattle.trie.specs.Walks.{Finding, Walk, whole, stopped, damaged, walk_by}
@@ -35,7 +36,6 @@ use Rattle.store.proofs.CallsReading.{variables-are, variables-few, called-refus
 use Rattle.store.proofs.CallsCases.{Comes, comes, decided-says}
 use Rattle.convert.proofs.AnswerLaws.{taken-room}
 use Rattle.reasons.specs.Clauses.{Judged, Descends, NamesLeaf, NamesFew, Reasons, old_at, new_below, reasoned_from}
-use Rattle.reasons.specs.declared.Descent.TheVariants as descent
 
 -- ---- first children
 
@@ -84,7 +84,7 @@ module _ (cs : List ℕ) (h : Head) (i : ℕ) where
     pub child-inside : c < h.nodes
     child-inside = let l = first-within (trie_in sizes cs h.nodes h.subgoals) n d.inside d.judged in omega (arith, d.child-is)
 
-    pub descending-end : c ≡ 0 → Descends cs h i (descent.Leaf n)
+    pub descending-end : c ≡ 0 → Descends cs h i (Some n)
     descending-end z = (d.same ∙ firsts-end (view_in cs h) n d.steps some (d.child-is ∙ z), (d.inside, d.judged))
 
     module _ (ne : c ≡ 0 → ⊥) where
@@ -97,12 +97,12 @@ module _ (cs : List ℕ) (h : Head) (i : ℕ) where
           let l = follows-rises h.nodes n (node_in sizes cs n).child b none in
           omega (arith, d.child-is)
 
-      pub descending-lost : node.Damaged ≡ read_node h.nodes h.subgoals (node_in sizes cs) c → Descends cs h i descent.Damaged
+      pub descending-lost : None ≡ read_node h.nodes h.subgoals (node_in sizes cs) c → Descends cs h i None
       descending-lost e =
           let s = read-node-damaged h.nodes h.subgoals (node_in sizes cs) c e in
           d.same ∙ firsts-lost (view_in cs h) n none d.steps some (ap (λ (j : ℕ). sound (trie_in sizes cs h.nodes h.subgoals) j) d.child-is ∙ s)
 
-      module _ (x : Node) (e : node.Sound x ≡ read_node h.nodes h.subgoals (node_in sizes cs) c) where
+      module _ (x : Node) (e : Some x ≡ read_node h.nodes h.subgoals (node_in sizes cs) c) where
         child-sound : sound (trie_in sizes cs h.nodes h.subgoals) c ≡ true
         child-sound = (read-node-sound h.nodes h.subgoals (node_in sizes cs) c e).1
 
@@ -115,7 +115,7 @@ module _ (cs : List ℕ) (h : Head) (i : ℕ) where
         first-parent : (node_in sizes cs (node_in sizes cs n).child).parent ≡ x.parent
         first-parent = ap (λ (j : ℕ). (node_in sizes cs j).parent) d.child-is ∙ sym (ap (λ (y : Node). y.parent) child-read)
 
-        pub descending-stray : (x.parent ≡ n → ⊥) → Descends cs h i descent.Damaged
+        pub descending-stray : (x.parent ≡ n → ⊥) → Descends cs h i None
         descending-stray p = d.same ∙ firsts-stray (view_in cs h) n none first-sound d.steps some (λ z. p (sym first-parent ∙ z))
 
         pub descending-on : x.parent ≡ n → Descending cs h i c x.child
@@ -140,10 +140,6 @@ other_test : (b : Bool) (s : ℕ) (y : State) (q : Reply) → ((t : ℕ) (x : St
 other_test true s y q f e = let z : q ≡ old_subgoal s y = cc in absurd (f s y z)
 other_test false s y q f e = refl
 
-first_of : (a b c : Bool) → (a && b && c) ≡ true → a ≡ true
-first_of true b c e = refl
-first_of false b c e = e
-
 module _ (cs : List ℕ) (h : Head) (leaf : ℕ) (y : Node) (n : y ≡ node_in sizes cs leaf) where
   abbrev s : ℕ
   s = (node_in sizes cs leaf).link
@@ -151,88 +147,79 @@ module _ (cs : List ℕ) (h : Head) (leaf : ℕ) (y : Node) (n : y ≡ node_in s
   abbrev test : Bool
   test = ltb 0 s && sound_subgoal (view_in cs h) s && eqb ((view_in cs h).subgoal s).leaf leaf
 
-  pub leaf-named : (t : ℕ) (x : State) → says (old_subgoal t x) ≡ called_old (view_in cs h) leaf y.link → NamesLeaf cs h leaf t
+  pub leaf-named : (t : ℕ) (x : State) → says (old_subgoal t x) ≡ called_old (view_in cs h) leaf y.link → NamesLeaf cs h leaf (Ok t)
   unfolding called_old named_by
   leaf-named t x e say =
       let f : says (old_subgoal t x) ≡ pick test (says (old_subgoal s (state_of ((view_in cs h).subgoal s).state))) (refuses 9) = e ∙ ap (λ (z : Node). called_old (view_in cs h) leaf z.link) n in
       let r = old-test test s t x (state_of ((view_in cs h).subgoal s).state) f in
-      let l = ltb-true 0 s (first_of (ltb 0 s) (sound_subgoal (view_in cs h) s) (eqb ((view_in cs h).subgoal s).leaf leaf) r.0) in
-      let z : t ≡ 0 → ⊥ = λ k. omega (arith, r.1) in
-      rw (r.0, ne_eqb t 0 z) (ap (λ (j : ℕ). says (say j)) (sym r.1))
+      rw r.0 (ap (λ (j : ℕ). says (say j)) (sym r.1))
 
-  pub leaf-unnamed : (q : Reply) → says q ≡ called_old (view_in cs h) leaf y.link → ((t : ℕ) (x : State) → q ≡ old_subgoal t x → ⊥) → NamesLeaf cs h leaf 0
+  pub leaf-unnamed : (q : Reply) → says q ≡ called_old (view_in cs h) leaf y.link → ((t : ℕ) (x : State) → q ≡ old_subgoal t x → ⊥) → NamesLeaf cs h leaf (Err refusal.Records)
   unfolding called_old named_by
   leaf-unnamed q e f say =
       let g : says q ≡ pick test (says (old_subgoal s (state_of ((view_in cs h).subgoal s).state))) (refuses 9) = e ∙ ap (λ (z : Node). called_old (view_in cs h) leaf z.link) n in
       rw (other_test test s (state_of ((view_in cs h).subgoal s).state) q f g)
 
-module _ (cs : List ℕ) (h : Head) (leaf s : ℕ) (k : NamesLeaf cs h leaf s) (say : ℕ → Reply) where
-  pub named-lost : s ≡ 0 → refuses 9 ≡ named_by (view_in cs h) leaf say
-  named-lost e = sym (k say ∙ rw (eq-eqb s 0 e))
-
-  pub named-found : (s ≡ 0 → ⊥) → says (say s) ≡ named_by (view_in cs h) leaf say
-  named-found e = sym (k say ∙ rw (ne_eqb s 0 e))
-
 -- ---- the reason
 
-module _ (cs : List ℕ) (h : Head) (leaf m s : ℕ) (k : NamesLeaf cs h leaf s) where
-  pub old-lost : s ≡ 0 → Reasons m (old_at (view_in cs h) leaf m) (reason.Refused 9)
-  old-lost e = (λ vs. named-lost cs h leaf s k (λ t. because (old_as t (take m vs))) e, tt)
+module _ (cs : List ℕ) (h : Head) (leaf m : ℕ) where
+  pub old-lost : (r : Refusal) → NamesLeaf cs h leaf (Err r) → Reasons m (old_at (view_in cs h) leaf m) (Err r)
+  old-lost r k = (λ vs. sym (k (λ t. because (old_as t (take m vs)))), tt)
 
-  pub old-found : (s ≡ 0 → ⊥) → Reasons m (old_at (view_in cs h) leaf m) (reason.Old s m)
-  old-found e = (λ vs. named-found cs h leaf s k (λ t. because (old_as t (take m vs))) e, omega arith)
+  pub old-found : (s : ℕ) → NamesLeaf cs h leaf (Ok s) → Reasons m (old_at (view_in cs h) leaf m) (Ok (reason.Old s m))
+  old-found s k = (λ vs. sym (k (λ t. because (old_as t (take m vs)))), omega arith)
 
 module _ (cs : List ℕ) (h : Head) (parent n : ℕ) where
-  abbrev NewReasons : Reason → Type 0
+  abbrev NewReasons : Result Reason Refusal → Type 0
   NewReasons r = (m : ℕ) → Reasons m (new_below (view_in cs h) parent n) r
 
-  pub new_none : n ≡ 0 → NewReasons (reason.New 0 0)
+  pub new_none : n ≡ 0 → NewReasons (Ok (reason.New 0 0))
   new_none e m = (λ vs. rw (eq-eqb n 0 e), tt)
 
   module _ (e : n ≡ 0 → ⊥) where
-    pub new-astray : Descends cs h parent descent.Damaged → NewReasons (reason.Refused 9)
+    pub new-astray : Descends cs h parent None → NewReasons (Err refusal.Records)
     unfolding new_at
     new-astray d m = (λ vs. rw (ne_eqb n 0 e, d), tt)
 
-    module _ (leaf s : ℕ) (d : Descends cs h parent (descent.Leaf leaf)) (k : NamesLeaf cs h leaf s) where
-      pub new-lost : s ≡ 0 → NewReasons (reason.Refused 9)
+    module _ (leaf : ℕ) (d : Descends cs h parent (Some leaf)) where
+      pub new-lost : (r : Refusal) → NamesLeaf cs h leaf (Err r) → NewReasons (Err r)
       unfolding new_at
-      new-lost z m = (λ vs. rw (ne_eqb n 0 e, d.0) (named-lost cs h leaf s k (λ t. because (new_past n t)) z), tt)
+      new-lost r k m = (λ vs. rw (ne_eqb n 0 e, d.0) (sym (k (λ t. because (new_past n t)))), tt)
 
-      pub new-found : (s ≡ 0 → ⊥) → NewReasons (reason.New n s)
+      pub new-found : (s : ℕ) → NamesLeaf cs h leaf (Ok s) → NewReasons (Ok (reason.New n s))
       unfolding new_at
-      new-found z m = (λ vs. rw (ne_eqb n 0 e, d.0) (named-found cs h leaf s k (λ t. because (new_past n t)) z), tt)
+      new-found s k m = (λ vs. rw (ne_eqb n 0 e, d.0) (sym (k (λ t. because (new_past n t)))), tt)
 
 -- after the walk
 module _ (find : Finding) (v : View) (w : List ℕ) (m : ℕ) where
   abbrev Walks : Walk → Type 0
   Walks x = walk_by find (subgoal_trie v) 0 w ≡ x
 
-  pub reasons-whole : (leaf : ℕ) (r : Reason) → Walks (whole leaf) → Reasons m (old_at v leaf m) r → Reasons m (reasoned_from find v w m) r
+  pub reasons-whole : (leaf : ℕ) (r : Result Reason Refusal) → Walks (whole leaf) → Reasons m (old_at v leaf m) r → Reasons m (reasoned_from find v w m) r
   unfolding reasoned_at
   reasons-whole leaf r e k = (λ vs. rw e (k.0 vs), k.1)
 
-  pub reasons-stopped : (parent last : ℕ) (left : List ℕ) (r : Reason) (n : ℕ) → Walks (stopped parent last left) → n ≡ length w - length left
+  pub reasons-stopped : (parent last : ℕ) (left : List ℕ) (r : Result Reason Refusal) (n : ℕ) → Walks (stopped parent last left) → n ≡ length w - length left
       → Reasons m (new_below v parent n) r → Reasons m (reasoned_from find v w m) r
   unfolding reasoned_at
   reasons-stopped parent last left r n e l k = (λ vs. rw (e, ← l) (k.0 vs), k.1)
 
-  pub reasons-damaged : Walks damaged → Reasons m (reasoned_from find v w m) (reason.Refused 9)
+  pub reasons-damaged : Walks damaged → Reasons m (reasoned_from find v w m) (Err refusal.Records)
   unfolding reasoned_at
   reasons-damaged e = (λ vs. rw e, tt)
 
 -- a term that was read
 module _ (find : Finding) (cs : List ℕ) (h : Head) (term : List ℕ) where
-  pub why-refused : (r : ℕ) → Refusal r ≡ reading (arity_of h.edition) (stored_of h.edition) 1 term → Comes find cs h (why term) (refused r) cs
+  pub why-refused : (r : Refusal) → Err r ≡ reading (arity_of h.edition) (stored_of h.edition) 1 term → Comes find cs h (why term) (refused (number_of r)) cs
   unfolding decide_by lent reasoned_by
-  why-refused r e = comes find cs h (why term) (refuses r) (refused r) cs refl (rw (called-refused h.edition term r e)) (decided-says find cs h (refused r))
+  why-refused r e = comes find cs h (why term) (refuses (number_of r)) (refused (number_of r)) cs refl (rw (called-refused h.edition term r e)) (decided-says find cs h (refused (number_of r)))
 
-  module _ (n m : ℕ) (e : Form n m ≡ reading (arity_of h.edition) (stored_of h.edition) 1 term) where
+  module _ (n m : ℕ) (e : Ok (formed n m) ≡ reading (arity_of h.edition) (stored_of h.edition) 1 term) where
     pub why-other : callable (get_or term 0 0) ≡ false → Comes find cs h (why term) (refused 6) cs
     unfolding decide_by lent reasoned_by
     why-other f = comes find cs h (why term) (refuses 6) (refused 6) cs refl (rw (called-other h.edition term n m e f)) (decided-says find cs h (refused 6))
 
-    module _ (vars buffer : List ℕ) (r : Reason) (v : take m vars ≡ met [] term) where
+    module _ (vars buffer : List ℕ) (r : Result Reason Refusal) (v : take m vars ≡ met [] term) where
       pub why-form : callable (get_or term 0 0) ≡ true → take n buffer ≡ (stored_of h.edition).form term
           → Reasons m (reasoned_from find (view_in cs h) (take n buffer) m) r → Comes find cs h (why term) (said_reason r vars) cs
       unfolding decide_by lent reasoned_by
@@ -241,13 +228,13 @@ module _ (find : Finding) (cs : List ℕ) (h : Head) (term : List ℕ) where
           (rw (called-form h.edition term n m e f, ← b, ← v) (sym (k.0 vars)))
           (decided-says find cs h (said_reason r vars))
 
-      few-named : (q : Reason) → NamesFew m q → NamedIn vars q
-      few-named (reason.Old s k) l =
+      few-named : (q : Result Reason Refusal) → NamesFew m q → NamedIn vars q
+      few-named (Ok (reason.Old s k)) l =
           let room = taken-room m vars (met [] term) v (variables-are _ _ 1 term n m e) in
           let few = variables-few _ _ 1 term n m e in
           (omega (arith, l), omega (arith, l))
-      few-named (reason.New k s) l = tt
-      few-named (reason.Refused x) l = tt
+      few-named (Ok (reason.New k s)) l = tt
+      few-named (Err x) l = tt
 
       pub why-named : {d : List ℕ → Decision} → Reasons m d r → NamedIn vars r
       why-named k = few-named r k.1
@@ -269,29 +256,6 @@ found-count w count l =
     let a = length-drop (length w - count) w in
     let b = length-take (length w - (length w - count)) (drop (length w - count) w) in
     omega arith
-
--- ---- the answer by value
-
--- the first of some cells copied over others
-module _ (r : Reason) (vars zeros out : List ℕ) (z : length zeros ≡ 32) where
-  abbrev Carries : Type 0
-  Carries = (said_reason r out ≡ said_reason r vars) × ((length out ≡ 32) × NamedIn out r)
-
-  pub carries-old : (n m : ℕ) → r ≡ reason.Old n m → NamedIn vars r → out ≡ take m vars ++ drop m zeros
-      → (said_reason (reason.Old n m) out ≡ said_reason r vars) × ((length out ≡ 32) × NamedIn out (reason.Old n m))
-  carries-old n m e k o =
-      let i : (m ≤ length vars) × (m ≤ 32) = rw e at k in
-      let a = length-take m vars in
-      let s : length (take m vars) ≡ m = omega (arith, i.0) in
-      let l : length out ≡ 32 = ap length o ∙ (omega (arith, length-append (take m vars) (drop m zeros), length-drop m zeros, i.1)) in
-      let t : take m out ≡ take m vars = ap (take m) o ∙ take_at (take m vars) (drop m zeros) m s in
-      (ap (λ (x : List ℕ). because (old_as n x)) t ∙ sym (ap (λ (q : Reason). said_reason q vars) e), (l, (omega (arith, i.1), i.1)))
-
-  pub carries-new : (k s : ℕ) → r ≡ reason.New k s → out ≡ zeros → Carries
-  carries-new k s e o = rw (e, o) (refl, (z, tt))
-
-  pub carries-refused : (k : ℕ) → r ≡ reason.Refused k → out ≡ zeros → Carries
-  carries-refused k e o = rw (e, o) (refl, (z, tt))
 
 -- the same answer by another name
 pub said-as : (find : Finding) (cs term : List ℕ) (q r : Reply) → q ≡ r → AnswersBy find cs (why term) r [] cs → AnswersBy find cs (why term) q [] cs

@@ -1,5 +1,8 @@
 -- What the functions of why ask for and what they leave: the names that their contracts use.
 use Rattle.std.specs.Prelude.{ℕ, ◌<◌, ◌≤◌, ◌≡◌, true, List, eqb, take}
+use Rattle.std.specs.Prelude.{Option, Some, None, Result, Ok, Err}
+use Rattle.basis.specs.declared.refusals.Refusal.{Refusal}
+use Rattle.basis.specs.Refusals.{number_of}
 use Rattle.basis.specs.Choice.{pick}
 use Rattle.plain.specs.Requests.{Reply, old_as, new_past, because}
 use Rattle.space.specs.Layout.{sizes}
@@ -13,8 +16,6 @@ use Rattle.store.specs.Clauses.{view_in}
 use Rattle.store.specs.Replies.{said_reason}
 use Rattle.store.specs.declared.Reason.{Reason}
 use Rattle.store.specs.declared.Reason.TheVariants as reason
-use Rattle.reasons.specs.declared.Descent.{Descent}
-use Rattle.reasons.specs.declared.Descent.TheVariants as descent
 
 -- node n of the subgoal trie was read and found sound
 abbrev pub Judged : List ℕ → Head → ℕ → Type 0
@@ -24,23 +25,26 @@ abbrev pub SoundNode : List ℕ → Head → ℕ → Type 0
 SoundNode cs h n = Bounds cs h × Judged cs h n
 
 -- where first children lead from a node
-abbrev pub Descends : List ℕ → Head → ℕ → Descent → Type 0
-Descends cs h i (descent.Leaf n) = (firsts_from (view_in cs h) h.nodes i ≡ leads n) × Judged cs h n
-Descends cs h i descent.Damaged = firsts_from (view_in cs h) h.nodes i ≡ astray
+abbrev pub Descends : List ℕ → Head → ℕ → Option ℕ → Type 0
+Descends cs h i (Some n) = (firsts_from (view_in cs h) h.nodes i ≡ leads n) × Judged cs h n
+Descends cs h i None = firsts_from (view_in cs h) h.nodes i ≡ astray
 
--- s is the subgoal of which something is said by its leaf; 0 where a damaged record was met
-abbrev pub NamesLeaf : List ℕ → Head → ℕ → ℕ → Type 0
-NamesLeaf cs h leaf s =
-    (say : ℕ → Reply) → named_by (view_in cs h) leaf say ≡ pick (eqb s 0) (refuses 9) (says (say s))
+-- what is said of the subgoal that a leaf names; or it is refused
+abbrev pub said_of : (ℕ → Reply) → Result ℕ Refusal → Decision
+said_of say (Ok s) = says (say s)
+said_of say (Err r) = refuses (number_of r)
+
+abbrev pub NamesLeaf : List ℕ → Head → ℕ → Result ℕ Refusal → Type 0
+NamesLeaf cs h leaf r = (say : ℕ → Reply) → named_by (view_in cs h) leaf say ≡ said_of say r
 
 -- the reason names at most so many variables
-abbrev pub NamesFew : ℕ → Reason → Type 0
-NamesFew m (reason.Old n k) = k ≤ m
-NamesFew m (reason.New k s) = Unit {0}
-NamesFew m (reason.Refused r) = Unit {0}
+abbrev pub NamesFew : ℕ → Result Reason Refusal → Type 0
+NamesFew m (Ok (reason.Old n k)) = k ≤ m
+NamesFew m (Ok (reason.New k s)) = Unit {0}
+NamesFew m (Err r) = Unit {0}
 
 -- the reason is what the decision says, whatever the variables are, and names at most m of them
-abbrev pub Reasons : ℕ → (List ℕ → Decision) → Reason → Type 0
+abbrev pub Reasons : ℕ → (List ℕ → Decision) → Result Reason Refusal → Type 0
 Reasons m d r = ((vs : List ℕ) → says (said_reason r vs) ≡ d vs) × NamesFew m r
 
 -- what becomes of a form that was found whole at a leaf; of one of which n tokens were found down to a node; and of one

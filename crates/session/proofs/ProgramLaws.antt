@@ -1,4 +1,5 @@
 -- The program prints the session of its input's lines: line after line first, then byte after byte.
+use Rattle.std.specs.Prelude.{Err, Ok}
 use Prim.Native.Nat.{ℕ, suc, zero, ◌+◌, ◌≤◌, ◌<◌}
 use mathlib.Core.Bool.{Bool, true, false}
 use mathlib.Core.List.{List, [], ◌∷◌, ◌++◌, append_assoc}
@@ -14,10 +15,8 @@ use Rattle.basis.proofs.Cases.{by_cases}
 use Rattle.forms.specs.Compact.{same}
 use Rattle.plain.specs.Requests.{Request, call_least, call, answer, finish, next, load, instance, counts, join, why, detours, lent}
 use Rattle.space.specs.Layout.{sizes_of, subgoal_width, answer_width}
-use Rattle.space.specs.Heading.{in_range}
+use Rattle.space.specs.Heading.{in_range, Header}
 use Rattle.space.specs.Fresh.{fresh_fits, fresh_answer, fresh_answer_in}
-use Rattle.space.specs.declared.Header.{Header}
-use Rattle.space.specs.declared.Header.TheVariants as header
 use Rattle.space.specs.Heading.{space_header}
 use Rattle.store.specs.Decisions.{Decision, says as decides, gives, enters_subgoal, enters_answer, enters_empty, finishes, enters_answers, decide}
 use Rattle.store.specs.Calls.{out_after, under_by, under_any, under_any_by, space_step, space_step_by}
@@ -54,8 +53,8 @@ out-after (enters_answers s ws) out = refl
 
 under-out : (cs : List ℕ) (q : Request) (h : Header) → length (under_any cs q h).out ≡ length (lent q)
 unfolding under_any_by under_by
-under-out cs q (header.Sound h) = out-after (decide (coding_of h.edition) (view_of (sizes_of h.edition) cs h) q) (lent q)
-under-out cs q (header.Refused r) = refl
+under-out cs q (Ok h) = out-after (decide (coding_of h.edition) (view_of (sizes_of h.edition) cs h) q) (lent q)
+under-out cs q (Err r) = refl
 
 step-out : (cs : List ℕ) (q : Request) → length (space_step cs q).out ≡ length (lent q)
 unfolding space_step_by

@@ -1,4 +1,5 @@
 -- A session over cells prints what the plain table would: the promise, line by line.
+use Rattle.std.specs.Prelude.{Ok}
 use Prim.Native.Nat.{ℕ}
 use mathlib.Core.Bool.{true}
 use mathlib.Core.List.{List, [], ◌∷◌, ◌++◌}
@@ -9,7 +10,6 @@ use Rattle.plain.specs.Table.{fresh, step}
 use Rattle.basis.specs.Editions.{known_edition}
 use Rattle.space.specs.Layout.{sizes_of}
 use Rattle.space.specs.Fresh.{fresh_answer, fresh_space, fresh_answer_in, fresh_space_in}
-use Rattle.space.specs.declared.FreshAnswer.TheVariants.{Done}
 use Rattle.store.specs.Calls.{space_step}
 use Rattle.agreement.proofs.Theorem.{following}
 use Rattle.asking.specs.Lines.{Meaning, bad, asks, means}
@@ -28,7 +28,7 @@ one_known : known_edition 1 ≡ true
 unfolding known_edition
 one_known = refl
 
-module _ (n f a : ℕ) (s : List ℕ) (d : fresh_answer (sizes_of 1) n f a s ≡ Done) where
+module _ (n f a : ℕ) (s : List ℕ) (d : fresh_answer (sizes_of 1) n f a s ≡ Ok tt) where
   abbrev cells_left : List Request → List ℕ
   cells_left qs = left space_step (fresh_space (sizes_of 1) n f a s) qs
 

@@ -1,7 +1,6 @@
 -- The numbers of the session program: its table's edition and capacities, and the lengths of what it holds.
 use Rattle.std.specs.Prelude.{ℕ, ◌+◌, List}
-use Rattle.space.specs.Fresh.{fresh_answer_in, fresh_space_in}
-use Rattle.space.specs.declared.FreshAnswer.{FreshAnswer}
+use Rattle.space.specs.Fresh.{fresh_answer_in, fresh_space_in, FreshAnswer}
 use Rattle.asking.specs.Lines.{longest_line}
 use Rattle.replies.specs.Texts.{text_room}
 

@@ -1,9 +1,8 @@
 -- What the session program's calls of two functions come to: line after line, and byte after byte of what it reads.
 -- The program itself reads, makes these calls and writes.
-use Rattle.std.specs.Prelude.{ℕ, ◌≤◌, ◌<◌, List, [], ◌∷◌, ◌++◌, ◌≡◌, eqb, length, take, drop, set}
+use Rattle.std.specs.Prelude.{ℕ, ◌≤◌, ◌<◌, List, [], ◌∷◌, ◌++◌, ◌≡◌, eqb, length, take, drop, set, Ok}
 use Rattle.basis.specs.Choice.{pick}
 use Rattle.plain.specs.Table.{fresh}
-use Rattle.space.specs.declared.FreshAnswer.TheVariants.{Done}
 use Rattle.text.specs.Cutting.{newline, lines_of, concatenated, kept_more, taking}
 use Rattle.text.specs.declared.Taking.{Taking}
 use Rattle.text.specs.declared.Taking.TheVariants.{Line, More}
@@ -121,7 +120,7 @@ pub record Lengths (line text space out : List ℕ) : Type 0 where
 
 -- with the program's numbers its table is made
 abbrev pub Started : Type 0
-Started = (space : List ℕ) → length space ≡ space_cells → start_answer space ≡ Done
+Started = (space : List ℕ) → length space ≡ space_cells → start_answer space ≡ Ok tt
 
 -- and it prints what the plain table would
 abbrev pub Sessions : Type 0

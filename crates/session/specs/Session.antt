@@ -1,11 +1,10 @@
 -- A session, line by line, over any holder of a table: what is printed, and what is left.
-use Rattle.std.specs.Prelude.{ℕ, List, [], ◌∷◌, ◌++◌, ◌≡◌, leb, length, drop}
+use Rattle.std.specs.Prelude.{ℕ, List, [], ◌∷◌, ◌++◌, ◌≡◌, leb, length, drop, Ok}
 use Rattle.basis.specs.Choice.{pick}
 use Rattle.plain.specs.Coding.{coding_of}
 use Rattle.plain.specs.Requests.{Request, Result}
 use Rattle.plain.specs.Table.{Table, fresh, step}
 use Rattle.space.specs.Fresh.{fresh_answer_in, fresh_space_in}
-use Rattle.space.specs.declared.FreshAnswer.TheVariants.{Done}
 use Rattle.store.specs.Calls.{space_step}
 use Rattle.text.specs.Cutting.{newline}
 use Rattle.asking.specs.Lines.{means}
@@ -51,5 +50,5 @@ plain_session = session (step (coding_of session_edition))
 -- whatever the lines are, a session from a fresh space prints what the plain table would
 abbrev pub Printed : Type 0
 Printed =
-    (n f a : ℕ) (s : List ℕ) (lines : List (List ℕ)) (out : List ℕ) → fresh_answer_in session_edition n f a s ≡ Done
+    (n f a : ℕ) (s : List ℕ) (lines : List (List ℕ)) (out : List ℕ) → fresh_answer_in session_edition n f a s ≡ Ok tt
     → cell_session lines (fresh_space_in session_edition n f a s) out ≡ plain_session lines (fresh n f a) out

@@ -3,8 +3,8 @@ ghost use Rattle.std.specs.Prelude.{◌≡◌, length};
 ghost use Rattle.session.specs.Numbers.{space_cells, out_cells, text_bytes, line_bytes, start_answer, start_space};
 
 use asking::LONGEST_LINE;
+use basis::refusals::Refusal;
 use replies::{CELL_BYTES, REPLY_BYTES};
-use space::FreshAnswer;
 use space::fresh::fresh;
 
 // The table's edition.
@@ -32,7 +32,7 @@ pub const TEXT_BYTES: usize = CELL_BYTES * OUT_CELLS + REPLY_BYTES;
 pub const LINE_BYTES: usize = LONGEST_LINE + 1;
 
 // Makes the table.
-pub fn start(space: &mut [u32]) -> FreshAnswer
+pub fn start(space: &mut [u32]) -> Result<(), Refusal>
     ensures { (result ≡ start_answer space.old) × (space.new ≡ start_space space.old) }
 {
     fresh(space, NODES, SUBGOALS, ANSWERS, EDITION)

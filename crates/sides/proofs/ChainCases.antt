@@ -1,4 +1,5 @@
 -- A law for each case of judging a source's answers.
+use Rattle.std.specs.Prelude.{None, Some}
 use Prim.Native.Nat.{ℕ, zero, suc, ◌+◌, ◌-◌, ◌<◌, ◌≤◌}
 use mathlib.Core.Path.{◌≡◌, refl, sym, ap, ◌∙◌}
 use mathlib.Core.Bool.{Bool, true, false, ◌&&◌}
@@ -17,7 +18,6 @@ use Rattle.space.specs.Sound.{subgoal_under}
 use Rattle.space.specs.declared.Head.{Head}
 use Rattle.space.specs.declared.Subgoal.{Subgoal}
 use Rattle.space.specs.declared.Answer.{Answer}
-use Rattle.space.specs.declared.AnswerRead.TheVariants as answer
 use Rattle.space.proofs.JudgingLaws.{answer-bounds, read-answer-sound, follows-rises, follows-within}
 use Rattle.trie.specs.Paths.{Path, none, tokens}
 use Rattle.trie.specs.Ends.{answer_end}
@@ -27,7 +27,7 @@ use Rattle.store.specs.Decisions.{Chain, broken, unbroken, headed, chain_from, c
 use Rattle.path_terms.specs.AlongPaths.{worth}
 use Rattle.store.proofs.CallsRecords.{reads-answer, read-answer-damaged}
 use Rattle.sides.specs.Chains.{free, PathBroken, PathHeld, prepended, chain_in, Onward, AnswerJudged, ChainHeld}
-use Rattle.sides.specs.declared.Member.TheVariants as member
+use Rattle.sides.specs.declared.Member.{Member}
 
 -- ---- a path
 
@@ -65,15 +65,15 @@ headed-legal test w t broken = refl
 headed-legal test w t (unbroken ws) = rw t refl
 
 module _ (cs : List ℕ) (h : Head) (s a : ℕ) (z : a ≡ 0 → ⊥) where
-  pub answer-damaged : answer.Damaged ≡ reads-answer (view_in cs h) a → AnswerJudged cs h s a member.Damaged
+  pub answer-damaged : None ≡ reads-answer (view_in cs h) a → AnswerJudged cs h s a None
   unfolding chain_from
   answer-damaged e steps = simp (ne_eqb _ _ z, read-answer-damaged _ _ _ _ _ e)
 
-  module _ (y : Answer) (e : answer.Sound y ≡ reads-answer (view_in cs h) a) where
+  module _ (y : Answer) (e : Some y ≡ reads-answer (view_in cs h) a) where
     read : (y ≡ (view_in cs h).answer a) × (answer_sound h.nodes h.subgoals h.answers a ((view_in cs h).answer a) ≡ true)
     read = read-answer-sound h.nodes h.subgoals h.answers (view_in cs h).answer a e
 
-    pub answer-other : (y.subgoal ≡ s → ⊥) → AnswerJudged cs h s a member.Damaged
+    pub answer-other : (y.subgoal ≡ s → ⊥) → AnswerJudged cs h s a None
     unfolding chain_from
     answer-other o steps = simp (ne_eqb _ _ z, read.1, ne_eqb _ _ (λ x. o (ap (λ (w : Answer). w.subgoal) read.0 ∙ x)))
 
@@ -92,10 +92,10 @@ module _ (cs : List ℕ) (h : Head) (s a : ℕ) (z : a ≡ 0 → ⊥) where
           rw (f, read.0)
           (simp (ne_eqb _ _ z, read.1, eq-eqb _ _ (ap (λ (w : Answer). w.subgoal) (sym read.0) ∙ o)))
 
-      pub answer-broken : PathBroken h.edition (path_to cs (answer_end h g y)) g.variables → AnswerJudged cs h s a member.Damaged
+      pub answer-broken : PathBroken h.edition (path_to cs (answer_end h g y)) g.variables → AnswerJudged cs h s a None
       answer-broken p steps = from-here steps ∙ p (chain_in cs h s steps y.next)
 
-      pub answer-held : (b : Bool) → PathHeld h.edition (path_to cs (answer_end h g y)) g.variables b → AnswerJudged cs h s a (member.Sound y.next b)
+      pub answer-held : (b : Bool) → PathHeld h.edition (path_to cs (answer_end h g y)) g.variables b → AnswerJudged cs h s a (Some (record { next = y.next; ground = b }))
       answer-held b p = (
         onward,
         (
@@ -176,14 +176,14 @@ module _ (cs : List ℕ) (h : Head) (s : ℕ) where
       from_step : (x : Chain) → chain_in cs h s (suc (p.steps - 1)) a ≡ x → chain_of (coding_of h.edition) (view_in cs h) s ≡ prepended p.forms x
       from_step x e = p.rest ∙ ap (λ (k : ℕ). prepended p.forms (chain_in cs h s k a)) one-step ∙ ap (prepended p.forms) e
 
-      pub passed-broken : AnswerJudged cs h s a member.Damaged → chain_of (coding_of h.edition) (view_in cs h) s ≡ broken
+      pub passed-broken : AnswerJudged cs h s a None → chain_of (coding_of h.edition) (view_in cs h) s ≡ broken
       passed-broken j = from_step broken (j (p.steps - 1)) ∙ prepended-broken p.forms
 
-      pub passed_on : (next : ℕ) (d r : Bool) → AnswerJudged cs h s a (member.Sound next d) → r ≡ (b && d) → Passed cs h s next r
-      passed_on next d r j e = record {
+      pub passed_on : (m : Member) (r : Bool) → AnswerJudged cs h s a (Some m) → r ≡ (b && m.ground) → Passed cs h s m.next r
+      passed_on m r j e = record {
         forms = p.forms ++ (j.1.0 ∷ []);
         steps = p.steps - 1;
-        rest = from_step _ (j.1.2 (p.steps - 1)) ∙ prepended-append p.forms (j.1.0 ∷ []) (chain_in cs h s (p.steps - 1) next);
+        rest = from_step _ (j.1.2 (p.steps - 1)) ∙ prepended-append p.forms (j.1.0 ∷ []) (chain_in cs h s (p.steps - 1) m.next);
         all-free = ground-append p.forms j.1.0 ∙ rw (p.all-free, j.1.1) (sym e);
         suffice = λ k. let u = p.suffice z in let i = j.0.0 k in omega (arith, one-step);
         within = j.0.1;

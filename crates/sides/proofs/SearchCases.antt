@@ -1,4 +1,5 @@
 -- A law for each case of the search of a form, and of what two forms share.
+use Rattle.std.specs.Prelude.{None, Some}
 use Prim.Native.Nat.{ℕ, suc, ◌+◌, ◌<◌, ◌≤◌}
 use mathlib.Core.Path.{◌≡◌, refl, ap, ◌∙◌}
 use mathlib.Core.Bool.{Bool, true, false}
@@ -17,7 +18,6 @@ use Rattle.space.specs.Layout.{sizes, node_in}
 use Rattle.space.specs.declared.Head.{Head}
 use Rattle.space.specs.declared.Node.{Node}
 use Rattle.space.specs.declared.Answer.{Answer}
-use Rattle.space.specs.declared.AnswerRead.TheVariants as answer
 use Rattle.space.proofs.JudgingLaws.{read-answer-sound}
 use Rattle.trie.specs.Siblings.{trie_in}
 use Rattle.trie.specs.Walks.{Finding, walk_by, shown}
@@ -38,11 +38,11 @@ module _ (v : View) (n leaf a : ℕ) where
   whole-unlinked z = simp (eq-eqb _ _ z)
 
   module _ (z : a ≡ 0 → ⊥) where
-    pub whole-damaged : answer.Damaged ≡ reads-answer v a → false ≡ whole_sound v n leaf a
+    pub whole-damaged : None ≡ reads-answer v a → false ≡ whole_sound v n leaf a
     unfolding whole_sound
     whole-damaged e = simp (ne_eqb _ _ z, read-answer-damaged _ _ _ _ _ e)
 
-    pub whole-linked : (y : Answer) → answer.Sound y ≡ reads-answer v a → eqb y.leaf leaf ≡ whole_sound v n leaf a
+    pub whole-linked : (y : Answer) → Some y ≡ reads-answer v a → eqb y.leaf leaf ≡ whole_sound v n leaf a
     unfolding whole_sound
     whole-linked y e =
         let r = read-answer-sound v.nodes v.subgoals v.answers v.answer a e in

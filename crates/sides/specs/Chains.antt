@@ -1,5 +1,7 @@
 -- What judging a source's answers gives: of one path, of one answer, and of the chain of all.
-use Rattle.std.specs.Prelude.{ℕ, suc, ◌<◌, ◌≤◌, Bool, true, false, List, [], ◌∷◌, ◌++◌, ◌≡◌, eqb, length}
+use Rattle.std.specs.Prelude.{Option, Some, None}
+use Rattle.std.specs.Prelude.{ℕ, suc, ◌<◌, ◌≤◌, Bool, true, false, ◌≡◌, eqb}
+use Rattle.std.specs.Prelude.{List, [], ◌∷◌, ◌++◌, length}
 use Rattle.forms.specs.Stored.{stored_of}
 use Rattle.forms.specs.Numbering.{met}
 use Rattle.plain.specs.Words.{Word}
@@ -12,7 +14,6 @@ use Rattle.store.specs.Decisions.{Chain, broken, unbroken, headed, chain_from, c
 use Rattle.sides.specs.declared.Judged.{Judged}
 use Rattle.sides.specs.declared.Judged.TheVariants.{Damaged, Ground, Variable}
 use Rattle.sides.specs.declared.Member.{Member}
-use Rattle.sides.specs.declared.Member.TheVariants as member
 
 -- no token of the form is a variable
 abbrev pub free : Word → Bool
@@ -28,10 +29,9 @@ PathBroken edition p m = (later : Chain) → headed ((stored_of edition).legal m
 abbrev pub PathHeld : ℕ → Path → ℕ → Bool → Type 0
 PathHeld edition p m b = (w : Word) × (p ≡ tokens w) × ((stored_of edition).legal m w ≡ true) × (free w ≡ b)
 
-abbrev pub PathJudged : ℕ → Path → ℕ → Judged → Type 0
-PathJudged edition p m Damaged = PathBroken edition p m
-PathJudged edition p m Ground = PathHeld edition p m true
-PathJudged edition p m Variable = PathHeld edition p m false
+abbrev pub PathJudged : ℕ → Path → ℕ → Option Bool → Type 0
+PathJudged edition p m None = PathBroken edition p m
+PathJudged edition p m (Some b) = PathHeld edition p m b
 
 -- ---- an answer
 
@@ -54,9 +54,10 @@ Heads cs h s a w next =
     (steps : ℕ) → chain_in cs h s (suc steps) a ≡ prepended (w ∷ []) (chain_in cs h s steps next)
 
 -- answer a breaks the chain; or it has a form and a next answer
-abbrev pub AnswerJudged : List ℕ → Head → ℕ → ℕ → Member → Type 0
-AnswerJudged cs h s a member.Damaged = (steps : ℕ) → chain_in cs h s (suc steps) a ≡ broken
-AnswerJudged cs h s a (member.Sound next b) = Onward h a next × ((w : Word) × (free w ≡ b) × Heads cs h s a w next)
+abbrev pub AnswerJudged : List ℕ → Head → ℕ → ℕ → Option Member → Type 0
+AnswerJudged cs h s a None = (steps : ℕ) → chain_in cs h s (suc steps) a ≡ broken
+AnswerJudged cs h s a (Some m) =
+    Onward h a m.next × ((w : Word) × (free w ≡ m.ground) × Heads cs h s a w m.next)
 
 -- ---- all answers
 

@@ -8,39 +8,38 @@ ghost use Rattle.sides.specs.Chains.{PathJudged, AnswerJudged, ChainJudged};
 use super::{Judged, Member};
 use path_terms::path_worth;
 use space::records::read_answer;
-use space::{AnswerRead, Head, Subgoal};
+use space::{Head, Subgoal};
 use trie::End;
 use trie::ends::answer_end;
 
-// The path of an answer, from its leaf up.
-fn judge_path(space: &[u32], end: End, m: usize, edition: u32) -> Judged
+// Does the path of an answer, from its leaf up, hold no variable? Nothing where it is damaged.
+fn judge_path(space: &[u32], end: End, m: usize, edition: u32) -> Option<bool>
     requires { Ends space.now end }
     ensures { PathJudged edition (path_to space.now end) m result }
 {
     match path_worth(space, end, m, false, edition) {
-        0 => Judged::Damaged,
-        1 => Judged::Ground,
-        _ => Judged::Variable,
+        0 => None,
+        1 => Some(true),
+        _ => Some(false),
     }
 }
 
-// Answer a, which is to be the subgoal's. What follows it is judged also where its form holds a variable.
-fn judge_answer(space: &[u32], h: Head, s: usize, g: Subgoal, a: usize) -> Member
+// Answer a, which is to be the subgoal's; nothing where it is damaged. What follows it is judged also where its form
+// holds a variable.
+fn judge_answer(space: &[u32], h: Head, s: usize, g: Subgoal, a: usize) -> Option<Member>
     requires { Held space.now h s g × (1 ≤ a) × (a ≤ h.answers) }
     ensures { AnswerJudged space.now h s a result }
 {
-    let AnswerRead::Sound(y) = read_answer(space, h, a) else {
-        return Member::Damaged;
-    };
+    let y = read_answer(space, h, a)?;
     if y.subgoal != s {
-        return Member::Damaged;
+        return None;
     }
     let end = answer_end(h, g, y);
-    match judge_path(space, end, g.variables, h.edition) {
-        Judged::Damaged => Member::Damaged,
-        Judged::Ground => Member::Sound(y.next, true),
-        Judged::Variable => Member::Sound(y.next, false),
-    }
+    let ground = judge_path(space, end, g.variables, h.edition)?;
+    Some(Member {
+        next: y.next,
+        ground,
+    })
 }
 
 // All answers of subgoal s, whose record is g.
@@ -52,11 +51,11 @@ pub fn judge(space: &[u32], h: Head, s: usize, g: Subgoal) -> Judged
     let mut a = g.first;
     let mut ground = true;
     while a != 0 {
-        let Member::Sound(next, free) = judge_answer(space, h, s, g, a) else {
+        let Some(member) = judge_answer(space, h, s, g, a) else {
             return Judged::Damaged;
         };
-        ground &= free;
-        a = next;
+        ground &= member.ground;
+        a = member.next;
     }
     if ground {
         return Judged::Ground;

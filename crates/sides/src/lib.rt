@@ -7,6 +7,7 @@ pub mod names;
 pub mod searches;
 
 // The answers of a source: a damaged record was met, no form holds a variable, or some form does.
+// Three names and no Option of a bool: join's definitions (`whole_answers`, `ground_answers`) go by them.
 #[derive(Clone, Copy)]
 pub enum Judged {
     Damaged,
@@ -14,15 +15,16 @@ pub enum Judged {
     Variable,
 }
 
-// One answer of a source: damaged; or sound, with the number of the next one and whether its form holds no variable.
+// One answer of a source, which was found sound: the number of the next one, and whether its form holds no variable.
 #[derive(Clone, Copy)]
-pub enum Member {
-    Damaged,
-    Sound(usize, bool),
+pub struct Member {
+    pub next: usize,
+    pub ground: bool,
 }
 
 // The search of a form among the answers to a subgoal: no damaged record was met, the form is not among them, and how
 // many of its tokens were not found.
+// `sound` is a flag and not None: pairing's `added` counts on where a damaged record was met.
 #[derive(Clone, Copy)]
 pub struct Met {
     pub sound: bool,

@@ -7,8 +7,8 @@ ghost use Rattle.store.specs.Clauses.{view_in, RootIn};
 ghost use Rattle.sides.specs.Searches.{whole_sound, Searched, all_shared, MeetsOneMore};
 
 use super::{Earlier, Met};
+use space::Head;
 use space::records::{node_in, read_answer};
-use space::{AnswerRead, Head};
 use trie::Walked;
 use trie::walks::walk_tokens;
 
@@ -20,7 +20,7 @@ fn whole_sound(space: &[u32], h: Head, n: usize, leaf: usize, a: usize) -> bool
     if a == 0 {
         return n == 0;
     }
-    let AnswerRead::Sound(y) = read_answer(space, h, a) else {
+    let Some(y) = read_answer(space, h, a) else {
         return false;
     };
     y.leaf == leaf

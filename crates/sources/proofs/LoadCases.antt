@@ -1,4 +1,5 @@
 -- A law for each case of loading a record.
+use Rattle.std.specs.Prelude.{None, Some}
 use Prim.Native.Nat.{ℕ, ◌+◌, ◌≤◌, ◌<◌}
 use mathlib.Core.Path.{◌≡◌, refl, sym, ap, ◌∙◌, subst}
 use mathlib.Core.Bool.{true, false, ◌&&◌}
@@ -17,8 +18,6 @@ use Rattle.space.specs.Sound.{Bounds}
 use Rattle.space.specs.declared.Head.{Head}
 use Rattle.space.specs.declared.Subgoal.{Subgoal}
 use Rattle.space.specs.declared.Answer.{Answer}
-use Rattle.space.specs.declared.SubgoalRead.TheVariants as subgoal
-use Rattle.space.specs.declared.AnswerRead.TheVariants as answer
 use Rattle.space.proofs.JudgingLaws.{subgoal-bounds, answer-bounds, read-subgoal-sound, read-answer-sound}
 use Rattle.trie.specs.Paths.{Path, none, tokens, gather, longest}
 use Rattle.store.specs.Views.{View, subgoal_trie, answer_trie}
@@ -27,6 +26,7 @@ use Rattle.store.proofs.CallsRecords.{reads-subgoal, reads-answer, read-subgoal-
 use Rattle.path_terms.specs.AlongPaths.{worth}
 use Rattle.agreement.specs.Whole.{path_passes, subgoal_path, answer_path}
 use Rattle.carrying.specs.Copying.{subgoal_loads, answer_loads}
+use Rattle.sources.specs.declared.Kind.TheVariants as kind
 use Rattle.sources.specs.declared.Records.{Records}
 use Rattle.sources.specs.Records.{count_of, loads_at}
 
@@ -56,11 +56,11 @@ module _ (cs : List ℕ) (h : Head) (s : ℕ) where
   abbrev view : View
   view = view_in cs h
 
-  pub subgoal-damaged : subgoal.Damaged ≡ reads-subgoal (view_in cs h) s → false ≡ subgoal_loads (coding_of h.edition) (view_in cs h) s
+  pub subgoal-damaged : None ≡ reads-subgoal (view_in cs h) s → false ≡ subgoal_loads (coding_of h.edition) (view_in cs h) s
   unfolding subgoal_loads
   subgoal-damaged e = rw (read-subgoal-damaged h.nodes h.answers (view_in cs h).subgoal s e) refl
 
-  module _ (g : Subgoal) (e : subgoal.Sound g ≡ reads-subgoal (view_in cs h) s) where
+  module _ (g : Subgoal) (e : Some g ≡ reads-subgoal (view_in cs h) s) where
     pub subgoal-is : (g ≡ (view_in cs h).subgoal s) × (subgoal_sound h.nodes h.answers ((view_in cs h).subgoal s) ≡ true)
     subgoal-is = read-subgoal-sound h.nodes h.answers (view_in cs h).subgoal s e
 
@@ -79,11 +79,11 @@ module _ (cs : List ℕ) (h : Head) (s : ℕ) where
 -- ---- an answer
 
 module _ (cs : List ℕ) (h : Head) (a : ℕ) where
-  pub answer-damaged : answer.Damaged ≡ reads-answer (view_in cs h) a → false ≡ answer_loads (coding_of h.edition) (view_in cs h) a
+  pub answer-damaged : None ≡ reads-answer (view_in cs h) a → false ≡ answer_loads (coding_of h.edition) (view_in cs h) a
   unfolding answer_loads
   answer-damaged e = rw (read-answer-damaged h.nodes h.subgoals h.answers (view_in cs h).answer a e) refl
 
-  module _ (y : Answer) (e : answer.Sound y ≡ reads-answer (view_in cs h) a) where
+  module _ (y : Answer) (e : Some y ≡ reads-answer (view_in cs h) a) where
     answer-is : (y ≡ (view_in cs h).answer a) × (answer_sound h.nodes h.subgoals h.answers a ((view_in cs h).answer a) ≡ true)
     answer-is = read-answer-sound h.nodes h.subgoals h.answers (view_in cs h).answer a e
 
@@ -92,7 +92,7 @@ module _ (cs : List ℕ) (h : Head) (a : ℕ) where
         let b = answer-bounds h.nodes h.subgoals h.answers a ((view_in cs h).answer a) answer-is.1 in
         subst (λ (x : Answer). (1 ≤ x.subgoal) × (x.subgoal ≤ h.subgoals) × (x.leaf < h.nodes)) (sym answer-is.0) (b.subgoal-some, b.subgoal-most, b.leaf-below)
 
-    pub owner-damaged : subgoal.Damaged ≡ reads-subgoal (view_in cs h) y.subgoal → false ≡ answer_loads (coding_of h.edition) (view_in cs h) a
+    pub owner-damaged : None ≡ reads-subgoal (view_in cs h) y.subgoal → false ≡ answer_loads (coding_of h.edition) (view_in cs h) a
     unfolding answer_loads
     owner-damaged q =
         let d : subgoal_sound h.nodes h.answers ((view_in cs h).subgoal ((view_in cs h).answer a).subgoal) ≡ false =
@@ -100,7 +100,7 @@ module _ (cs : List ℕ) (h : Head) (a : ℕ) where
         (view_in cs h).subgoal y.subgoal q in
         rw (answer-is.1, d) refl
 
-    module _ (g : Subgoal) (q : subgoal.Sound g ≡ reads-subgoal (view_in cs h) y.subgoal) where
+    module _ (g : Subgoal) (q : Some g ≡ reads-subgoal (view_in cs h) y.subgoal) where
       owner-is : (g ≡ (view_in cs h).subgoal ((view_in cs h).answer a).subgoal) × (subgoal_sound h.nodes h.answers ((view_in cs h).subgoal ((view_in cs h).answer a).subgoal) ≡ true)
       owner-is = subst (λ (x : Answer). (g ≡ (view_in cs h).subgoal x.subgoal) × (subgoal_sound h.nodes h.answers ((view_in cs h).subgoal x.subgoal) ≡ true)) answer-is.0
           (subgoal-is cs h y.subgoal g q)
@@ -119,26 +119,26 @@ module _ (cs : List ℕ) (h : Head) (a : ℕ) where
 -- ---- either
 
 module _ (x : Records) where
-  pub count-answers : x.answers ≡ true → x.h.answers ≡ count_of x
+  pub count-answers : x.kind ≡ kind.Answers → x.h.answers ≡ count_of x
   unfolding count_of
   count-answers e = rw e refl
 
-  pub count-subgoals : x.answers ≡ false → x.h.subgoals ≡ count_of x
+  pub count-subgoals : x.kind ≡ kind.Subgoals → x.h.subgoals ≡ count_of x
   unfolding count_of
   count-subgoals e = rw e refl
 
 module _ (cs : List ℕ) (x : Records) (i : ℕ) where
-  pub answer-loads : x.answers ≡ true → answer_loads (coding_of x.h.edition) (view_in cs x.h) (i + 1) ≡ loads_at cs x i
+  pub answer-loads : x.kind ≡ kind.Answers → answer_loads (coding_of x.h.edition) (view_in cs x.h) (i + 1) ≡ loads_at cs x i
   unfolding loads_at
   answer-loads e = rw (e, add-one) refl
 
-  pub subgoal-loads : x.answers ≡ false → subgoal_loads (coding_of x.h.edition) (view_in cs x.h) (i + 1) ≡ loads_at cs x i
+  pub subgoal-loads : x.kind ≡ kind.Subgoals → subgoal_loads (coding_of x.h.edition) (view_in cs x.h) (i + 1) ≡ loads_at cs x i
   unfolding loads_at
   subgoal-loads e = rw (e, add-one) refl
 
   -- the number of the record is one that is used
-  pub answer-used : Bounds cs x.h × (i < count_of x) → x.answers ≡ true → (i + 1 ≤ x.h.answers)
+  pub answer-used : Bounds cs x.h × (i < count_of x) → x.kind ≡ kind.Answers → (i + 1 ≤ x.h.answers)
   answer-used b e = omega (arith, b.1, count-answers x e)
 
-  pub subgoal-used : Bounds cs x.h × (i < count_of x) → x.answers ≡ false → (i + 1 ≤ x.h.subgoals)
+  pub subgoal-used : Bounds cs x.h × (i < count_of x) → x.kind ≡ kind.Subgoals → (i + 1 ≤ x.h.subgoals)
   subgoal-used b e = omega (arith, b.1, count-subgoals x e)

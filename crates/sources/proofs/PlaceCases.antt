@@ -1,7 +1,7 @@
 -- Where the form of a record stands that loads, and what is gathered there.
 use Prim.Native.Nat.{ℕ, zero, suc, ◌+◌, ◌-◌, ◌≤◌, ◌<◌}
 use mathlib.Core.Path.{◌≡◌, refl, sym, ap, ◌∙◌, subst}
-use mathlib.Core.Bool.{Bool, true, false, ◌&&◌, false≢true}
+use mathlib.Core.Bool.{Bool, true, ◌&&◌, false≢true}
 use mathlib.Core.List.{List, [], ◌∷◌}
 use native.Mathlib.Omega.{arith}
 use native.Mathlib.Numerals.{add-one}
@@ -25,6 +25,7 @@ use Rattle.store.specs.Clauses.{view_in}
 use Rattle.agreement.specs.Whole.{path_passes, word_of, subgoal_path, answer_path}
 use Rattle.agreement.proofs.WholeTests.{and_both, every-below}
 use Rattle.carrying.specs.Copying.{subgoal_loads, answer_loads}
+use Rattle.sources.specs.declared.Kind.TheVariants as kind
 use Rattle.sources.specs.declared.Records.{Records}
 use Rattle.sources.specs.Records.{count_of, loads_at, record_at, RecordOf, PlaceOf}
 use Rattle.sources.proofs.LoadCases.{count-answers, count-subgoals}
@@ -42,7 +43,7 @@ module _ (cs : List ℕ) (x : Records) (i : ℕ) (R : RecordOf cs x i) where
 
   -- ---- a subgoal
 
-  module _ (k : x.answers ≡ false) where
+  module _ (k : x.kind ≡ kind.Subgoals) where
     pub subgoal-number : i + 1 ≤ x.h.subgoals
     subgoal-number = omega (arith, R.1, count-subgoals x k)
 
@@ -74,7 +75,7 @@ module _ (cs : List ℕ) (x : Records) (i : ℕ) (R : RecordOf cs x i) where
 
   -- ---- an answer
 
-  module _ (k : x.answers ≡ true) where
+  module _ (k : x.kind ≡ kind.Answers) where
     pub answer-number : i + 1 ≤ x.h.answers
     answer-number = omega (arith, R.1, count-answers x k)
 

@@ -26,8 +26,14 @@ use Rattle.carrying.specs.Copying.{subgoal_loads, answer_loads, source_loads}
 use Rattle.carrying.specs.Clauses.{slow_fits}
 use Rattle.carrying.specs.Needs.{answers_bring}
 use Rattle.carrying.proofs.CopySteps.{map-up_to}
+use Rattle.sources.specs.declared.Kind.{Kind}
+use Rattle.sources.specs.declared.Kind.TheVariants as kind
 use Rattle.sources.specs.declared.Records.{Records}
-use Rattle.sources.specs.Records.{Loads, subgoals_of, answers_of, count_of, unowned, sum_below, record_at, loads_at, named_at, before, differs_at, brings_at, AllLoad, Brings}
+use Rattle.sources.specs.Records.{of_kind, Loads, subgoals_of, answers_of, count_of, unowned, sum_below, record_at, loads_at, named_at, before, differs_at, brings_at, AllLoad, Brings}
+
+either-most : (k : Kind) (a b : ℕ) {m : ℕ} → a ≤ m → b ≤ m → of_kind k a b ≤ m
+either-most kind.Answers a b h l = h
+either-most kind.Subgoals a b h l = l
 
 -- ---- words
 
@@ -147,7 +153,7 @@ module _ (cs : List ℕ) (x : Records) where
   -- no more than a space has room for
   pub count_most : Bounds cs x.h → count_of x ≤ layout.most
   unfolding count_of
-  count_most b = by_cases x.answers (λ e. rw e (omega (arith, b))) (λ e. rw e (omega (arith, b)))
+  count_most b = either-most x.kind x.h.answers x.h.subgoals (omega (arith, b)) (omega (arith, b))
 
 -- ---- forms of subgoals
 

@@ -1,13 +1,12 @@
 -- The records of a source, by number and of one kind, answers or subgoals; and each against those before it.
-use Rattle.std.specs.Prelude.{ℕ, zero, suc, ◌+◌, ◌-◌, ◌*◌, ◌<◌, ◌≤◌, ◌≡◌, Bool, true, false, not, List, [], ◌∷◌, length}
-use Rattle.basis.specs.Choice.{pick}
+use Rattle.std.specs.Prelude.{ℕ, zero, suc, ◌+◌, ◌-◌, ◌*◌, ◌<◌, ◌≤◌, ◌≡◌, Bool, true, not, List, [], ◌∷◌, length}
+use Rattle.std.specs.Prelude.{Ok}
 use Rattle.plain.specs.Words.{Word, most, has}
 use Rattle.plain.specs.Coding.{coding_of}
 use Rattle.plain.specs.Table.{Answer, answers_to}
 use Rattle.space.specs.Heading.{space_header}
 use Rattle.space.specs.Sound.{Bounds}
 use Rattle.space.specs.declared.Head.{Head}
-use Rattle.space.specs.declared.Header.TheVariants as header
 use Rattle.trie.specs.Paths.{tokens, longest}
 use Rattle.trie.specs.Runs.{Ends, path_to}
 use Rattle.store.specs.Clauses.{view_in}
@@ -15,13 +14,15 @@ use Rattle.sides.specs.declared.Earlier.{Earlier}
 use Rattle.agreement.specs.Whole.{every_below, word_of, subgoal_path, answer_read}
 use Rattle.carrying.specs.Recoding.{widening, takes_word}
 use Rattle.carrying.specs.Copying.{subgoal_loads, answer_loads, source_loads}
+use Rattle.sources.specs.declared.Kind.{Kind}
+use Rattle.sources.specs.declared.Kind.TheVariants as kind
 use Rattle.sources.specs.declared.Records.{Records}
 use Rattle.sources.specs.declared.Place.{Place}
 use Rattle.sources.specs.declared.Compared.{Compared}
 
 -- a source of edition 1
 abbrev pub FirstEdition : List ℕ → Head → Type 0
-FirstEdition cs h = (header.Sound h ≡ space_header cs) × (h.edition ≡ 1)
+FirstEdition cs h = (Ok h ≡ space_header cs) × (h.edition ≡ 1)
 
 -- that loads
 abbrev pub Loads : List ℕ → Head → Type 0
@@ -29,14 +30,19 @@ Loads cs h = FirstEdition cs h × (source_loads (coding_of 1) (view_in cs h) ≡
 
 -- ---- the records of a kind
 
+-- the first of answers, the second of subgoals
+abbrev pub of_kind {ℓ} : {A : Type ℓ} → Kind → A → A → A
+of_kind kind.Answers a b = a
+of_kind kind.Subgoals a b = b
+
 abbrev pub subgoals_of : Head → Records
-subgoals_of h = record { h = h; answers = false }
+subgoals_of h = record { h = h; kind = kind.Subgoals }
 
 abbrev pub answers_of : Head → Records
-answers_of h = record { h = h; answers = true }
+answers_of h = record { h = h; kind = kind.Answers }
 
 unfoldable pub count_of : Records → ℕ
-count_of x = pick x.answers x.h.answers x.h.subgoals
+count_of x = of_kind x.kind x.h.answers x.h.subgoals
 
 -- a word as a subgoal's form: an answer to no subgoal
 abbrev pub unowned : Word → Answer
@@ -52,14 +58,14 @@ module _ (cs : List ℕ) (x : Records) where
   unfoldable pub record_at : ℕ → Answer
   record_at i =
       let v = view_in cs x.h in
-      pick x.answers (answer_read v (suc i)) (unowned (word_of (subgoal_path v (suc i))))
+      of_kind x.kind (answer_read v (suc i)) (unowned (word_of (subgoal_path v (suc i))))
 
   -- it loads
   unfoldable pub loads_at : ℕ → Bool
   loads_at i =
       let v = view_in cs x.h in
       let c = coding_of x.h.edition in
-      pick x.answers (answer_loads c v (suc i)) (subgoal_loads c v (suc i))
+      of_kind x.kind (answer_loads c v (suc i)) (subgoal_loads c v (suc i))
 
   -- edition 2 has room for the names in its form
   unfoldable pub named_at : ℕ → Bool

@@ -27,28 +27,42 @@ use names::all_named;
 use space::Head;
 use trie::End;
 
-// The records of a kind under a head: the answers, or the subgoals.
+// Which records.
+#[derive(Clone, Copy)]
+pub enum Kind {
+    Subgoals,
+    Answers,
+}
+
+// The records of a kind under a head.
 #[derive(Clone, Copy)]
 pub struct Records {
     pub h: Head,
-    pub answers: bool,
+    pub kind: Kind,
 }
 
 impl Records {
     pub fn subgoals(h: Head) -> Records
         ensures { result ≡ subgoals_of h }
     {
-        Records { h, answers: false }
+        Records {
+            h,
+            kind: Kind::Subgoals,
+        }
     }
 
     pub fn answers(h: Head) -> Records
         ensures { result ≡ answers_of h }
     {
-        Records { h, answers: true }
+        Records {
+            h,
+            kind: Kind::Answers,
+        }
     }
 }
 
-// Where the form of a record stands: under which subgoal, 0 for a subgoal's own, and the end of its path.
+// Where the form of a record stands: under which subgoal, 0 for a subgoal's own, since no subgoal has that number, and
+// the end of its path.
 #[derive(Clone, Copy)]
 pub struct Place {
     pub owner: usize,

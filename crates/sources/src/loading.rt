@@ -9,11 +9,12 @@ ghost use Rattle.agreement.specs.Whole.{every_below};
 ghost use Rattle.carrying.specs.Copying.{subgoal_loads, answer_loads};
 ghost use Rattle.sources.specs.Records.{count_of, loads_at, RecordOf, PlaceOf};
 
-use super::{Place, Records};
+use super::{Kind, Place, Records};
 use path_terms::path_worth;
+use space::Head;
 use space::records::{answer_in, read_answer, read_subgoal, subgoal_in};
-use space::{AnswerRead, Head, SubgoalRead};
 use trie::End;
+use trie::ends::{answer_end, subgoal_end};
 use trie::paths::{CELLS, LEVELS, few_path, whole_path};
 
 // Does subgoal s load?
@@ -21,16 +22,10 @@ fn subgoal_loads(source: &[u32], h: Head, s: usize) -> bool
     requires { SubgoalUsed source.now h s }
     ensures { result ≡ subgoal_loads (coding_of h.edition) (view_in source.now h) s }
 {
-    let SubgoalRead::Sound(g) = read_subgoal(source, h, s) else {
+    let Some(g) = read_subgoal(source, h, s) else {
         return false;
     };
-    let end = End {
-        nodes: h.nodes,
-        links: h.subgoals,
-        root: 0,
-        leaf: g.leaf,
-    };
-    path_worth(source, end, 1, false, h.edition) == g.variables + 1
+    path_worth(source, subgoal_end(h, g), 1, false, h.edition) == g.variables + 1
 }
 
 // Does answer a load?
@@ -38,29 +33,23 @@ fn answer_loads(source: &[u32], h: Head, a: usize) -> bool
     requires { AnswerUsed source.now h a }
     ensures { result ≡ answer_loads (coding_of h.edition) (view_in source.now h) a }
 {
-    let AnswerRead::Sound(y) = read_answer(source, h, a) else {
+    let Some(y) = read_answer(source, h, a) else {
         return false;
     };
-    let SubgoalRead::Sound(g) = read_subgoal(source, h, y.subgoal) else {
+    let Some(g) = read_subgoal(source, h, y.subgoal) else {
         return false;
     };
-    let end = End {
-        nodes: h.nodes,
-        links: h.answers,
-        root: g.root,
-        leaf: y.leaf,
-    };
-    0 < path_worth(source, end, g.variables, false, h.edition)
+    0 < path_worth(source, answer_end(h, g, y), g.variables, false, h.edition)
 }
 
 // How many records there are.
 pub fn count_of(x: Records) -> usize
     ensures { result ≡ count_of x }
 {
-    if x.answers {
-        return x.h.answers;
+    match x.kind {
+        Kind::Subgoals => x.h.subgoals,
+        Kind::Answers => x.h.answers,
     }
-    x.h.subgoals
 }
 
 // Does the record after i of them load?
@@ -68,10 +57,10 @@ fn record_loads(source: &[u32], x: Records, i: usize) -> bool
     requires { Bounds source.now x.h × (i < count_of x) }
     ensures { result ≡ loads_at source.now x i }
 {
-    if x.answers {
-        return answer_loads(source, x.h, i + 1);
+    match x.kind {
+        Kind::Subgoals => subgoal_loads(source, x.h, i + 1),
+        Kind::Answers => answer_loads(source, x.h, i + 1),
     }
-    subgoal_loads(source, x.h, i + 1)
 }
 
 // Do all?
@@ -93,28 +82,23 @@ pub fn find_record(source: &[u32], x: Records, i: usize) -> Place
     ensures { PlaceOf source.now x i result }
 {
     let h = x.h;
-    if x.answers {
-        let y = answer_in(source, h, i + 1);
-        let g = subgoal_in(source, h, y.subgoal);
-        let end = End {
-            nodes: h.nodes,
-            links: h.answers,
-            root: g.root,
-            leaf: y.leaf,
-        };
-        return Place {
-            owner: y.subgoal,
-            end,
-        };
+    match x.kind {
+        Kind::Subgoals => {
+            let g = subgoal_in(source, h, i + 1);
+            Place {
+                owner: 0,
+                end: subgoal_end(h, g),
+            }
+        }
+        Kind::Answers => {
+            let y = answer_in(source, h, i + 1);
+            let g = subgoal_in(source, h, y.subgoal);
+            Place {
+                owner: y.subgoal,
+                end: answer_end(h, g, y),
+            }
+        }
     }
-    let g = subgoal_in(source, h, i + 1);
-    let end = End {
-        nodes: h.nodes,
-        links: h.subgoals,
-        root: 0,
-        leaf: g.leaf,
-    };
-    Place { owner: 0, end }
 }
 
 // The path that ends here, in the cells of a whole one: where it starts.

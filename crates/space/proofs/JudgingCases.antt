@@ -1,4 +1,5 @@
 -- A law for each case of judging.
+use Rattle.std.specs.Prelude.{None, Some}
 use Prim.Native.Nat.{ℕ, ◌+◌, ◌<◌, ◌≤◌}
 use mathlib.Core.Path.{◌≡◌, refl}
 use mathlib.Core.Bool.{Bool, true, false, not, ◌&&◌}
@@ -8,9 +9,6 @@ use Rattle.space.specs.Judging.{follows, both_or_neither, node_sound, subgoal_so
 use Rattle.space.specs.declared.Node.{Node}
 use Rattle.space.specs.declared.Subgoal.{Subgoal}
 use Rattle.space.specs.declared.Answer.{Answer}
-use Rattle.space.specs.declared.NodeRead.TheVariants as node
-use Rattle.space.specs.declared.SubgoalRead.TheVariants as subgoal
-use Rattle.space.specs.declared.AnswerRead.TheVariants as answer
 
 module _ (bound n x : ℕ) where
   pub follows-none : x ≡ 0 → true ≡ follows bound n x
@@ -141,28 +139,28 @@ module _ (nodes subgoals answers a : ℕ) (y : Answer) where
       answer-next j = simp (lt-ltb _ _ h, lt-ltb _ _ i, le-leb _ _ j)
 
 module _ (nodes links : ℕ) (at : ℕ → Node) (n : ℕ) (y : Node) (e : y ≡ at n) where
-  pub node-read : node_sound nodes links n y ≡ true → node.Sound y ≡ read_node nodes links at n
+  pub node-read : node_sound nodes links n y ≡ true → Some y ≡ read_node nodes links at n
   unfolding read_node
   node-read t = rw (← e, t)
 
-  pub node-damaged : node_sound nodes links n y ≡ false → node.Damaged ≡ read_node nodes links at n
+  pub node-damaged : node_sound nodes links n y ≡ false → None ≡ read_node nodes links at n
   unfolding read_node
   node-damaged t = rw (← e, t)
 
 module _ (nodes answers : ℕ) (at : ℕ → Subgoal) (s : ℕ) (y : Subgoal) (e : y ≡ at s) where
-  pub subgoal-read : subgoal_sound nodes answers y ≡ true → subgoal.Sound y ≡ read_subgoal nodes answers at s
+  pub subgoal-read : subgoal_sound nodes answers y ≡ true → Some y ≡ read_subgoal nodes answers at s
   unfolding read_subgoal
   subgoal-read t = rw (← e, t)
 
-  pub subgoal-damaged : subgoal_sound nodes answers y ≡ false → subgoal.Damaged ≡ read_subgoal nodes answers at s
+  pub subgoal-damaged : subgoal_sound nodes answers y ≡ false → None ≡ read_subgoal nodes answers at s
   unfolding read_subgoal
   subgoal-damaged t = rw (← e, t)
 
 module _ (nodes subgoals answers : ℕ) (at : ℕ → Answer) (a : ℕ) (y : Answer) (e : y ≡ at a) where
-  pub answer-read : answer_sound nodes subgoals answers a y ≡ true → answer.Sound y ≡ read_answer nodes subgoals answers at a
+  pub answer-read : answer_sound nodes subgoals answers a y ≡ true → Some y ≡ read_answer nodes subgoals answers at a
   unfolding read_answer
   answer-read t = rw (← e, t)
 
-  pub answer-damaged : answer_sound nodes subgoals answers a y ≡ false → answer.Damaged ≡ read_answer nodes subgoals answers at a
+  pub answer-damaged : answer_sound nodes subgoals answers a y ≡ false → None ≡ read_answer nodes subgoals answers at a
   unfolding read_answer
   answer-damaged t = rw (← e, t)

@@ -1,4 +1,5 @@
 -- What is known of a record that was read and found sound.
+use Rattle.std.specs.Prelude.{None, Some}
 use Prim.Native.Nat.{ℕ, ◌+◌, ◌<◌, ◌≤◌}
 use mathlib.Core.Path.{◌≡◌, refl, sym, ◌∙◌}
 use mathlib.Core.Bool.{true, false}
@@ -11,9 +12,6 @@ use Rattle.space.specs.Judging.{follows, both_or_neither, node_sound, subgoal_so
 use Rattle.space.specs.declared.Node.{Node}
 use Rattle.space.specs.declared.Subgoal.{Subgoal}
 use Rattle.space.specs.declared.Answer.{Answer}
-use Rattle.space.specs.declared.NodeRead.TheVariants as node
-use Rattle.space.specs.declared.SubgoalRead.TheVariants as subgoal
-use Rattle.space.specs.declared.AnswerRead.TheVariants as answer
 use Rattle.space.proofs.JudgingCases.{follows-none, follows-below, follows-above, node-child, node-sibling, node-parent, node-link, node-read, node-damaged, subgoal-leaf, subgoal-root, subgoal-variables, subgoal-state, subgoal-first, subgoal-last, subgoal-both, subgoal-read, subgoal-damaged, answer-leaf, answer-none, answer-subgoal, answer-next, answer-read, answer-damaged}
 
 -- a number that follows n, where it is not 0
@@ -91,27 +89,27 @@ answer-bounds nodes subgoals answers a y t =
     record { leaf-below = h; subgoal-some = i; subgoal-most = j; next-follows = answer-next nodes subgoals answers a y h i j ∙ t }
 
 module _ (nodes links : ℕ) (at : ℕ → Node) (n : ℕ) where
-  pub read-node-sound : {y : Node} → node.Sound y ≡ read_node nodes links at n → (y ≡ at n) × (node_sound nodes links n (at n) ≡ true)
+  pub read-node-sound : {y : Node} → Some y ≡ read_node nodes links at n → (y ≡ at n) × (node_sound nodes links n (at n) ≡ true)
   read-node-sound {y} e =
       by_cases (node_sound nodes links n (at n))
       (λ t. let d = node-read nodes links at n (at n) refl t in (cc, t))
       (λ t. let d = node-damaged nodes links at n (at n) refl t in let z : ◌≡◌ {A = ℕ} 0 1 = cc in absurd (omega arith))
 
-  pub read-node-damaged : node.Damaged ≡ read_node nodes links at n → node_sound nodes links n (at n) ≡ false
+  pub read-node-damaged : None ≡ read_node nodes links at n → node_sound nodes links n (at n) ≡ false
   read-node-damaged e =
       by_cases (node_sound nodes links n (at n))
       (λ t. let d = node-read nodes links at n (at n) refl t in let z : ◌≡◌ {A = ℕ} 0 1 = cc in absurd (omega arith))
       (λ t. t)
 
 module _ (nodes answers : ℕ) (at : ℕ → Subgoal) (s : ℕ) where
-  pub read-subgoal-sound : {y : Subgoal} → subgoal.Sound y ≡ read_subgoal nodes answers at s → (y ≡ at s) × (subgoal_sound nodes answers (at s) ≡ true)
+  pub read-subgoal-sound : {y : Subgoal} → Some y ≡ read_subgoal nodes answers at s → (y ≡ at s) × (subgoal_sound nodes answers (at s) ≡ true)
   read-subgoal-sound {y} e =
       by_cases (subgoal_sound nodes answers (at s))
       (λ t. let d = subgoal-read nodes answers at s (at s) refl t in (cc, t))
       (λ t. let d = subgoal-damaged nodes answers at s (at s) refl t in let z : ◌≡◌ {A = ℕ} 0 1 = cc in absurd (omega arith))
 
 module _ (nodes subgoals answers : ℕ) (at : ℕ → Answer) (a : ℕ) where
-  pub read-answer-sound : {y : Answer} → answer.Sound y ≡ read_answer nodes subgoals answers at a → (y ≡ at a) × (answer_sound nodes subgoals answers a (at a) ≡ true)
+  pub read-answer-sound : {y : Answer} → Some y ≡ read_answer nodes subgoals answers at a → (y ≡ at a) × (answer_sound nodes subgoals answers a (at a) ≡ true)
   read-answer-sound {y} e =
       by_cases (answer_sound nodes subgoals answers a (at a))
       (λ t. let d = answer-read nodes subgoals answers at a (at a) refl t in (cc, t))

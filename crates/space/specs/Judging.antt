@@ -1,15 +1,9 @@
 -- A record read is judged whole: each field that names a record by its range.
-use Rattle.std.specs.Prelude.{ℕ, ◌+◌, Bool, not, ◌&&◌, ◌||◌, eqb, ltb, leb}
+use Rattle.std.specs.Prelude.{ℕ, ◌+◌, Bool, not, ◌&&◌, ◌||◌, eqb, ltb, leb, None, Option, Some}
 use Rattle.basis.specs.Choice.{pick}
 use Rattle.space.specs.declared.Node.{Node}
 use Rattle.space.specs.declared.Subgoal.{Subgoal}
 use Rattle.space.specs.declared.Answer.{Answer}
-use Rattle.space.specs.declared.NodeRead.{NodeRead}
-use Rattle.space.specs.declared.NodeRead.TheVariants as node
-use Rattle.space.specs.declared.SubgoalRead.{SubgoalRead}
-use Rattle.space.specs.declared.SubgoalRead.TheVariants as subgoal
-use Rattle.space.specs.declared.AnswerRead.{AnswerRead}
-use Rattle.space.specs.declared.AnswerRead.TheVariants as answer
 
 -- a number that record n holds of a record of its own kind: 0 for none, or above n and below `bound`
 unfoldable pub follows : ℕ → ℕ → ℕ → Bool
@@ -37,12 +31,12 @@ answer_sound nodes subgoals answers a y =
     ltb y.leaf nodes && ltb 0 y.subgoal && leb y.subgoal subgoals && follows (answers + 1) a y.next
 
 -- a record as it is read: judged, or damaged
-unfoldable pub read_node : ℕ → ℕ → (ℕ → Node) → ℕ → NodeRead
-read_node nodes links at n = pick (node_sound nodes links n (at n)) (node.Sound (at n)) node.Damaged
+unfoldable pub read_node : ℕ → ℕ → (ℕ → Node) → ℕ → Option Node
+read_node nodes links at n = pick (node_sound nodes links n (at n)) (Some (at n)) None
 
-unfoldable pub read_subgoal : ℕ → ℕ → (ℕ → Subgoal) → ℕ → SubgoalRead
-read_subgoal nodes answers at s = pick (subgoal_sound nodes answers (at s)) (subgoal.Sound (at s)) subgoal.Damaged
+unfoldable pub read_subgoal : ℕ → ℕ → (ℕ → Subgoal) → ℕ → Option Subgoal
+read_subgoal nodes answers at s = pick (subgoal_sound nodes answers (at s)) (Some (at s)) None
 
-unfoldable pub read_answer : ℕ → ℕ → ℕ → (ℕ → Answer) → ℕ → AnswerRead
+unfoldable pub read_answer : ℕ → ℕ → ℕ → (ℕ → Answer) → ℕ → Option Answer
 read_answer nodes subgoals answers at a =
-    pick (answer_sound nodes subgoals answers a (at a)) (answer.Sound (at a)) answer.Damaged
+    pick (answer_sound nodes subgoals answers a (at a)) (Some (at a)) None

@@ -1,4 +1,5 @@
 -- The contract of a call to which no out is lent: none is left.
+use Rattle.std.specs.Prelude.{Err, Ok}
 use Prim.Native.Nat.{ℕ}
 use mathlib.Core.List.{List, [], ◌∷◌}
 use mathlib.Core.Path.{◌≡◌, refl, sym}
@@ -6,9 +7,7 @@ use native.Mathlib.Omega.{arith}
 use lib.ListN.{length}
 use borrow.Author.Tests.{lt-leb}
 use Rattle.plain.specs.Requests.{Request, call, answer, finish, why, Reply, lent}
-use Rattle.space.specs.Heading.{space_header}
-use Rattle.space.specs.declared.Header.{Header}
-use Rattle.space.specs.declared.Header.TheVariants as header
+use Rattle.space.specs.Heading.{space_header, Header}
 use Rattle.trie.specs.Walks.{Finding}
 use Rattle.store.specs.Decisions.{Decision, says, gives, enters_subgoal, enters_answer, enters_empty, finishes, enters_answers}
 use Rattle.store.specs.Calls.{out_after, under_by, under_any_by, space_step_by, AnswersBy}
@@ -28,8 +27,8 @@ out_none (enters_answers s ws) = refl
 module _ (find : Finding) where
   under_none : (cs : List ℕ) (q : Request) (x : Header) → lent q ≡ [] → (under_any_by find cs q x).out ≡ []
   unfolding under_any_by under_by
-  under_none cs q (header.Sound h) e = rw e (out_none _)
-  under_none cs q (header.Refused r) e = e
+  under_none cs q (Ok h) e = rw e (out_none _)
+  under_none cs q (Err r) e = e
 
   pub step-none : (cs : List ℕ) (q : Request) → lent q ≡ [] → [] ≡ (space_step_by find cs q).out
   unfolding space_step_by

@@ -1,5 +1,6 @@
 -- A call by another way of finding a child is the call by the chains wherever its walks are. So a call with an index of no
 -- cells is the call without one, whatever the cells of the space.
+use Rattle.std.specs.Prelude.{Err, Ok}
 use mathlib.Core.Path.{◌≡◌, refl, ap, ◌∙◌}
 use mathlib.Core.Bool.{◌&&◌}
 use mathlib.Core.List.{List, [], ◌∷◌}
@@ -14,10 +15,8 @@ use Rattle.plain.specs.Coding.{Coding, coding_of, Reading, naming}
 use Rattle.plain.specs.Joins.{Forms, declined, formed, join_of}
 use Rattle.plain.specs.Requests.{Request, Reply, Result, call_least, answer, finish, next, load, instance, counts, join, why, detours}
 use Rattle.space.specs.Layout.{Sizes, sizes_of}
-use Rattle.space.specs.Heading.{header_of, space_header}
+use Rattle.space.specs.Heading.{header_of, space_header, Header}
 use Rattle.space.specs.declared.Head.{Head}
-use Rattle.space.specs.declared.Header.{Header}
-use Rattle.space.specs.declared.Header.TheVariants as header
 use Rattle.trie.specs.Siblings.{Trie}
 use Rattle.trie.specs.Walks.{Walk, Finding, walk, walk_by}
 use Rattle.trie.proofs.IndexLaws.{walk_none}
@@ -100,10 +99,10 @@ module _ (c : Coding) (find : Finding) (v : View) (call-walks : (w : Word) → w
 module _ (find : Finding) (same : (t : Trie) (root : ℕ) (w : Word) → walk_by find t root w ≡ walk t root w) where
   form-same : (z : Sizes) (cs : List ℕ) (s : ℕ) (w : Word) (h : Header) → form_given_by find z cs s w h ≡ form_given z cs s w h
   unfolding form_given_by
-  form-same z cs s w (header.Sound h) =
+  form-same z cs s w (Ok h) =
       let v : View = view_of z cs h in
       ap (λ (x : Walk). answer_given z cs h (answered_at v s w x)) (same (answer_trie v) (v.subgoal s).root w)
-  form-same z cs s w (header.Refused r) = refl
+  form-same z cs s w (Err r) = refl
 
   forms-same : (z : Sizes) (s : ℕ) (ws : List Word) (cs : List ℕ) → forms_given_by find z cs s ws ≡ forms_given z cs s ws
   unfolding forms_given_by
@@ -122,13 +121,13 @@ module _ (find : Finding) (same : (t : Trie) (root : ℕ) (w : Word) → walk_by
 
   step_same : (cs : List ℕ) (q : Request) (x : Header) → under_any_by find cs q x ≡ under_any cs q x
   unfolding under_any_by under_by
-  step_same cs q (header.Sound h) =
+  step_same cs q (Ok h) =
       let v : View = view_of (sizes_of h.edition) cs h in
       rw (
         decide-alike (coding_of h.edition) find v (same (subgoal_trie v) 0) (λ s low high. same (answer_trie v) (v.subgoal s).root) q,
         change-same (sizes_of h.edition) cs h (decide (coding_of h.edition) v q),
       )
-  step_same cs q (header.Refused r) = refl
+  step_same cs q (Err r) = refl
 
 pub unindexed : (cs : List ℕ) (q : Request) → indexed_step [] cs q ≡ space_step cs q
 unfolding space_step_by

@@ -1,14 +1,13 @@
 -- The build of an index on the cells of a space, sound or damaged: refusal 1, then 9 by the nodes, then 17 by the
 -- number of slots. Every node is read and judged, no subgoal and no answer is; the children of nodes that have more
 -- than 8 enter by number. Nothing but the index is written, and that only by a build that is not refused.
-use Rattle.std.specs.Prelude.{ℕ, zero, suc, Bool, true, ◌&&◌, List, eqb, length}
+use Rattle.basis.specs.Refusals.{number_of}
+use Rattle.std.specs.Prelude.{ℕ, zero, suc, Bool, true, ◌&&◌, List, eqb, length, Err, Ok}
 use Rattle.basis.specs.Choice.{pick}
 use Rattle.space.specs.Layout.{sizes_of}
-use Rattle.space.specs.Heading.{space_header}
+use Rattle.space.specs.Heading.{space_header, Header}
 use Rattle.space.specs.Judging.{node_sound}
 use Rattle.space.specs.declared.Node.{Node}
-use Rattle.space.specs.declared.Header.{Header}
-use Rattle.space.specs.declared.Header.TheVariants as header
 use Rattle.trie.specs.Siblings.{Trie}
 use Rattle.trie.specs.Append.{new_root}
 use Rattle.trie.specs.Index.{entering, built_index, roomy}
@@ -65,10 +64,10 @@ build_on t index =
     (unbuilt 17 index)
 
 unfoldable pub build_under : List ℕ → List ℕ → Header → Build
-build_under cs index (header.Sound h) =
+build_under cs index (Ok h) =
     let v = view_of (sizes_of h.edition) cs h in
     pick (nodes_fit v v.nodes) (build_on (subgoal_trie v) index) (unbuilt 9 index)
-build_under cs index (header.Refused r) = unbuilt r index
+build_under cs index (Err r) = unbuilt (number_of r) index
 
 -- on the cells of a space of any edition
 unfoldable pub build_index : List ℕ → List ℕ → Build
@@ -76,8 +75,8 @@ build_index cs index = build_under cs index (space_header cs)
 
 -- the nodes of a space, whatever their links; none where the header is refused
 unfoldable pub nodes_under : List ℕ → Header → Trie
-nodes_under cs (header.Sound h) = subgoal_trie (view_of (sizes_of h.edition) cs h)
-nodes_under cs (header.Refused r) = record { at = new_root; nodes = 0; links = 0 }
+nodes_under cs (Ok h) = subgoal_trie (view_of (sizes_of h.edition) cs h)
+nodes_under cs (Err r) = record { at = new_root; nodes = 0; links = 0 }
 
 abbrev pub nodes_of : List ℕ → Trie
 nodes_of cs = nodes_under cs (space_header cs)

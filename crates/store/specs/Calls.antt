@@ -1,14 +1,13 @@
 -- The ten calls on the cells of a space, sound or damaged: refusal 1, then the decision, then the change. The way of
 -- finding a child is a parameter; by the sibling chains they are the calls without an index.
-use Rattle.std.specs.Prelude.{ℕ, ◌+◌, ◌-◌, List, ◌++◌, ◌≡◌, leb, length, drop, get_or}
+use Rattle.basis.specs.Refusals.{number_of}
+use Rattle.std.specs.Prelude.{ℕ, ◌+◌, ◌-◌, List, ◌++◌, ◌≡◌, leb, length, drop, get_or, Err, Ok}
 use Rattle.basis.specs.Choice.{pick}
 use Rattle.plain.specs.Coding.{Coding, coding_of}
 use Rattle.plain.specs.Requests.{Request, lent, Counts, Reply, new, done, cells, joined, refused, short, Result, Seen}
 use Rattle.plain.specs.Requests.{trace}
 use Rattle.space.specs.Layout.{Sizes, sizes_of, nodes_cell, subgoals_cell, answers_cell}
-use Rattle.space.specs.Heading.{header_of, space_header}
-use Rattle.space.specs.declared.Header.{Header}
-use Rattle.space.specs.declared.Header.TheVariants as header
+use Rattle.space.specs.Heading.{header_of, space_header, Header}
 use Rattle.trie.specs.Siblings.{search_children}
 use Rattle.trie.specs.Walks.{Finding}
 use Rattle.trie.specs.Index.{search_indexed}
@@ -47,18 +46,18 @@ out_after (finishes s) out = out
 out_after (enters_answers s ws) out = out
 
 unfoldable pub under_by : Finding → Sizes → Coding → List ℕ → Request → Header → Result (List ℕ)
-under_by find z c cs q (header.Sound h) =
+under_by find z c cs q (Ok h) =
     let v = view_of z cs h in
     let d = decide_by find c v q in
     let after = change_by find z cs h d in
     record { reply = reply v d (length (lent q)) (used_answers after); out = out_after d (lent q); state = after }
-under_by find z c cs q (header.Refused r) = record { reply = refused r; out = lent q; state = cs }
+under_by find z c cs q (Err r) = record { reply = refused (number_of r); out = lent q; state = cs }
 
 -- what a call leaves of a space of any edition: the one that its header names
 unfoldable pub under_any_by : Finding → List ℕ → Request → Header → Result (List ℕ)
-under_any_by find cs q (header.Sound h) =
-    under_by find (sizes_of h.edition) (coding_of h.edition) cs q (header.Sound h)
-under_any_by find cs q (header.Refused r) = record { reply = refused r; out = lent q; state = cs }
+under_any_by find cs q (Ok h) =
+    under_by find (sizes_of h.edition) (coding_of h.edition) cs q (Ok h)
+under_any_by find cs q (Err r) = record { reply = refused (number_of r); out = lent q; state = cs }
 
 unfoldable pub space_step_by : Finding → List ℕ → Request → Result (List ℕ)
 space_step_by find cs q = under_any_by find cs q (space_header cs)

@@ -1,16 +1,14 @@
 -- What a decision writes into the cells. It can no longer fail. A join searches again for each form that it gives, by
 -- the same way of finding a child as its decision.
-use Rattle.std.specs.Prelude.{ℕ, ◌+◌, ◌-◌, List, [], ◌∷◌, ◌++◌, eqb, length}
+use Rattle.std.specs.Prelude.{ℕ, ◌+◌, ◌-◌, List, [], ◌∷◌, ◌++◌, eqb, length, Err, Ok}
 use Rattle.basis.specs.Choice.{pick}
 use Rattle.basis.specs.Writes.{Write, put, writes}
 use Rattle.plain.specs.Words.{Word}
 use Rattle.space.specs.Layout.{Sizes, nodes_cell, subgoals_cell, answers_cell, node_at, link_cell, subgoal_at}
 use Rattle.space.specs.Layout.{answer_at}
 use Rattle.space.specs.Layout.{state_cell, first_cell, last_cell, next_cell, node_to, subgoal_to, answer_to, subgoal_in}
-use Rattle.space.specs.Heading.{header_of}
+use Rattle.space.specs.Heading.{header_of, Header}
 use Rattle.space.specs.declared.Head.{Head}
-use Rattle.space.specs.declared.Header.{Header}
-use Rattle.space.specs.declared.Header.TheVariants as header
 use Rattle.space.specs.declared.Subgoal.{Subgoal}
 use Rattle.trie.specs.Siblings.{search_children}
 use Rattle.trie.specs.Walks.{Finding}
@@ -75,9 +73,9 @@ answer_given z cs h (enters_answers s ws) = cs
 
 -- a form is given as a single answer is, whatever that comes to
 unfoldable pub form_given_by : Finding → Sizes → List ℕ → ℕ → Word → Header → List ℕ
-form_given_by find z cs s w (header.Sound h) =
+form_given_by find z cs s w (Ok h) =
     let v = view_of z cs h in answer_given z cs h (answered_at v s w (walk_to_by find v s w))
-form_given_by find z cs s w (header.Refused r) = cs
+form_given_by find z cs s w (Err r) = cs
 
 -- each on the cells as the one before left them
 unfoldable pub forms_given_by : Finding → Sizes → List ℕ → ℕ → List Word → List ℕ

@@ -1,17 +1,16 @@
 -- What the functions behind the calls ask for and what they leave: the names that their contracts use.
-use Rattle.std.specs.Prelude.{ℕ, ◌<◌, ◌≤◌, ◌≡◌, List, eqb, length}
-use Rattle.basis.specs.Choice.{pick}
+use Rattle.forms.specs.Converting.{Reading}
+use Rattle.std.specs.Prelude.{ℕ, ◌<◌, ◌≤◌, ◌≡◌, List, length, Result, Err, Ok}
+use Rattle.basis.specs.declared.refusals.Refusal.{Refusal}
+use Rattle.basis.specs.Refusals.{number_of}
 use Rattle.convert.specs.Holds.{Reads}
 use Rattle.forms.specs.Cells.{arity_of}
-use Rattle.forms.specs.declared.Reading.{Reading}
-use Rattle.forms.specs.declared.Reading.TheVariants.{Form, Refusal}
 use Rattle.forms.specs.Stored.{stored_of}
 use Rattle.plain.specs.Coding.{coding_of, judged, taken}
 use Rattle.plain.specs.Requests.{Request, Reply}
 use Rattle.space.specs.Layout.{sizes_of}
 use Rattle.space.specs.Sound.{Bounds, subgoal_under}
 use Rattle.space.specs.declared.Head.{Head}
-use Rattle.space.specs.declared.Header.TheVariants as header
 use Rattle.space.specs.declared.Subgoal.{Subgoal}
 use Rattle.trie.specs.Walks.{Finding, walk_by}
 use Rattle.store.specs.Views.{View, view_of, subgoal_trie, answer_trie}
@@ -33,8 +32,8 @@ Does before h d r after =
 -- the same of a call as a whole
 abbrev pub AnswersUnder : Finding → List ℕ → Head → Request → Reply → List ℕ → Type 0
 AnswersUnder find before h q r after =
-    (r ≡ (under_by find (sizes_of h.edition) (coding_of h.edition) before q (header.Sound h)).reply)
-    × (after ≡ (under_by find (sizes_of h.edition) (coding_of h.edition) before q (header.Sound h)).state)
+    (r ≡ (under_by find (sizes_of h.edition) (coding_of h.edition) before q (Ok h)).reply)
+    × (after ≡ (under_by find (sizes_of h.edition) (coding_of h.edition) before q (Ok h)).state)
 
 -- a node of the table, as a root is
 abbrev pub RootIn : List ℕ → Head → ℕ → Type 0
@@ -54,9 +53,14 @@ Held cs h s g =
 abbrev pub HeldLast : List ℕ → Head → ℕ → Subgoal → Type 0
 HeldLast cs h s g = Bounds cs h × (1 ≤ s) × (s ≤ h.subgoals) × (g.last ≤ h.answers)
 
--- the number r refuses a new answer of subgoal s that takes `more` nodes; 0 lets it in
-abbrev pub RefusesNew : List ℕ → Head → ℕ → ℕ → ℕ → Type 0
-RefusesNew cs h s more r = (d : Decision) → answered_new (view_in cs h) s more d ≡ pick (eqb r 0) d (refuses r)
+-- a decision, where nothing refuses it
+abbrev pub unless_refused : Result Unit Refusal → Decision → Decision
+unless_refused (Ok y) d = d
+unless_refused (Err r) d = refuses (number_of r)
+
+-- whether a new answer of subgoal s that takes `more` nodes is let in
+abbrev pub RefusesNew : List ℕ → Head → ℕ → ℕ → Result Unit Refusal → Type 0
+RefusesNew cs h s more r = (d : Decision) → answered_new (view_in cs h) s more d ≡ unless_refused r d
 
 -- what becomes of a called term with this form and m variables
 abbrev pub called_from : Finding → List ℕ → ℕ → View → Decision
@@ -77,8 +81,8 @@ answered_terms find h s m terms v =
 
 -- the form that the reader of terms left is within the cells that were lent to it
 abbrev pub FormIn : List ℕ → Reading → Type 0
-FormIn form (Form n m) = n ≤ length form
-FormIn form (Refusal r) = Unit
+FormIn form (Ok read) = read.tokens ≤ length form
+FormIn form (Err r) = Unit
 
 -- what becomes of the terms, whichever they are, that were read into a form
 abbrev pub DoesRead : Finding → List ℕ → Head → ℕ → Subgoal → Reading → List ℕ → Reply → List ℕ → Type 0

@@ -1,8 +1,10 @@
-// What the calls on a space answer. What each decides and writes is defined in specs; the code that does it is in the
-// crates above: calling, answering, reads, join, reasons and detours.
+// What the calls on a space answer: each a value, or the refusal. What each decides and writes is defined in specs; the
+// code that does it is in the crates above: calling, answering, reads, join, reasons and detours. How many answers a
+// join brought that are new, and whether a subgoal was finished, is a number or nothing, and has no type here.
 #![tactic(auto)]
 
-use basis::limits::MOST_VARIABLES;
+use basis::limits::{MOST_GOALS, MOST_VARIABLES};
+use basis::refusals::Refusal;
 
 // A subgoal is open or finished.
 #[derive(Clone, Copy)]
@@ -11,43 +13,28 @@ pub enum State {
     Finished,
 }
 
-// What call answers: a new subgoal's number, or an old one's with its state.
+// What call answers: a new subgoal's number, or an old one's with its state. The refusal is a case beside these, as the
+// paper's list of forms asks for (document 01).
 #[derive(Clone, Copy)]
 pub enum CallAnswer {
     New(u32),
     Old(u32, State),
-    Refused(u32),
+    Refused(Refusal),
 }
 
-// What answer answers: a new answer's number, or an old one's.
+// What answer finds or makes: a new answer, or an old one, by number.
 #[derive(Clone, Copy)]
-pub enum AnswerAnswer {
+pub enum Entry {
     New(u32),
     Old(u32),
-    Refused(u32),
 }
 
-// What finish answers.
-#[derive(Clone, Copy)]
-pub enum FinishAnswer {
-    Done,
-    Refused(u32),
-}
-
-// What next answers: the number of the next answer, or the state of the subgoal where none is left, which tells whether
+// What next finds: the number of the next answer, or the state of the subgoal where none is left, which tells whether
 // one may still come.
 #[derive(Clone, Copy)]
-pub enum NextAnswer {
+pub enum Next {
     At(u32),
     Lacking(State),
-    Refused(u32),
-}
-
-// What join answers: how many answers are new.
-#[derive(Clone, Copy)]
-pub enum JoinAnswer {
-    Joined(u32),
-    Refused(u32),
 }
 
 // Why a term is old or new. Old: its subgoal's number, and how many variables it has. New: how many of its leading
@@ -56,12 +43,11 @@ pub enum JoinAnswer {
 pub enum Reason {
     Old(u32, usize),
     New(u32, u32),
-    Refused(u32),
 }
 
 // What why answers: the reason, and the variables of an old term in order of rank.
 #[derive(Clone, Copy)]
-pub struct WhyAnswer {
+pub struct Why {
     pub reason: Reason,
     pub variables: [u32; MOST_VARIABLES],
 }
@@ -74,27 +60,19 @@ pub struct Counts {
     pub answers: u32,
 }
 
-// What counts answers.
-#[derive(Clone, Copy)]
-pub enum CountsAnswer {
-    Used(Counts),
-    Refused(u32),
-}
-
 // What a search for detours comes to: the least total found, the choices tried and whether the search ended; or the
 // last two where no choice was found.
 #[derive(Clone, Copy)]
-pub enum DetourOutcome {
+pub enum Outcome {
     Found(u32, u32, bool),
     Nothing(u32, bool),
-    Refused(u32),
 }
 
 // What detours answers. Where a total was found the first `count` numbers are those of its answers, in the order of the
 // goals.
 #[derive(Clone, Copy)]
-pub struct DetourAnswer {
-    pub outcome: DetourOutcome,
+pub struct Detour {
+    pub outcome: Outcome,
     pub count: usize,
-    pub numbers: [u32; 6],
+    pub numbers: [u32; MOST_GOALS],
 }

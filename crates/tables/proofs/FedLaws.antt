@@ -6,13 +6,13 @@ use native.Mathlib.Omega.{arith}
 use lib.ListN.{length, take, drop, drop_of_length-le}
 use lib.Seq.{take-append_seam}
 use borrow.Author.Tests.{ne_eqb}
+use Rattle.std.specs.Prelude.{Some, None, Ok, Err}
 use Rattle.text.specs.Cutting.{Took, took, taking}
 use Rattle.text.specs.declared.Taking.TheVariants.{Line, More}
 use Rattle.session.specs.Program.{Holding, Turn, with_line, feed, goes_on}
 use Rattle.session.proofs.ProgramLaws.{feed-append, LineFed, line-ends, turn-by-turn}
-use Rattle.tables.specs.declared.Progress.{Progress}
-use Rattle.tables.specs.declared.Progress.TheVariants.{Kept, Ended, Failed}
-use Rattle.tables.specs.Progress.{Answered, program_holds, Fed, ends_with, TakesChunk, ReadsSome, ReadsOn}
+use Rattle.tables.specs.declared.Failed.{Failed}
+use Rattle.tables.specs.Progress.{Progress, Answered, program_holds, Fed, ends_with, TakesChunk, ReadsSome, ReadsOn}
 
 pub feed-none : (p : Holding) → Fed [] p p
 unfolding feed
@@ -93,12 +93,10 @@ taken_twice (suc k) (suc n) (x ∷ xs) =
     let l = taken_twice k n xs in
     (suc l.0, ap (λ (ys : List ℕ). x ∷ ys) l.1)
 
-module _ (buffer : List ℕ) (n : ℕ) (p : Holding) where
-  pub chunk_read : (r : Progress) (line text space out : List ℕ) → TakesChunk (take n buffer) p r line text space out
-      → ReadsSome buffer p r line text space out
-  chunk_read (Kept m) line text space out h = (n, h)
-  chunk_read Ended line text space out h = absurd h
-  chunk_read Failed line text space out h =
+module _ (buffer : List ℕ) (n : ℕ) (p : Holding) (line text space out : List ℕ) where
+  pub chunk_failed : (e : Failed) → TakesChunk (take n buffer) p (Err e) line text space out
+      → ReadsSome buffer p (Err e) line text space out
+  chunk_failed e h =
       let l = taken_twice h.0 n buffer in
       (l.0, 0, ap (λ (bs : List ℕ). (feed bs p).holds) (sym l.1) ∙ h.1)
 
@@ -113,10 +111,10 @@ read_none p = record { bytes = []; feeds = feed-none p }
 -- what was read before, and one read more
 pub reads_on : {p q : Holding} → HasRead p q → (buffer : List ℕ) (r : Progress) (line text space out : List ℕ)
     → ReadsSome buffer q r line text space out → ReadsOn p r line text space out
-reads_on {p} {q} k buffer (Kept n) line text space out h =
+reads_on {p} {q} k buffer (Ok (Some n)) line text space out h =
     (k.bytes ++ take h.0 buffer, feed-both k.bytes (take h.0 buffer) p q (program_holds line n text space out) k.feeds h.1)
-reads_on {p} {q} k buffer Ended line text space out h = (k.bytes, h ∙ ap ends_with (sym k.feeds))
-reads_on {p} {q} k buffer Failed line text space out h =
+reads_on {p} {q} k buffer (Ok None) line text space out h = (k.bytes, h ∙ ap ends_with (sym k.feeds))
+reads_on {p} {q} k buffer (Err e) line text space out h =
     (k.bytes ++ take h.0 buffer, h.1, feed-both k.bytes (take h.0 buffer) p q (program_holds line h.1 text space out) k.feeds h.2)
 
 pub read-so-far : (p q : Holding) → (bytes : List ℕ) × Fed bytes p q → HasRead p q

@@ -8,11 +8,10 @@ mod usage;
 
 ghost use Rattle.std.specs.Prelude.{◌≤◌, length};
 ghost use Rattle.session.specs.Program.{starts};
-ghost use Rattle.tables.specs.Progress.{Within, Answered, program_holds, TakesChunk, ReadsSome, ReadsOn};
+ghost use Rattle.tables.specs.Progress.{KeptWithin, Within, Answered, program_holds, TakesChunk, ReadsSome, ReadsOn};
 
 use session::respond;
 use session::start::{new_line, new_out, new_space, new_text, start};
-use space::FreshAnswer;
 use std::env::{Env, FillError};
 use std::io;
 use std::io::Read;
@@ -23,14 +22,9 @@ use usage::{say, say_usage};
 // How many bytes are read at once, at most.
 const READ_AT_ONCE: usize = 65_536;
 
-// How many bytes of the line that has begun are kept; or that the input has ended; or that reading or
-// printing failed. Both end the program, but only an input that has ended has a last line.
+// Reading or printing failed, and it was said which and why. It ends the program, and no last line is answered.
 #[derive(Clone, Copy)]
-pub enum Progress {
-    Kept(usize),
-    Ended,
-    Failed,
-}
+pub struct Failed;
 
 // Says on standard error which stream failed and why, without the number that an error's text ends with. Nothing is
 // left to do where that cannot be said either.
@@ -52,20 +46,17 @@ fn answer(
     space: &mut [u32],
     out: &mut [u32],
     text: &mut [u8],
-) -> bool
+) -> Result<(), Failed>
     ensures { Answered line.now text.old space.old out.old text.new space.new out.new }
 {
     let n = respond(line, space, out, text);
-    match rt.stdout().write_all(&text[..n]) {
-        Ok(()) => true,
-        Err(e) => {
-            say_failed(rt, b"standard output", e);
-            false
-        }
-    }
+    rt.stdout().write_all(&text[..n]).map_err(|e| {
+        say_failed(rt, b"standard output", e);
+        Failed
+    })
 }
 
-// Answers the lines that end in a chunk.
+// Answers the lines that end in a chunk. The answer is how many bytes are kept of the line that has begun.
 fn take_chunk(
     rt: &HostRuntime,
     chunk: &[u8],
@@ -74,31 +65,30 @@ fn take_chunk(
     space: &mut [u32],
     out: &mut [u32],
     text: &mut [u8],
-) -> Progress
+) -> Result<usize, Failed>
     requires { kept ≤ length line.old }
-    ensures within { Within result (length line.old) }
+    ensures within { KeptWithin result (length line.old) }
     ensures takes_chunk { TakesChunk chunk.now (program_holds line.old kept text.old space.old out.old) result line.new
         text.new space.new out.new }
 {
+    // A turn passes a line, of whatever length.
     let mut at = 0;
     let mut n = kept;
     while at < chunk.len() {
         match take_line(chunk, at, line, n) {
-            Taking::More(k) => return Progress::Kept(k),
+            Taking::More(k) => return Ok(k),
             Taking::Line(next, end) => {
-                if !answer(rt, &line[..end], space, out, text) {
-                    return Progress::Failed;
-                }
+                answer(rt, &line[..end], space, out, text)?;
                 at = next;
                 n = 0;
             }
         }
     }
-    Progress::Kept(n)
+    Ok(n)
 }
 
-// Reads once. At the end of the input a line without newline counts if it is not empty; a line that
-// an error cut off does not.
+// Reads once, and answers as `take_chunk` does; or with None at the end of the input, where a line without newline
+// counts if it is not empty. A line that an error cut off does not.
 fn read_some(
     rt: &HostRuntime,
     read: &mut [u8],
@@ -107,26 +97,25 @@ fn read_some(
     space: &mut [u32],
     out: &mut [u32],
     text: &mut [u8],
-) -> Progress
+) -> Result<Option<usize>, Failed>
     requires { kept ≤ length line.old }
     ensures within { Within result (length line.old) }
     ensures reads_some { ReadsSome read.new (program_holds line.old kept text.old space.old out.old) result line.new
         text.new space.new out.new }
 {
-    let n = match rt.stdin().read(read) {
-        Ok(n) => n,
-        Err(e) => {
-            say_failed(rt, b"standard input", e);
-            return Progress::Failed;
-        }
-    };
+    let n = rt.stdin().read(read).map_err(|e| {
+        say_failed(rt, b"standard input", e);
+        Failed
+    })?;
     if n == 0 {
         if 0 < kept {
-            answer(rt, &line[..kept], space, out, text);
+            // It is the last, whether or not it could be printed.
+            let _ = answer(rt, &line[..kept], space, out, text);
         }
-        return Progress::Ended;
+        return Ok(None);
     }
-    take_chunk(rt, &read[..n], line, kept, space, out, text)
+    let begun = take_chunk(rt, &read[..n], line, kept, space, out, text)?;
+    Ok(Some(begun))
 }
 
 // Reads to the end. A proved loop has to end, and nothing says that the input does, so the loop has more
@@ -138,34 +127,34 @@ fn run(
     space: &mut [u32],
     out: &mut [u32],
     text: &mut [u8],
-) -> Progress
+) -> Result<Option<usize>, Failed>
     ensures { ReadsOn (starts line.old text.old space.old out.old) result line.new text.new space.new
         out.new }
 {
     let mut kept = 0;
     for _ in 0..u64::MAX {
-        let progress = read_some(rt, read, line, kept, space, out, text);
-        let Progress::Kept(n) = progress else {
-            return progress;
+        let Some(n) = read_some(rt, read, line, kept, space, out, text)? else {
+            return Ok(None);
         };
         kept = n;
     }
-    Progress::Kept(kept)
+    Ok(Some(kept))
 }
 
 // A table in a space of this length is never refused (`Started` in crates/session/specs/Program.antt); what `start`
 // answers is looked at all the same.
 fn serve(rt: &HostRuntime) {
     let mut space = new_space();
-    let FreshAnswer::Done = start(&mut space) else {
+    if start(&mut space).is_err() {
         say(rt, b"no table could be made\n");
         return;
-    };
+    }
     let mut out = new_out();
     let mut text = new_text();
     let mut line = new_line();
     let mut read = [0u8; READ_AT_ONCE];
-    run(rt, &mut read, &mut line, &mut space, &mut out, &mut text);
+    // What failed was said.
+    let _ = run(rt, &mut read, &mut line, &mut space, &mut out, &mut text);
 }
 
 // Is there an argument after the program's own name?

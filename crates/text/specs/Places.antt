@@ -1,10 +1,7 @@
 -- Places of a line, and what is read from them.
-use Rattle.std.specs.Prelude.{ℕ, ◌+◌, ◌≤◌, ◌<◌, List, [], ◌≡◌, length, take, drop}
+use Rattle.std.specs.Prelude.{ℕ, ◌+◌, ◌≤◌, ◌<◌, List, [], Option, Some, None, ◌≡◌, length, take, drop}
 use Rattle.text.specs.Fields.{fields, Number, no_number, some_number, Cells, no_cells, some_cells, behind}
 use Rattle.text.specs.declared.Numeral.{Numeral}
-use Rattle.text.specs.declared.Numeral.TheVariants.{Value, Bad}
-use Rattle.text.specs.declared.CellsRead.{CellsRead}
-use Rattle.text.specs.declared.CellsRead.TheVariants as cells
 
 -- the field that goes on at a place, and the fields behind it
 abbrev pub field_at : List ℕ → ℕ → List ℕ
@@ -22,12 +19,13 @@ abbrev pub EndsFirst : List ℕ → ℕ → Type 0
 EndsFirst line i = FieldEnds line i × ((fields line).first ≡ take i line) × (rest_at line i ≡ (fields line).others)
 
 -- the numeral in the field behind a place, of at least so many digits
-abbrev pub ReadsNumeral : List ℕ → ℕ → ℕ → Number → Numeral → Type 0
-ReadsNumeral line i least said (Value n e) =
-    (said ≡ some_number n) × FieldEnds line e × (rest_at line e ≡ behind (rest_at line i)) × (i + least < e)
-ReadsNumeral line i least said Bad = said ≡ no_number
+abbrev pub ReadsNumeral : List ℕ → ℕ → ℕ → Number → Option Numeral → Type 0
+ReadsNumeral line i least said (Some y) =
+    (said ≡ some_number y.value) × FieldEnds line y.end × (rest_at line y.end ≡ behind (rest_at line i))
+    × (i + least < y.end)
+ReadsNumeral line i least said None = said ≡ no_number
 
 -- the cells read, at the front of the cells lent
-abbrev pub ReadsCells : Cells → CellsRead → List ℕ → Type 0
-ReadsCells said (cells.Cells n) front = (said ≡ some_cells (take n front)) × (n ≤ length front)
-ReadsCells said cells.Bad front = said ≡ no_cells
+abbrev pub ReadsCells : Cells → Option ℕ → List ℕ → Type 0
+ReadsCells said (Some n) front = (said ≡ some_cells (take n front)) × (n ≤ length front)
+ReadsCells said None front = said ≡ no_cells

@@ -4,11 +4,10 @@ ghost use Rattle.text.specs.Fields.{digit_of, numeral_first, first_number, only_
 ghost use Rattle.forms.specs.Compact.{same};
 ghost use Rattle.text.specs.Places.{rest_at, FieldEnds, EndsFirst, ReadsNumeral, ReadsCells};
 
-use super::{
-    CELL_DIGITS, CellsRead, DECIMAL, FROM_LETTER, FROM_ZERO, HEXADECIMAL, NUMBER_DIGITS, Numeral,
-};
+use super::{CELL_DIGITS, DECIMAL, FROM_LETTER, FROM_ZERO, HEXADECIMAL, NUMBER_DIGITS, Numeral};
 
-// The value of a digit, 16 for a byte that is none.
+// The value of a digit, 16 for a byte that is none: no digit in any base, so one test refuses it and a digit of another
+// base (the definition `digit_of`).
 fn digit_of(b: u8) -> u32
     ensures { result ≡ digit_of b }
 {
@@ -34,32 +33,35 @@ pub fn first_end(line: &[u8]) -> usize
 }
 
 // The numeral in the field behind a place that ends one. A value of at most 8 digits fits a cell.
-fn read_numeral(line: &[u8], at: usize, base: u32, least: usize, most: usize) -> Numeral
+fn read_numeral(line: &[u8], at: usize, base: u32, least: usize, most: usize) -> Option<Numeral>
     requires { FieldEnds line.now at × (base ≤ 16) × (most ≤ 8) }
     ensures { ReadsNumeral line.now at least (numeral_first base least most (rest_at line.now at)) result }
 {
     if line.len() <= at {
-        return Numeral::Bad;
+        return None;
     }
     let rest = &line[at + 1..];
     let n = first_end(rest);
     let digits = &rest[..n];
     if n < least || most < n {
-        return Numeral::Bad;
+        return None;
     }
     let mut value = 0;
     for &b in digits {
         let d = digit_of(b);
         if base <= d {
-            return Numeral::Bad;
+            return None;
         }
         value = base * value + d;
     }
-    Numeral::Value(value, at + 1 + n)
+    Some(Numeral {
+        value,
+        end: at + 1 + n,
+    })
 }
 
 // The number in the first field behind a place.
-pub fn first_number(line: &[u8], at: usize) -> Numeral
+pub fn first_number(line: &[u8], at: usize) -> Option<Numeral>
     requires { FieldEnds line.now at }
     ensures { ReadsNumeral line.now at 1 (first_number (rest_at line.now at)) result }
 {
@@ -67,21 +69,19 @@ pub fn first_number(line: &[u8], at: usize) -> Numeral
 }
 
 // The number in the only field behind a place.
-pub fn only_number(line: &[u8], at: usize) -> Numeral
+pub fn only_number(line: &[u8], at: usize) -> Option<Numeral>
     requires { FieldEnds line.now at }
     ensures { ReadsNumeral line.now at 1 (only_number (rest_at line.now at)) result }
 {
-    let Numeral::Value(n, e) = first_number(line, at) else {
-        return Numeral::Bad;
-    };
-    if e < line.len() {
-        return Numeral::Bad;
+    let read = first_number(line, at)?;
+    if read.end < line.len() {
+        return None;
     }
-    Numeral::Value(n, e)
+    Some(read)
 }
 
 // The cells in the fields behind a place, each 9 bytes with its space.
-pub fn read_cells(line: &[u8], at: usize, cells: &mut [u32]) -> CellsRead
+pub fn read_cells(line: &[u8], at: usize, cells: &mut [u32]) -> Option<usize>
     requires { FieldEnds line.now at × (length line.now ≤ 9 * length cells.old) }
     ensures { ReadsCells (hex_cells (rest_at line.now at)) result cells.new }
 {
@@ -89,15 +89,12 @@ pub fn read_cells(line: &[u8], at: usize, cells: &mut [u32]) -> CellsRead
     let mut n = 0;
     let mut i = at;
     while i < line.len() {
-        let Numeral::Value(c, e) = read_numeral(line, i, HEXADECIMAL, CELL_DIGITS, CELL_DIGITS)
-        else {
-            return CellsRead::Bad;
-        };
-        cells[n] = c;
+        let read = read_numeral(line, i, HEXADECIMAL, CELL_DIGITS, CELL_DIGITS)?;
+        cells[n] = read.value;
         n += 1;
-        i = e;
+        i = read.end;
     }
-    CellsRead::Cells(n)
+    Some(n)
 }
 
 // Are the bytes those of a fixed word?

@@ -21,22 +21,15 @@ pub const NUMBER_DIGITS: usize = 7;
 // A cell has exactly so many.
 pub const CELL_DIGITS: usize = 8;
 
-// A number and the place at which its field ends, or none.
+// A number and the place at which its field ends.
 #[derive(Clone, Copy)]
-pub enum Numeral {
-    Value(u32, usize),
-    Bad,
-}
-
-// How many cells were read, or that a field is no cell.
-#[derive(Clone, Copy)]
-pub enum CellsRead {
-    Cells(usize),
-    Bad,
+pub struct Numeral {
+    pub value: u32,
+    pub end: usize,
 }
 
 // A line that has ended: the place behind its newline, and how many bytes are kept of it. Or the chunk has ended
-// before the line: how many are kept of it so far.
+// before the line: how many are kept of it so far. No Option: both cases hold how many bytes are kept.
 #[derive(Clone, Copy)]
 pub enum Taking {
     Line(usize, usize),

@@ -1,21 +1,25 @@
 // The converters tried on given cells, and what they answer printed on standard output.
 #![tactic(auto)]
 
-use forms::Answer;
+use forms::Unwritten;
 use std::io;
 
 // Prints an answer by its count alone.
-fn print_count(rt: &impl Print, answer: Answer) -> io::Result<()> {
+fn print_count(rt: &impl Print, answer: Result<usize, Unwritten>) -> io::Result<()> {
     match answer {
-        Answer::Cells(n) => println!(rt; "cells {n}"),
-        Answer::Refused(r) => println!(rt; "refused {r}"),
-        Answer::Short(n) => println!(rt; "refused 12, needs {n}"),
+        Ok(n) => println!(rt; "cells {n}"),
+        Err(Unwritten::Refused(refusal)) => println!(rt; "refused {}", u32::from(refusal)),
+        Err(Unwritten::Short(n)) => println!(rt; "refused 12, needs {n}"),
     }
 }
 
 // Prints an answer, with the cells that were written, in hexadecimal.
-pub fn print_answer(rt: &impl Print, answer: Answer, out: &[u32]) -> io::Result<()> {
-    let Answer::Cells(n) = answer else {
+pub fn print_answer(
+    rt: &impl Print,
+    answer: Result<usize, Unwritten>,
+    out: &[u32],
+) -> io::Result<()> {
+    let Ok(n) = answer else {
         return print_count(rt, answer);
     };
     print!(rt; "cells")?;
@@ -31,7 +35,7 @@ pub fn both(rt: &impl Print, name: &str, s: &[u32], m: usize, edition: u32) -> i
     let compacted = convert::compact(s, m, &mut form, edition);
     print!(rt; "{name}\n  compact ")?;
     print_answer(rt, compacted, &form)?;
-    let Answer::Cells(n) = compacted else {
+    let Ok(n) = compacted else {
         return Ok(());
     };
     if n <= 383 {

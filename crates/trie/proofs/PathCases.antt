@@ -1,11 +1,12 @@
 -- What a climb and a gathered path return and leave, case by case.
+use Rattle.std.proofs.Common.{get_or, drop-cons}
+use Rattle.std.specs.Prelude.{None, Some}
 use Rattle.std.proofs.Common.{◌≡◌, ℕ, suc, ◌+◌, ◌-◌, ◌*◌, ◌<◌, ◌≤◌, true, leb, List, [], ◌∷◌, ◌++◌, length, drop, set, sym, refl, ap, ◌∙◌, append_assoc, append-nil, arith, length-append, length-set, drop_of_length-le, drop-drop, leb-false, leb-true}
 use Rattle.basis.proofs.SetsLaws.{drop-written}
 use Rattle.basis.proofs.Cases.{by_cases}
 use lib.Seq.{drop-append-le}
 use Rattle.space.specs.Judging.{read_node}
 use Rattle.space.specs.declared.Node.{Node}
-use Rattle.space.specs.declared.NodeRead.TheVariants as node
 use Rattle.space.proofs.JudgingLaws.{node-bounds, read-node-sound, read-node-damaged}
 use Rattle.trie.specs.Siblings.{Trie, sound}
 use Rattle.trie.specs.Paths.{Path, none, tokens, gather, longest}
@@ -46,10 +47,10 @@ module _ (left : ℕ) (t : Trie) (root n : ℕ) (a : List ℕ) (o : 1 ≤ left) 
   one_more_lem : left ≡ suc (left - 1)
   one_more_lem = omega arith
 
-  pub climb-damaged : node.Damaged ≡ read_node t.nodes t.links t.at n → Ran left (climbed left t root n) a a lost_code
+  pub climb-damaged : None ≡ read_node t.nodes t.links t.at n → Ran left (climbed left t root n) a a lost_code
   climb-damaged e = done-lost left _ a (ap (λ (m : ℕ). climbed m t root n) one_more_lem ∙ climbed-unsound t root n (left - 1) (read-node-damaged t.nodes t.links t.at n e))
 
-  module _ (y : Node) (e : node.Sound y ≡ read_node t.nodes t.links t.at n) where
+  module _ (y : Node) (e : Some y ≡ read_node t.nodes t.links t.at n) where
     is : y ≡ t.at n
     is = (read-node-sound t.nodes t.links t.at n e).0
 
@@ -82,6 +83,20 @@ module _ (left : ℕ) (t : Trie) (root n : ℕ) (a : List ℕ) (o : 1 ≤ left) 
       climb-cut z = climb-more (set a (left - 1) y.token) (on_code + y.parent) (rw z (refl, refl, refl))
 
 -- ---- a run of a path
+
+-- a step of copying a run, the last cell first
+pub copied-step : (run path rest : List ℕ) (from i j : ℕ) → j ≡ i + 1 → i < length run → from + i < length path → drop (from + j) path ≡ drop j run ++ rest
+    → drop (from + i) (set path (from + i) (get_or run i 0)) ≡ drop i run ++ rest
+copied-step run path rest from i j s h k e =
+    let f : suc (from + i) ≡ from + j = omega arith in
+    let g : j ≡ suc i = omega arith in
+    drop-written path (from + i) (get_or run i 0) k
+    ∙ ap (λ (m : ℕ). get_or run i 0 ∷ drop m path) f
+    ∙ ap (λ (ys : List ℕ). get_or run i 0 ∷ ys) (e ∙ ap (λ (m : ℕ). drop m run ++ rest) g)
+    ∙ ap (λ (ys : List ℕ). ys ++ rest) (sym (drop-cons run i 0 h))
+
+pub copied_none : (run path : List ℕ) (from : ℕ) → length run ≡ levels → drop (from + levels) path ≡ drop levels run ++ drop (from + levels) path
+copied_none run path from l = ap (λ (ys : List ℕ). ys ++ drop (from + levels) path) (sym (drop_of_length-le run {i = levels} (omega arith)))
 
 -- a run as it was climbed, at its end
 tokens-of : (xs before sub : List ℕ) → length before ≡ levels → drop (levels - length xs) sub ≡ xs ++ drop levels before → drop (levels - length xs) sub ≡ xs

@@ -1,8 +1,8 @@
 -- A law for each case of the search, over the record that was read.
+use Rattle.std.specs.Prelude.{None, Some}
 use Rattle.std.proofs.Common.{◌≡◌, ℕ, zero, suc, ◌+◌, ◌<◌, ◌≤◌, true, false, eqb, sym, refl, ap, ◌∙◌, arith, eq-eqb, ne_eqb}
 use Rattle.space.specs.Judging.{read_node}
 use Rattle.space.specs.declared.Node.{Node}
-use Rattle.space.specs.declared.NodeRead.TheVariants as node
 use Rattle.space.proofs.JudgingLaws.{node-bounds, follows-rises, follows-within, read-node-sound, read-node-damaged}
 use Rattle.trie.specs.Siblings.{Trie, sound, at_sibling, search_siblings, search_children}
 use Rattle.trie.specs.declared.Search.{Search}
@@ -39,10 +39,10 @@ pub record Here (t : Trie) (parent token n : ℕ) (rest w : Search) : Type 0 whe
 
 -- over the record that was read at n
 module _ {t : Trie} {parent token n : ℕ} {rest w : Search} (a : Here t parent token n rest w) where
-  pub at-damaged : node.Damaged ≡ read_node t.nodes t.links t.at n → Damaged ≡ w
+  pub at-damaged : None ≡ read_node t.nodes t.links t.at n → Damaged ≡ w
   at-damaged e = sym (a.gives ∙ simp (read-node-damaged t.nodes t.links t.at n e))
 
-  module _ (y : Node) (e : node.Sound y ≡ read_node t.nodes t.links t.at n) where
+  module _ (y : Node) (e : Some y ≡ read_node t.nodes t.links t.at n) where
     is : y ≡ t.at n
     is = (read-node-sound t.nodes t.links t.at n e).0
 
@@ -110,10 +110,10 @@ module _ {t : Trie} {parent token n : ℕ} {w : Search} (a : Chain t parent toke
   unfolding search_siblings
   opened = record { gives = first.same }
 
-  pub chain-damaged : node.Damaged ≡ read_node t.nodes t.links t.at n → Damaged ≡ w
+  pub chain-damaged : None ≡ read_node t.nodes t.links t.at n → Damaged ≡ w
   chain-damaged = at-damaged opened
 
-  module _ (y : Node) (e : node.Sound y ≡ read_node t.nodes t.links t.at n) where
+  module _ (y : Node) (e : Some y ≡ read_node t.nodes t.links t.at n) where
     pub chain-stray : (y.parent ≡ parent → ⊥) → Damaged ≡ w
     chain-stray = at-stray opened y e
 

@@ -1,11 +1,11 @@
 -- A law for each case of the search with an index, over what stands in the slot and the record that was read.
+use Rattle.std.specs.Prelude.{None, Some}
 use Rattle.std.proofs.Common.{◌≡◌, ℕ, zero, suc, ◌+◌, ◌<◌, ◌≤◌, Bool, true, false, ◌⊎◌, List, [], length, take, sym, refl, ap, ◌∙◌, inl, inr, arith, length-take, take_all, eq-eqb, ne_eqb}
 use Rattle.basis.specs.Choice.{pick}
 use Rattle.basis.proofs.Cases.{by_cases}
 use Rattle.space.specs.Layout.{sizes, node_in}
 use Rattle.space.specs.Judging.{read_node}
 use Rattle.space.specs.declared.Node.{Node}
-use Rattle.space.specs.declared.NodeRead.TheVariants as node
 use Rattle.space.proofs.JudgingLaws.{read-node-sound, read-node-damaged}
 use Rattle.trie.specs.Siblings.{Trie, trie_in, sound, search_siblings, search_children}
 use Rattle.trie.specs.Walks.{walk_from_by, walk_by, shown}
@@ -19,11 +19,11 @@ use Rattle.trie.proofs.IndexLaws.{at-alike, unpowered, walk-unpowered, confirmed
 -- ---- an entry
 
 module _ (cs : List ℕ) (nodes links x : ℕ) where
-  pub judge-damaged : node.Damaged ≡ read_node nodes links (node_in sizes cs) x → Damaged ≡ judged_in cs nodes links x
+  pub judge-damaged : None ≡ read_node nodes links (node_in sizes cs) x → Damaged ≡ judged_in cs nodes links x
   unfolding judged_in
   judge-damaged e = simp (read-node-damaged nodes links (node_in sizes cs) x e)
 
-  pub judge-sound : (y : Node) → node.Sound y ≡ read_node nodes links (node_in sizes cs) x → Found x ≡ judged_in cs nodes links x
+  pub judge-sound : (y : Node) → Some y ≡ read_node nodes links (node_in sizes cs) x → Found x ≡ judged_in cs nodes links x
   unfolding judged_in
   judge-sound y e = simp (read-node-sound nodes links (node_in sizes cs) x e).1
 
@@ -84,7 +84,7 @@ module _ {t : Trie} {index : List ℕ} {stood parent token n slot : ℕ} {w : Se
     unfolding search_in_turn
     turns-passed k = record { gives = first-turn.same ∙ simp (ne_eqb _ _ e, k) }
 
-    module _ (k : confirmed t parent token (entry_beside index stood slot n) ≡ false) (y : Node) (i : node.Sound y ≡ read_node t.nodes t.links t.at n)
+    module _ (k : confirmed t parent token (entry_beside index stood slot n) ≡ false) (y : Node) (i : Some y ≡ read_node t.nodes t.links t.at n)
         (p : y.parent ≡ parent) (q : y.token ≡ token → ⊥) (r : y.sibling ≡ 0 → ⊥) where
       pub turns_next : (slot' : ℕ) → slot' ≡ slot_after (length index) slot → slot' < length index → (n < y.sibling) × Turns t index stood parent token y.sibling slot' w
       turns_next slot' f l =
@@ -165,7 +165,7 @@ module _ {cs : List ℕ} {nodes links : ℕ} {index : List ℕ} {stood parent to
       pub met-other : Here (trie_in sizes cs nodes links) parent token n (Rest a.turns) w
       met-other = turns-passed a.turns taken (told_at ∙ e)
 
-      module _ (y : Node) (i : node.Sound y ≡ read_node nodes links (node_in sizes cs) n) (p : y.parent ≡ parent) (q : y.token ≡ token → ⊥) (r : y.sibling ≡ 0 → ⊥) where
+      module _ (y : Node) (i : Some y ≡ read_node nodes links (node_in sizes cs) n) (p : y.parent ≡ parent) (q : y.token ≡ token → ⊥) (r : y.sibling ≡ 0 → ⊥) where
         pub met_next : (slot' : ℕ) → (slot' ≡ slot_after (length index) slot) × (slot' < length index) → (n < y.sibling) × InTurn cs nodes links index stood parent token y.sibling slot' w
         met_next slot' f = let k = turns_next a.turns taken (told_at ∙ e) y i p q r slot' f.0 f.1 in (k.0, record { turns = k.1 })
 

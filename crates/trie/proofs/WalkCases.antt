@@ -1,9 +1,9 @@
 -- A law for each case of the walk, by any way of finding a child.
+use Rattle.std.specs.Prelude.{None, Some}
 use Rattle.std.proofs.Common.{◌≡◌, ℕ, ◌+◌, ◌-◌, ◌<◌, ◌≤◌, true, List, [], ◌∷◌, length, get_or, drop, sym, refl, ap, ◌∙◌, add-one, arith, length-drop, drop-cons, eq-eqb, ne_eqb}
 use lib.Seq.{drop-length}
 use Rattle.space.specs.Judging.{read_node}
 use Rattle.space.specs.declared.Node.{Node}
-use Rattle.space.specs.declared.NodeRead.TheVariants as node
 use Rattle.space.proofs.JudgingLaws.{read-node-sound, read-node-damaged}
 use Rattle.trie.specs.Siblings.{Trie, sound}
 use Rattle.trie.specs.Walks.{Walk, stopped, damaged, Finding, walk_from_by, walk_by, shown}
@@ -63,15 +63,15 @@ module _ {find : Finding} {t : Trie} {tokens : List ℕ} {n i : ℕ} {w : Walk} 
         }
 
 -- from a root
-pub root-judged : (t : Trie) (root : ℕ) (y : Node) → node.Sound y ≡ read_node t.nodes t.links t.at root → sound t root ≡ true
+pub root-judged : (t : Trie) (root : ℕ) (y : Node) → Some y ≡ read_node t.nodes t.links t.at root → sound t root ≡ true
 root-judged t root y e = (read-node-sound t.nodes t.links t.at root e).1
 
 module _ (find : Finding) (t : Trie) (root : ℕ) (tokens : List ℕ) where
-  pub root-damaged : node.Damaged ≡ read_node t.nodes t.links t.at root → walked.Damaged ≡ shown (walk_by find t root tokens)
+  pub root-damaged : None ≡ read_node t.nodes t.links t.at root → walked.Damaged ≡ shown (walk_by find t root tokens)
   unfolding walk_by
   root-damaged e = rw (read-node-damaged t.nodes t.links t.at root e)
 
-  module _ (y : Node) (e : node.Sound y ≡ read_node t.nodes t.links t.at root) where
+  module _ (y : Node) (e : Some y ≡ read_node t.nodes t.links t.at root) where
     own : y.parent ≡ (t.at root).parent
     own = ap (λ (z : Node). z.parent) (read-node-sound t.nodes t.links t.at root e).0
 

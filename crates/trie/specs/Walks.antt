@@ -58,7 +58,8 @@ pub record Searches (pre : ℕ → ℕ → Type 0) (post : ℕ → ℕ → Searc
 
 -- it answers what this way of finding a child does
 abbrev pub AnswersAs : (ℕ → ℕ → Search → Type 0) → Finding → Trie → Type 0
-AnswersAs post find t = (n x : ℕ) (r : Search) → n < t.nodes → sound t n ≡ true → x < 2 ^ 32 → post n x r → r ≡ find t n x
+AnswersAs post find t =
+    (n x : ℕ) (r : Search) → n < t.nodes → sound t n ≡ true → x < 2 ^ 32 → post n x r → r ≡ find t n x
 
 -- the walk by a closure is the one by what it answers as
 abbrev pub WalksBy : (ℕ → ℕ → Search → Type 0) → Trie → ℕ → List ℕ → Walked → Type 0

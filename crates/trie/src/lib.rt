@@ -9,7 +9,7 @@ pub mod siblings;
 pub mod slots;
 pub mod walks;
 
-// The child found, or the last sibling, 0 where there is none.
+// The child found, or the last sibling, 0 where there is none. Document 01 asks for these three cases by name.
 #[derive(Clone, Copy)]
 pub enum Search {
     Found(usize),
@@ -17,7 +17,8 @@ pub enum Search {
     Damaged,
 }
 
-// Whole at a node; or stopped at a node, with its last child and the number of tokens left.
+// Whole at a node; or stopped at a node, with its last child and the number of tokens left. Three cases, as those of
+// the search: its callers go on from each of the first two.
 #[derive(Clone, Copy)]
 pub enum Walked {
     Whole(usize),

@@ -9,7 +9,6 @@ use super::Search;
 use super::siblings::{search_children, search_siblings};
 use super::slots::{slot_after, slot_of};
 use basis::wide;
-use space::NodeRead;
 use space::records::{node_in, read_node};
 
 // Is node x a child of `parent` with the token, by its own record?
@@ -31,12 +30,13 @@ pub fn judge(space: &[u32], nodes: usize, links: usize, x: usize) -> Search
     ensures { result ≡ judged_in space.now nodes links x }
 {
     match read_node(space, nodes, links, x) {
-        NodeRead::Sound(_) => Search::Found(x),
-        NodeRead::Damaged => Search::Damaged,
+        Some(_) => Search::Found(x),
+        None => Search::Damaged,
     }
 }
 
-// What stands in the slot, beside sibling n: nothing where n did not stand when the call began.
+// What stands in the slot, beside sibling n: 0, as in the cells of an index (`entry_beside`), where n did not stand
+// when the call began.
 #[tactic(auto, unfolding(crate::specs::Index::entry_beside))]
 pub fn entry_beside(index: &[u32], stood: usize, slot: usize, n: usize) -> usize
     requires { slot < length index.now }
@@ -68,22 +68,22 @@ fn search_in_turn(
     loop {
         let x = entry_beside(index, stood, slot, n);
         if x == 0 {
-            return search_siblings(space, nodes, links, parent, n, token);
+            break search_siblings(space, nodes, links, parent, n, token);
         }
         if confirms(space, nodes, parent, token, x) {
-            return judge(space, nodes, links, x);
+            break judge(space, nodes, links, x);
         }
-        let NodeRead::Sound(y) = read_node(space, nodes, links, n) else {
-            return Search::Damaged;
+        let Some(y) = read_node(space, nodes, links, n) else {
+            break Search::Damaged;
         };
         if y.parent != parent {
-            return Search::Damaged;
+            break Search::Damaged;
         }
         if y.token == token {
-            return Search::Found(n);
+            break Search::Found(n);
         }
         if y.sibling == 0 {
-            return Search::Last(n);
+            break Search::Last(n);
         }
         n = y.sibling;
         slot = slot_after(index.len(), slot);

@@ -5,7 +5,6 @@ ghost use Rattle.space.specs.Sound.{NodesIn, NodeOf};
 ghost use Rattle.trie.specs.Siblings.{trie_in, sound, parent_is, search_siblings, search_children};
 
 use super::Search;
-use space::NodeRead;
 use space::records::{node_in, read_node};
 
 // Is there no node n, or one with this parent?
@@ -31,17 +30,17 @@ pub fn search_siblings(
 {
     let mut n = first;
     loop {
-        let NodeRead::Sound(y) = read_node(space, nodes, links, n) else {
-            return Search::Damaged;
+        let Some(y) = read_node(space, nodes, links, n) else {
+            break Search::Damaged;
         };
         if y.parent != parent {
-            return Search::Damaged;
+            break Search::Damaged;
         }
         if y.token == token {
-            return Search::Found(n);
+            break Search::Found(n);
         }
         if y.sibling == 0 {
-            return Search::Last(n);
+            break Search::Last(n);
         }
         n = y.sibling;
     }

@@ -10,7 +10,6 @@ ghost use Rattle.trie.specs.Index.{walked_in};
 use super::lookups::search_indexed;
 use super::slots::used_slots;
 use super::{Search, Walked};
-use space::NodeRead;
 use space::records::read_node;
 
 // The walk from a root, by a search among the children of a node that was read and found sound.
@@ -26,7 +25,7 @@ pub fn walk_by<F: Fn(usize, u32) -> Search>(
     requires searches { Searches (F.pre search) (F.post search) (trie_in sizes space.now nodes links) }
     ensures { WalksBy (F.post search) (trie_in sizes space.now nodes links) root tokens.now result }
 {
-    let NodeRead::Sound(y) = read_node(space, nodes, links, root) else {
+    let Some(y) = read_node(space, nodes, links, root) else {
         return Walked::Damaged;
     };
     if y.parent != root {

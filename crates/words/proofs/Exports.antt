@@ -1,4 +1,6 @@
 -- Exports that each meet their contract are a history of calls, so their words are those of the plain table's replies.
+use Rattle.space.specs.Fresh.{FreshAnswer}
+use Rattle.std.specs.Prelude.{Err, Ok}
 use Prim.Native.Nat.{ℕ, ◌-◌}
 use mathlib.Core.Bool.{Bool, true, false, ◌&&◌}
 use mathlib.Core.List.{List, [], ◌∷◌, map, zip_with}
@@ -14,13 +16,9 @@ use Rattle.plain.specs.Coding.{Coding, coding_of, Reading}
 use Rattle.plain.specs.Requests.{Request, counts, why, detours, lent, new_past, because, Reply, refused, Seen}
 use Rattle.plain.specs.Detours.{detours_of, all_within}
 use Rattle.plain.specs.Table.{table_trace, edition_trace}
-use Rattle.space.specs.declared.FreshAnswer.{FreshAnswer}
-use Rattle.space.specs.declared.FreshAnswer.TheVariants.{Done, Refused}
 use Rattle.space.specs.Layout.{sizes_of}
-use Rattle.space.specs.Heading.{space_header}
+use Rattle.space.specs.Heading.{space_header, Header}
 use Rattle.space.specs.declared.Head.{Head}
-use Rattle.space.specs.declared.Header.{Header}
-use Rattle.space.specs.declared.Header.TheVariants as header
 use Rattle.trie.specs.Siblings.{search_children}
 use Rattle.trie.specs.Walks.{Walk, whole, stopped, damaged, Finding, walk_by}
 use Rattle.store.specs.Views.{View, view_of, subgoal_trie}
@@ -44,10 +42,10 @@ use Rattle.words.specs.Exports.{ExportHistories, WholeExportHistories, CarriedEx
 
 -- ---- word 0
 
-fresh-said : (x : FreshAnswer) (w : ℕ) → w ≡ word (said_fresh x) → (w ≡ 0 → x ≡ Done) × (x ≡ Done → w ≡ 0)
+fresh-said : (x : FreshAnswer) (w : ℕ) → w ≡ word (said_fresh x) → (w ≡ 0 → x ≡ Ok tt) × (x ≡ Ok tt → w ≡ 0)
 unfolding word
-fresh-said Done w e = (λ z. refl, λ z. omega (arith, e))
-fresh-said (Refused r) w e =
+fresh-said (Ok y) w e = (λ z. refl, λ z. omega (arith, e))
+fresh-said (Err r) w e =
     (λ z. absurd (omega (arith, e, z)), λ d. let x : ◌≡◌ {A = ℕ} 0 1 = cc in absurd (omega arith))
 
 fault-said : (x : Fault) (w : ℕ) → w ≡ word_check x → (w ≡ 0 → x ≡ nothing) × (x ≡ nothing → w ≡ 0)
@@ -153,8 +151,8 @@ carried-export-histories n f a source before space xs r h =
 
 counts-under : (cs : List ℕ) (x : Header) → ([] ≡ (under_any_by search_children cs counts x).out) × (cs ≡ (under_any_by search_children cs counts x).state)
 unfolding under_any_by under_by decide_by change_by out_after lent
-counts-under cs (header.Sound h) = (refl, refl)
-counts-under cs (header.Refused r) = (refl, refl)
+counts-under cs (Ok h) = (refl, refl)
+counts-under cs (Err r) = (refl, refl)
 
 counts-kept : (cs : List ℕ) → ([] ≡ (space_step cs counts).out) × (cs ≡ (space_step cs counts).state)
 unfolding space_step_by
@@ -196,10 +194,10 @@ module _ (v : View) where
 
 why-under : (find : Finding) (cs term : List ℕ) (x : Header) → ([] ≡ (under_any_by find cs (why term) x).out) × (cs ≡ (under_any_by find cs (why term) x).state)
 unfolding under_any_by under_by decide_by lent change_by out_after
-why-under find cs term (header.Sound h) =
+why-under find cs term (Ok h) =
     let k = reasoned-says (view_of (sizes_of h.edition) cs h) find term ((coding_of h.edition).called term) in
     rw k.1 (refl, refl)
-why-under find cs term (header.Refused r) = (refl, refl)
+why-under find cs term (Err r) = (refl, refl)
 
 why-kept : (find : Finding) (cs term : List ℕ) → ([] ≡ (space_step_by find cs (why term)).out) × (cs ≡ (space_step_by find cs (why term)).state)
 unfolding space_step_by
@@ -207,7 +205,7 @@ why-kept find cs term = why-under find cs term (space_header cs)
 
 -- a search for detours only says something
 says-under : (cs : List ℕ) (q : Request) (h : Head) (r : Reply) → lent q ≡ [] → decide_by search_children (coding_of h.edition) (view_of (sizes_of h.edition) cs h) q ≡ says r
-    → ([] ≡ (under_any_by search_children cs q (header.Sound h)).out) × (cs ≡ (under_any_by search_children cs q (header.Sound h)).state)
+    → ([] ≡ (under_any_by search_children cs q (Ok h)).out) × (cs ≡ (under_any_by search_children cs q (Ok h)).state)
 unfolding under_any_by under_by change_by out_after
 says-under cs q h r l e = rw (e, l) (refl, refl)
 
@@ -224,9 +222,9 @@ detours-decides c v gs budget = by_cases (all_within v.subgoals gs)
 
 detours-under : (cs gs : List ℕ) (budget : ℕ) (x : Header) → ([] ≡ (under_any_by search_children cs (detours gs budget) x).out) × (cs ≡ (under_any_by search_children cs (detours gs budget) x).state)
 unfolding under_any_by lent
-detours-under cs gs budget (header.Sound h) =
+detours-under cs gs budget (Ok h) =
     let d = detours-decides (coding_of h.edition) (view_of (sizes_of h.edition) cs h) gs budget in says-under cs (detours gs budget) h d.0 refl d.1
-detours-under cs gs budget (header.Refused r) = (refl, refl)
+detours-under cs gs budget (Err r) = (refl, refl)
 
 detours-kept : (cs gs : List ℕ) (budget : ℕ) → ([] ≡ (space_step cs (detours gs budget)).out) × (cs ≡ (space_step cs (detours gs budget)).state)
 unfolding space_step_by

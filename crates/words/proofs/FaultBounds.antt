@@ -1,4 +1,5 @@
 -- Every fault that the check finds is one that a result word holds: no record has a number above 2^20 + 1.
+use Rattle.std.specs.Prelude.{Err, Ok}
 use Prim.Native.Nat.{ℕ, suc, ◌≤◌}
 use mathlib.Core.Bool.{Bool, true, false}
 use mathlib.Core.List.{List}
@@ -9,16 +10,13 @@ use lib.ListN.{length}
 use Rattle.basis.specs.Choice.{pick}
 use Rattle.plain.specs.Coding.{Coding, coding_of}
 use Rattle.space.specs.Layout.{sizes_of, most}
-use Rattle.space.specs.Heading.{space_header}
-use Rattle.space.specs.declared.Header.{Header}
-use Rattle.space.specs.declared.Header.TheVariants as header
+use Rattle.space.specs.Heading.{space_header, Header}
 use Rattle.space.proofs.HeaderLaws.{header-bounds}
 use Rattle.store.specs.Views.{View, view_of}
 use Rattle.agreement.specs.Whole.{node_whole, subgoal_whole, answer_whole, chains}
 use Rattle.agreement.specs.Faults.{Fault, nothing, node, subgoal, answer, chained, node_broken, subgoal_broken, answer_broken, answer_lost, fault_in, fault_under, fault_of}
 use Rattle.agreement.proofs.Faults.{failing-most}
-use Rattle.integrity.specs.Tests.{said_check}
-use Rattle.integrity.specs.declared.CheckAnswer.{CheckAnswer}
+use Rattle.integrity.specs.Tests.{CheckAnswer, said_check}
 use Rattle.words.specs.Words.{word_check}
 use Rattle.words.specs.Bounded.{FaultBounded}
 
@@ -42,10 +40,10 @@ module _ (c : Coding) (v : View) (n : v.nodes ≤ most) (s : v.subgoals ≤ most
 
 under-bounded : (cs : List ℕ) (x : Header) → x ≡ space_header cs → FaultBounded (fault_under cs x)
 unfolding fault_under
-under-bounded cs (header.Sound h) e =
+under-bounded cs (Ok h) e =
     let b = header-bounds cs h e in
     in-bounded (coding_of h.edition) (view_of (sizes_of h.edition) cs h) (omega arith) (omega arith) (omega arith)
-under-bounded cs (header.Refused r) e = tt
+under-bounded cs (Err r) e = tt
 
 pub fault-bounded : (cs : List ℕ) → FaultBounded (fault_of cs)
 unfolding fault_of
@@ -59,6 +57,3 @@ given-bounded e b = rw e b
 module _ {a b : CheckAnswer} (same : a ≡ b) where
   pub variant-word : (w : ℕ) → w ≡ word_check (said_check b) → w ≡ word_check (said_check a)
   variant-word w e = e ∙ ap (λ (x : CheckAnswer). word_check (said_check x)) (sym same)
-
-  pub variant-bounded : FaultBounded (said_check a) → FaultBounded (said_check b)
-  variant-bounded f = rw same at f

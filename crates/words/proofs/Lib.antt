@@ -1,9 +1,7 @@
-pub mod ReplyBounds
+pub mod CellBounds
 pub mod WordLaws
 pub mod WhyLaws
 pub mod FaultBounds
-pub mod BuildBounds
-pub mod CarryBounds
 pub mod DetourWords
 pub mod Exports
 pub mod ListingBounds

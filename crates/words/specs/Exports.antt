@@ -1,13 +1,12 @@
 -- What the contracts of the C exports come to together: exports called one after another, each meeting its contract,
 -- with an index of any cells or without, show what the plain table shows, in result words. And what word 0 of
 -- `tables_fresh`, of `tables_check` and of `tables_carry` means.
-use Rattle.std.specs.Prelude.{ℕ, true, ◌≡◌}
+use Rattle.std.specs.Prelude.{ℕ, true, ◌≡◌, Ok}
 use mathlib.Core.List.{List, [], ◌∷◌, map, zip_with}
 use Rattle.plain.specs.Coding.{coding_of}
 use Rattle.plain.specs.Requests.{Request, counts, why, detours, Counts, Seen}
 use Rattle.plain.specs.Table.{table_trace, edition_trace}
 use Rattle.space.specs.Fresh.{fresh_answer_in}
-use Rattle.space.specs.declared.FreshAnswer.TheVariants.{Done}
 use Rattle.store.specs.Calls.{counted_cells}
 use Rattle.agreement.specs.History.{Beside, way_of}
 use Rattle.agreement.specs.Whole.{whole_space, table_of, edition_of}
@@ -116,7 +115,7 @@ ExportsLived = (before : List ℕ) (xs : List Export) → (ms : List ExportMade)
 abbrev pub FreshZero : Type 0
 FreshZero =
     (e n f a : ℕ) (before : List ℕ) (w : ℕ) (after : List ℕ) → ReturnsFresh e n f a before w after
-    → (w ≡ 0 → fresh_answer_in e n f a before ≡ Done) × (fresh_answer_in e n f a before ≡ Done → w ≡ 0)
+    → (w ≡ 0 → fresh_answer_in e n f a before ≡ Ok tt) × (fresh_answer_in e n f a before ≡ Ok tt → w ≡ 0)
 
 -- nothing is broken: the space passes
 abbrev pub CheckZero : Type 0
@@ -128,4 +127,4 @@ CheckZero =
 abbrev pub CarryZero : Type 0
 CarryZero =
     (n f a : ℕ) (source before : List ℕ) (w : ℕ) (after : List ℕ) → ReturnsCarry n f a source before w after
-    → (w ≡ 0 → carry_reply n f a source before ≡ Done) × (carry_reply n f a source before ≡ Done → w ≡ 0)
+    → (w ≡ 0 → carry_reply n f a source before ≡ Ok tt) × (carry_reply n f a source before ≡ Ok tt → w ≡ 0)

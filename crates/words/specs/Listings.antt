@@ -1,23 +1,23 @@
 -- The result words of the two calls that list terms, and what these calls return and leave. They have no space.
-use Rattle.std.specs.Prelude.{ℕ, ◌+◌, ◌^◌, ◌≤◌, ◌<◌, List, ◌≡◌, length}
-use Rattle.listing.specs.declared.Listing.{Listing}
-use Rattle.listing.specs.declared.Listing.TheVariants.{Cells, End, Refused, Short}
-use Rattle.listing.specs.Listing.{first_term, term_after, first_answer, after_answer, listing_out}
+use Rattle.std.specs.Prelude.{ℕ, ◌+◌, ◌^◌, ◌<◌, List, Some, None, Ok, Err, ◌≡◌, length}
+use Rattle.basis.specs.Refusals.{number_of}
+use Rattle.forms.specs.declared.Unwritten.TheVariants.{Refused, Short}
+use Rattle.listing.specs.Listing.{Listing, first_term, term_after, first_answer, after_answer, listing_out}
 use Rattle.words.specs.Words.{worded}
 
 -- the value is the number of cells written, or for 12 the cells that out would need; the end has none
 unfoldable pub word_listing : Listing → ℕ
-word_listing (Cells n) = worded 7 n
-word_listing End = worded 16 0
-word_listing (Refused r) = worded (256 + r) 0
-word_listing (Short n) = worded (256 + 12) n
+word_listing (Ok (Some n)) = worded 7 n
+word_listing (Ok None) = worded 16 0
+word_listing (Err (Refused r)) = worded (256 + number_of r) 0
+word_listing (Err (Short n)) = worded (256 + 12) n
 
--- answers that a word holds: their refusal's number and their count of cells are small
+-- answers that a word holds: their count of cells is small
 abbrev pub ListingBounded : Listing → Type 0
-ListingBounded (Cells n) = n < 2 ^ 32
-ListingBounded End = Unit {0}
-ListingBounded (Refused r) = r ≤ 24
-ListingBounded (Short n) = n < 2 ^ 32
+ListingBounded (Ok (Some n)) = n < 2 ^ 32
+ListingBounded (Ok None) = Unit {0}
+ListingBounded (Err (Refused r)) = Unit {0}
+ListingBounded (Err (Short n)) = n < 2 ^ 32
 
 -- `tables_first_term` returns w, the word of what is answered, and leaves this out
 abbrev pub ReturnsFirstTerm : (symbols : List ℕ) (s : ℕ) (out : List ℕ) (e : ℕ) → ℕ → List ℕ → Type 0

@@ -5,12 +5,11 @@ use Rattle.plain.specs.Requests.{Open, Finished, Request, counts, Counts, old_as
 use Rattle.plain.specs.Requests.{Best, none_found, found}
 use Rattle.plain.specs.Requests.{Reply, new, old_subgoal, old_answer, done, at, none_yet, no_more, cells, used, joined}
 use Rattle.plain.specs.Requests.{refused, short}
-use Rattle.space.specs.declared.FreshAnswer.{FreshAnswer}
-use Rattle.space.specs.declared.FreshAnswer.TheVariants as fresh
-use Rattle.space.specs.Fresh.{fresh_answer_in, fresh_space_in}
+use Rattle.space.specs.Fresh.{fresh_answer_in, fresh_space_in, FreshAnswer}
 use Rattle.trie.specs.Siblings.{search_children}
 use Rattle.trie.specs.Walks.{Finding}
 use Rattle.store.specs.Calls.{space_step, AnswersBy, Answers, indexed_way}
+use Rattle.store.specs.Replies.{said_finish}
 use Rattle.store.specs.Building.{BuildReply, build_index}
 use Rattle.store.specs.Building as build
 use Rattle.agreement.specs.Faults.{Fault, nothing, heading, node, subgoal, answer, fault_of}
@@ -45,10 +44,9 @@ word (detoured d) = best_word d.best
 word (refused r) = worded (256 + r) 0
 word (short n) = worded (256 + 12) n
 
--- what fresh answers, as the calls do
+-- what fresh answers, as finish does
 abbrev pub said_fresh : FreshAnswer → Reply
-said_fresh fresh.Done = done
-said_fresh (fresh.Refused r) = refused r
+said_fresh = said_finish
 
 -- `tables_fresh` returns w and leaves these cells.
 abbrev pub ReturnsFresh : (e nodes subgoals answers : ℕ) → List ℕ → ℕ → List ℕ → Type 0

@@ -1,17 +1,16 @@
 // The result word of a search for detours, and what it leaves in out.
-ghost use Rattle.std.specs.Prelude.{◌∷◌, ◌≡◌, ◌≤◌, min, length, drop};
+ghost use Rattle.std.specs.Prelude.{◌∷◌, ◌≡◌, ◌≤◌, min, length, take, drop};
 ghost use Rattle.basis.specs.Choice.{pick};
-ghost use Rattle.store.specs.Replies.{said_detours};
-ghost use Rattle.words.specs.Bounded.{Bounded};
+ghost use Rattle.store.specs.Replies.{said_outcome, said_detours};
 ghost use Rattle.words.specs.Detours.{NumbersStand, SaysDetours};
 
-use super::{REFUSED, refusal_word, result_word};
+use super::{refusal_with, refusal_word, result_word};
 use basis::limits::MOST_GOALS;
-use basis::refusals::OUT;
+use basis::refusals::Refusal;
 use convert::copy;
-use store::{DetourAnswer, DetourOutcome};
+use store::{Detour, Outcome};
 
-// A total was found, which is the value; or none was.
+// A total was found, which is the value; or none was. The numbers are the C interface's.
 const DETOUR: u32 = 14;
 
 const NO_DETOUR: u32 = 15;
@@ -36,23 +35,33 @@ fn write_numbers(numbers: &[u32; MOST_GOALS], count: usize, out: &mut [u32])
     copy(numbers, count.min(MOST_GOALS), &mut out[2..]);
 }
 
-// The word of what detours answers; out is judged after all else.
-pub fn detours_result(answer: DetourAnswer, out: &mut [u32]) -> u64
-    requires { Bounded (said_detours answer) }
-    ensures { SaysDetours (said_detours answer) result out.old out.new }
+// The word of what a search came to, and its cells.
+fn give_detour(detour: &Detour, out: &mut [u32]) -> u64
+    ensures { SaysDetours (said_outcome detour.now.outcome (take detour.now.count detour.now.numbers)) result out.old
+        out.new }
 {
-    let has_room = DETOUR_CELLS <= out.len();
-    match answer.outcome {
-        DetourOutcome::Found(total, tried, ended) if has_room => {
+    if out.len() < DETOUR_CELLS {
+        return refusal_with(Refusal::Out, DETOUR_CELLS as u32);
+    }
+    match detour.outcome {
+        Outcome::Found(total, tried, ended) => {
             write_progress(tried, ended, out);
-            write_numbers(&answer.numbers, answer.count, out);
+            write_numbers(&detour.numbers, detour.count, out);
             result_word(DETOUR, total)
         }
-        DetourOutcome::Nothing(tried, ended) if has_room => {
+        Outcome::Nothing(tried, ended) => {
             write_progress(tried, ended, out);
             result_word(NO_DETOUR, 0)
         }
-        DetourOutcome::Refused(r) => refusal_word(r),
-        _ => result_word(REFUSED + OUT, DETOUR_CELLS as u32),
+    }
+}
+
+// The word of what detours answers; out is judged after all else.
+pub fn detours_result(answer: Result<Detour, Refusal>, out: &mut [u32]) -> u64
+    ensures { SaysDetours (said_detours answer) result out.old out.new }
+{
+    match answer {
+        Ok(detour) => give_detour(&detour, out),
+        Err(r) => refusal_word(r),
     }
 }

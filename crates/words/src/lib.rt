@@ -6,22 +6,22 @@ pub mod listings;
 pub mod reasons;
 
 ghost use Rattle.std.specs.Prelude.{◌≡◌, ◌+◌, ◌^◌, ◌<◌, ◌≤◌};
+ghost use Rattle.basis.specs.Refusals.{number_of};
 ghost use Rattle.plain.specs.Requests as request;
 ghost use Rattle.store.specs.Replies.{said_state, said_call, said_answer, said_finish, said_next};
 ghost use Rattle.store.specs.Replies.{said_join, said_cells};
 ghost use Rattle.integrity.specs.Tests.{said_check};
 ghost use Rattle.indexing.specs.Parts.{said_build};
-ghost use Rattle.words.specs.Words.{worded, word, said_fresh, broken_record, word_check, word_build};
-ghost use Rattle.words.specs.Bounded.{Bounded, FaultBounded, BuildBounded};
+ghost use Rattle.words.specs.Words.{worded, word, broken_record, word_check, word_build};
+ghost use Rattle.words.specs.Bounded.{Bounded, FaultBounded};
 
-use basis::refusals::{HEADER, OUT, RECORDS};
-use forms::Answer;
-use indexing::BuildAnswer;
-use integrity::CheckAnswer;
-use space::FreshAnswer;
-use store::{AnswerAnswer, CallAnswer, FinishAnswer, JoinAnswer, NextAnswer, State};
+use basis::refusals::Refusal;
+use forms::Unwritten;
+use integrity::Broken;
+use store::{CallAnswer, Entry, Next, State};
 
 // ---- what was answered: the upper half of a result word; REFUSED is added to the refusal's number
+// Numbers, since they are the C interface (the definition `word`).
 
 const DONE: u32 = 0;
 
@@ -47,9 +47,10 @@ const JOINED: u32 = 10;
 
 const BUILT: u32 = 11;
 
-pub const REFUSED: u32 = 256;
+const REFUSED: u32 = 256;
 
 // ---- a broken record in the lower half: its kind, above the numbers that a record may have
+// Of the C interface too (the definition `word_check`).
 
 const BROKEN_NODE: u32 = 1;
 
@@ -71,22 +72,27 @@ pub fn result_word(what: u32, value: u32) -> u64
     u64::from(what) * UPPER + u64::from(value)
 }
 
-// The word of a refusal without a value: of every one but 12. A bound keeps the sum within a cell.
-pub fn refusal_word(r: u32) -> u64
-    requires { r ≤ 24 }
-    ensures { result ≡ word (request.refused r) }
+// The word of a refusal with a value: of an out that is too short, or a broken record.
+pub fn refusal_with(r: Refusal, value: u32) -> u64
+    ensures { result ≡ worded (256 + number_of r) value }
 {
-    result_word(REFUSED + r, 0)
+    result_word(REFUSED + u32::from(r), value)
 }
 
-// What fresh answers is said as the calls say it.
-pub fn fresh_word(answer: FreshAnswer) -> u64
-    requires { Bounded (said_fresh answer) }
-    ensures { result ≡ word (said_fresh answer) }
+// The word of a refusal without one.
+pub fn refusal_word(r: Refusal) -> u64
+    ensures { result ≡ word (request.refused (number_of r)) }
+{
+    refusal_with(r, 0)
+}
+
+// For fresh, a copy, a growth and finish: done, whether or not a subgoal was finished before; or refused.
+pub fn done_word(answer: Result<(), Refusal>) -> u64
+    ensures { result ≡ word (said_finish answer) }
 {
     match answer {
-        FreshAnswer::Done => result_word(DONE, 0),
-        FreshAnswer::Refused(r) => refusal_word(r),
+        Ok(()) => result_word(DONE, 0),
+        Err(r) => refusal_word(r),
     }
 }
 
@@ -102,7 +108,6 @@ fn old_word(n: u32, state: State) -> u64
 
 // The number is that of a subgoal.
 pub fn call_word(answer: CallAnswer) -> u64
-    requires { Bounded (said_call answer) }
     ensures { result ≡ word (said_call answer) }
 {
     match answer {
@@ -113,25 +118,13 @@ pub fn call_word(answer: CallAnswer) -> u64
 }
 
 // The number is that of an answer; an old one has no state.
-pub fn answer_word(answer: AnswerAnswer) -> u64
-    requires { Bounded (said_answer answer) }
+pub fn answer_word(answer: Result<Entry, Refusal>) -> u64
     ensures { result ≡ word (said_answer answer) }
 {
     match answer {
-        AnswerAnswer::New(n) => result_word(NEW, n),
-        AnswerAnswer::Old(n) => result_word(OLD, n),
-        AnswerAnswer::Refused(r) => refusal_word(r),
-    }
-}
-
-// Done whether or not the subgoal was finished before.
-pub fn finish_word(answer: FinishAnswer) -> u64
-    requires { Bounded (said_finish answer) }
-    ensures { result ≡ word (said_finish answer) }
-{
-    match answer {
-        FinishAnswer::Done => result_word(DONE, 0),
-        FinishAnswer::Refused(r) => refusal_word(r),
+        Ok(Entry::New(n)) => result_word(NEW, n),
+        Ok(Entry::Old(n)) => result_word(OLD, n),
+        Err(r) => refusal_word(r),
     }
 }
 
@@ -146,37 +139,35 @@ fn lacking_word(state: State) -> u64
 }
 
 // The number is that of an answer, and never 0.
-pub fn next_word(answer: NextAnswer) -> u64
-    requires { Bounded (said_next answer) }
+pub fn next_word(answer: Result<Next, Refusal>) -> u64
     ensures { result ≡ word (said_next answer) }
 {
     match answer {
-        NextAnswer::At(n) => result_word(AT, n),
-        NextAnswer::Lacking(state) => lacking_word(state),
-        NextAnswer::Refused(r) => refusal_word(r),
+        Ok(Next::At(n)) => result_word(AT, n),
+        Ok(Next::Lacking(state)) => lacking_word(state),
+        Err(r) => refusal_word(r),
     }
 }
 
 // The value is a count, and 0 where nothing is new.
-pub fn join_word(answer: JoinAnswer) -> u64
-    requires { Bounded (said_join answer) }
+pub fn join_word(answer: Result<u32, Refusal>) -> u64
     ensures { result ≡ word (said_join answer) }
 {
     match answer {
-        JoinAnswer::Joined(n) => result_word(JOINED, n),
-        JoinAnswer::Refused(r) => refusal_word(r),
+        Ok(n) => result_word(JOINED, n),
+        Err(r) => refusal_word(r),
     }
 }
 
 // For load and instance: the cells written, or with 12 the cells needed. Neither count passes 256 * 257.
-pub fn cells_word(answer: Answer) -> u64
+pub fn cells_word(answer: Result<usize, Unwritten>) -> u64
     requires { Bounded (said_cells answer) }
     ensures { result ≡ word (said_cells answer) }
 {
     match answer {
-        Answer::Cells(n) => result_word(CELLS, n as u32),
-        Answer::Short(n) => result_word(REFUSED + OUT, n as u32),
-        Answer::Refused(r) => refusal_word(r),
+        Ok(n) => result_word(CELLS, n as u32),
+        Err(Unwritten::Short(n)) => refusal_with(Refusal::Out, n as u32),
+        Err(Unwritten::Refused(r)) => refusal_word(r),
     }
 }
 
@@ -185,30 +176,29 @@ fn broken_word(kind: u32, number: u32) -> u64
     requires { (kind ≤ 3) × (number < 2 ^ 28) }
     ensures { result ≡ worded (256 + 9) (broken_record kind number) }
 {
-    result_word(REFUSED + RECORDS, kind * NUMBERS + number)
+    refusal_with(Refusal::Records, kind * NUMBERS + number)
 }
 
 // The space is whole, or what is broken first in it.
-pub fn check_word(answer: CheckAnswer) -> u64
+pub fn check_word(answer: Result<(), Broken>) -> u64
     requires { FaultBounded (said_check answer) }
     ensures { result ≡ word_check (said_check answer) }
 {
     match answer {
-        CheckAnswer::Whole => result_word(DONE, 0),
-        CheckAnswer::Header => refusal_word(HEADER),
-        CheckAnswer::Node(n) => broken_word(BROKEN_NODE, n),
-        CheckAnswer::Subgoal(s) => broken_word(BROKEN_SUBGOAL, s),
-        CheckAnswer::Answer(a) => broken_word(BROKEN_ANSWER, a),
+        Ok(()) => result_word(DONE, 0),
+        Err(Broken::Header) => refusal_word(Refusal::Header),
+        Err(Broken::Node(n)) => broken_word(BROKEN_NODE, n),
+        Err(Broken::Subgoal(s)) => broken_word(BROKEN_SUBGOAL, s),
+        Err(Broken::Answer(a)) => broken_word(BROKEN_ANSWER, a),
     }
 }
 
 // The value is the number of children entered.
-pub fn build_word(answer: BuildAnswer) -> u64
-    requires { BuildBounded (said_build answer) }
+pub fn build_word(answer: Result<u32, Refusal>) -> u64
     ensures { result ≡ word_build (said_build answer) }
 {
     match answer {
-        BuildAnswer::Built(n) => result_word(BUILT, n),
-        BuildAnswer::Refused(r) => refusal_word(r),
+        Ok(n) => result_word(BUILT, n),
+        Err(r) => refusal_word(r),
     }
 }

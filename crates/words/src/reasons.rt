@@ -1,15 +1,15 @@
 // The result word of what why answers, and its cells in out.
 ghost use Rattle.std.specs.Prelude.{◌≤◌, length};
-ghost use Rattle.store.specs.Replies.{said_why, NamesHeld};
-ghost use Rattle.words.specs.Bounded.{Bounded};
+ghost use Rattle.store.specs.Replies.{said_because, said_why, NamesIn, NamesHeld};
 ghost use Rattle.words.specs.Why.{why_room, GivesVariables, GivesReason};
 
-use super::{REFUSED, refusal_word, result_word};
+use super::{refusal_with, refusal_word, result_word};
 use basis::limits::MOST_VARIABLES;
-use basis::refusals::OUT;
+use basis::refusals::Refusal;
 use convert::copy;
-use store::{Reason, WhyAnswer};
+use store::{Reason, Why};
 
+// The numbers are the C interface's.
 const WHY_OLD: u32 = 12;
 
 const WHY_NEW: u32 = 13;
@@ -28,21 +28,32 @@ fn give_variables(variables: &[u32], m: usize, out: &mut [u32])
 
 // The subgoal is the word's value. For old the variables go to out with their number before them, for new the number of
 // leading tokens shared.
-pub fn give_reason(answer: WhyAnswer, out: &mut [u32]) -> u64
-    requires { Bounded (said_why answer) × NamesHeld answer }
-    ensures { GivesReason (said_why answer) out.old result out.new }
+fn give_because(why: &Why, out: &mut [u32]) -> u64
+    requires { NamesIn why.now.variables why.now.reason }
+    ensures { GivesReason (said_because why.now.reason why.now.variables) out.old result out.new }
 {
-    let has_room = WHY_CELLS <= out.len();
-    match answer.reason {
-        Reason::Old(s, m) if has_room => {
-            give_variables(&answer.variables, m, out);
+    if out.len() < WHY_CELLS {
+        return refusal_with(Refusal::Out, WHY_CELLS as u32);
+    }
+    match why.reason {
+        Reason::Old(s, m) => {
+            give_variables(&why.variables, m, out);
             result_word(WHY_OLD, s)
         }
-        Reason::New(n, s) if has_room => {
+        Reason::New(n, s) => {
             out[0] = n;
             result_word(WHY_NEW, s)
         }
-        Reason::Refused(r) => refusal_word(r),
-        _ => result_word(REFUSED + OUT, WHY_CELLS as u32),
+    }
+}
+
+// The word of what why answers; out is judged after all else.
+pub fn give_reason(answer: Result<Why, Refusal>, out: &mut [u32]) -> u64
+    requires { NamesHeld answer }
+    ensures { GivesReason (said_why answer) out.old result out.new }
+{
+    match answer {
+        Ok(why) => give_because(&why, out),
+        Err(r) => refusal_word(r),
     }
 }

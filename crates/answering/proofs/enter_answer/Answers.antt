@@ -16,7 +16,8 @@ chain-requires c =
 
 pub write_answer-requires : goal.write_answer-requires
 write_answer-requires c =
-    let new_stands_here : answers_end c.args.h.edition c.args.h.answer_offset (c.args.h.answers + 1) ≤ length c.args.space.now = answers-stand _ _ c.requires.held_last.0 _ (omega (arith, c.requires.leaf_bound.2)) in
+    let new_stands_here : answers_end c.args.h.edition c.args.h.answer_offset (c.args.h.answers + 1) ≤ length c.args.space.now =
+    answers-stand _ _ c.requires.held_last.0 _ (omega (arith, c.requires.leaf_bound.2)) in
     (omega arith, omega (arith, new_stands_here), record { leaf-fits = omega arith; subgoal-fits = omega arith; next_fits = omega arith })
 
 pub write_last-requires : goal.write_last-requires

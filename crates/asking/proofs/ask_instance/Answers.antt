@@ -15,4 +15,4 @@ pub print_cells-requires : goal.print_cells-requires
 print_cells-requires c = record { out_in_bounds = omega arith; by_index = λ n e. omega (arith, instance-fits c.args.space.now _ c.args.out.now n (sym c.instance-made.ensures.0 ∙ e)) }
 
 pub returns : goal.returns
-returns c = let l = c.args.line.now in let fs = rest_at l c.args.at in let b = one-asks fs (λ a. request.instance a c.args.out.now) _ (rw c.in-Value.is at c.only_number.ensures).0 in record { instance_prints = asks-leaves c.args.space.now c.args.out.now _ _ _ (one_number fs (λ a. request.instance a c.args.out.now)) _ _ _ b c.instance-made.ensures.0 c.instance-made.ensures.2 (rw (← c.instance-made.ensures.1) c.print_cells.ensures); out_value = c.instance-made.ensures.1 ∙ asks-out c.args.space.now c.args.out.now (one_number fs (λ a. request.instance a c.args.out.now)) _ b }
+returns c = let l = c.args.line.now in let fs = rest_at l c.args.at in let b = one-asks fs (λ a. request.instance a c.args.out.now) _ (rw c.in-Some.is at c.only_number.ensures).0 in record { instance_prints = asks-leaves c.args.space.now c.args.out.now _ _ _ (one_number fs (λ a. request.instance a c.args.out.now)) _ _ _ b c.instance-made.ensures.0 c.instance-made.ensures.2 (rw (← c.instance-made.ensures.1) c.print_cells.ensures); out_value = c.instance-made.ensures.1 ∙ asks-out c.args.space.now c.args.out.now (one_number fs (λ a. request.instance a c.args.out.now)) _ b }

@@ -15,4 +15,4 @@ pub print_cells-requires : goal.print_cells-requires
 print_cells-requires c = record { out_in_bounds = omega arith; by_index = λ n e. omega (arith, load_fits c.args.space.now _ c.args.out.now n (sym c.load-loaded.ensures.0 ∙ e)) }
 
 pub returns : goal.returns
-returns c = let l = c.args.line.now in let fs = rest_at l c.args.at in let b = one-asks fs (λ a. request.load a c.args.out.now) _ (rw c.in-Value.is at c.only_number.ensures).0 in record { load_prints = asks-leaves c.args.space.now c.args.out.now _ _ _ (one_number fs (λ a. request.load a c.args.out.now)) _ _ _ b c.load-loaded.ensures.0 c.load-loaded.ensures.2 (rw (← c.load-loaded.ensures.1) c.print_cells.ensures); out_value = c.load-loaded.ensures.1 ∙ asks-out c.args.space.now c.args.out.now (one_number fs (λ a. request.load a c.args.out.now)) _ b }
+returns c = let l = c.args.line.now in let fs = rest_at l c.args.at in let b = one-asks fs (λ a. request.load a c.args.out.now) _ (rw c.in-Some.is at c.only_number.ensures).0 in record { load_prints = asks-leaves c.args.space.now c.args.out.now _ _ _ (one_number fs (λ a. request.load a c.args.out.now)) _ _ _ b c.load-loaded.ensures.0 c.load-loaded.ensures.2 (rw (← c.load-loaded.ensures.1) c.print_cells.ensures); out_value = c.load-loaded.ensures.1 ∙ asks-out c.args.space.now c.args.out.now (one_number fs (λ a. request.load a c.args.out.now)) _ b }

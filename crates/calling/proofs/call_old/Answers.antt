@@ -11,7 +11,7 @@ pub returns-in_default : goal.returns-in_default
 returns-in_default c = old-damaged c.args.space.now c.args.h c.args.leaf c.args.s (search rules) (told c.in_default.is c.read_subgoal.ensures)
 
 pub returns-then-y-leaf : goal.returns-then-y-leaf
-returns-then-y-leaf c = old-found c.args.space.now c.args.h c.args.leaf c.args.s (search rules) c.in-Sound.y (told c.in-Sound.is c.read_subgoal.ensures) _ (search rules) c.state_of.ensures
+returns-then-y-leaf c = old-found c.args.space.now c.args.h c.args.leaf c.args.s (search rules) c.in-Some.y (told c.in-Some.is c.read_subgoal.ensures) _ (search rules) c.state_of.ensures
 
 pub returns : goal.returns
-returns c = old-other c.args.space.now c.args.h c.args.leaf c.args.s (search rules) c.in-Sound.y (told c.in-Sound.is c.read_subgoal.ensures) (search rules)
+returns c = old-other c.args.space.now c.args.h c.args.leaf c.args.s (search rules) c.in-Some.y (told c.in-Some.is c.read_subgoal.ensures) (search rules)

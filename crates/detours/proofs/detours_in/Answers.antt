@@ -1,30 +1,30 @@
 -- `detours::detours_in` meets its contract.
-use mathlib.Core.Path.{ap, ◌∙◌}
+use mathlib.Core.Path.{◌≡◌}
+use Rattle.std.specs.Prelude.{Err}
 use Rattle.basis.proofs.Tests.{told}
-use Rattle.store.specs.Decisions.{says}
 use Rattle.detours.proofs.FindCases.{decides-number, decides-refused, decides-found}
 use borrow.Author.Rules.{rules}
 use Rattle.detours.proofs.detours_in.Goals as goal
 
 pub returns-then-not-are_numbers : goal.returns-then-not-are_numbers
 returns-then-not-are_numbers c =
-    ap says c.without_numbers.ensures ∙ decides-number c.args.space.now c.args.h c.args.goals.now c.args.budget
+    decides-number c.args.space.now c.args.h c.args.goals.now c.args.budget
     (told c.are_numbers.ensures c.if-not-are_numbers.true)
 
 pub judge_goals-requires : goal.judge_goals-requires
 judge_goals-requires c = (c.requires, told c.are_numbers.ensures c.if-not-are_numbers.false)
 
-pub search_goals-requires : goal.search_goals-requires
-search_goals-requires c = (c.requires, c.judge_goals.ensures.ready (search rules))
+pub returns-in_err-judge_goals : goal.returns-in_err-judge_goals
+returns-in_err-judge_goals c =
+    let passed : c.from_residual.result ≡ Err c.in_err-judge_goals.field-0.0 = search rules in
+    rw passed (decides-refused c.args.space.now c.args.h c.args.goals.now c.args.budget
+    (told c.are_numbers.ensures c.if-not-are_numbers.false) _ (rw c.in_err-judge_goals.was at c.judge_goals.ensures))
 
-pub returns-in-0 : goal.returns-in-0
-returns-in-0 c =
+pub search_goals-requires : goal.search_goals-requires
+search_goals-requires c = (c.requires, rw c.in_ok-judge_goals.was at c.judge_goals.ensures)
+
+pub returns : goal.returns
+returns c =
     decides-found c.args.space.now c.args.h c.args.goals.now c.args.budget
     (told c.are_numbers.ensures c.if-not-are_numbers.false) _
-    (c.judge_goals.ensures.ready (search rules)) c.search_goals.ensures
-
-pub returns-in_default : goal.returns-in_default
-returns-in_default c =
-    ap says c.without_numbers-in_default.ensures ∙ decides-refused c.args.space.now c.args.h c.args.goals.now c.args.budget
-    (told c.are_numbers.ensures c.if-not-are_numbers.false) _ c.judge_goals.ensures
-    (search rules)
+    (rw c.in_ok-judge_goals.was at c.judge_goals.ensures) c.search_goals.ensures

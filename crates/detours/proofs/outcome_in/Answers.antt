@@ -1,11 +1,10 @@
 -- `detours::outcome_in` meets its contract.
-use mathlib.Core.Path.{◌∙◌}
 use Rattle.detours.proofs.FindCases.{find_none, find-found}
 use borrow.Author.Rules.{rules}
 use Rattle.detours.proofs.outcome_in.Goals as goal
 
 pub returns-then-work-eq-NO_TOTAL : goal.returns-then-work-eq-NO_TOTAL
-returns-then-work-eq-NO_TOTAL c = c.without_numbers.ensures ∙ find_none c.args.n c.args.work.now _ _ (search rules)
+returns-then-work-eq-NO_TOTAL c = find_none c.args.n c.args.work.now _ _ (search rules)
 
 pub returns : goal.returns
 returns c =

@@ -7,6 +7,6 @@ pub returns-then-kind-eq2 : goal.returns-then-kind-eq2
 unfolding callable
 returns-then-kind-eq2 c = simp (eq-eqb _ _ c.if-kind-eq2.true)
 
-pub returns : goal.returns
+pub returns-else-kind-eq2 : goal.returns-else-kind-eq2
 unfolding callable
-returns c = simp (ne_eqb _ _ c.if-kind-eq2.false)
+returns-else-kind-eq2 c = simp (ne_eqb _ _ c.if-kind-eq2.false)

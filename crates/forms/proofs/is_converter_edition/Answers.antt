@@ -7,6 +7,6 @@ pub returns-then-edition-eq1 : goal.returns-then-edition-eq1
 unfolding converter_edition
 returns-then-edition-eq1 c = simp (eq-eqb _ _ c.if-edition-eq1.true)
 
-pub returns : goal.returns
+pub returns-else-edition-eq1 : goal.returns-else-edition-eq1
 unfolding converter_edition
-returns c = simp (ne_eqb _ _ c.if-edition-eq1.false)
+returns-else-edition-eq1 c = simp (ne_eqb _ _ c.if-edition-eq1.false)

@@ -1,6 +1,7 @@
 -- `missing` meets its contract: what each cell could stand for at most is enough, or the need is counted.
-use Prim.Native.Nat.{◌+◌, ◌*◌, ◌≤◌}
-use mathlib.Core.Path.{refl}
+use Rattle.std.specs.Prelude.{Some}
+use Prim.Native.Nat.{ℕ, ◌+◌, ◌*◌, ◌≤◌}
+use mathlib.Core.Path.{refl, ap}
 use native.Mathlib.Omega.{arith}
 use native.Mathlib.Nat.{mul-le-mul}
 use lib.ListN.{length}
@@ -17,7 +18,7 @@ pub need-k-requires : goal.need-k-requires
 need-k-requires c = (c.requires.1, λ k h q. let p = c.requires.2 k h q in (p.0, p.1, omega (arith, p.2, c.requires.0)))
 
 pub returns-then-room-k : goal.returns-then-room-k
-returns-then-room-k c = (λ h. absurd (omega (arith, c.need-k.ensures, c.if-room-k.true, h)), λ h. c.need-k.ensures)
+returns-then-room-k c = (λ h. absurd (omega (arith, c.need-k.ensures, c.if-room-k.true, h)), λ h. ap (λ (n : ℕ). Some n) c.need-k.ensures)
 
 pub returns : goal.returns
 returns c = (λ h. refl, λ h. absurd (omega (arith, c.need-k.ensures, c.if-room-k.false, h)))

@@ -5,10 +5,10 @@ use mathlib.Core.Path.{◌∙◌}
 use Rattle.integrity.proofs.check.Goals as goal
 
 pub check_in-requires : goal.check_in-requires
-check_in-requires c = header-bounds _ _ c.in-Sound.ensures
+check_in-requires c = header-bounds _ _ c.in-Ok.ensures
 
-pub returns-in-Sound : goal.returns-in-Sound
-returns-in-Sound c = c.check_in.ensures ∙ fault-sound (c.args.space.now) _ c.in-Sound.ensures
+pub returns-in-Ok : goal.returns-in-Ok
+returns-in-Ok c = c.check_in.ensures ∙ fault-sound (c.args.space.now) _ c.in-Ok.ensures
 
-pub returns-in-Refused : goal.returns-in-Refused
-returns-in-Refused c = fault-header (c.args.space.now) _ c.in-Refused.ensures
+pub returns-in-Err : goal.returns-in-Err
+returns-in-Err c = fault-header (c.args.space.now) _ c.in-Err.ensures

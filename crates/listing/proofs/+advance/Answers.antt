@@ -78,7 +78,8 @@ returns-in_default t c =
     let l = next-letters c.args.edition c.args.s c.args.symbols.now c.args.place c.args.term.now (omega (arith, c.requires.long)) (search rules) _ refl _ c.place_after-next.ensures c.requires.letters in
     let v = c.advance.ensures in
     let z = passed-at _ _ _ _ c.place_after-next.ensures in (
-      advance-none c.args.edition c.args.s c.args.symbols.now c.args.place c.args.term.now (omega (arith, c.requires.long)) (search rules) _ refl _ c.place_after-next.ensures (rw c.if-advance.false at c.advance.ensures.0) _ (c.place_of-later.ensures ∙ place-rank _ _ _ g _ l.0) (sym c.in_default.is ∙ c.choose.ensures),
+      advance-none c.args.edition c.args.s c.args.symbols.now c.args.place c.args.term.now (omega (arith, c.requires.long)) (search rules) _ refl _ c.place_after-next.ensures (rw c.if-advance.false at c.advance.ensures.0)
+          _ (sym c.in_default.is ∙ c.choose.ensures) (omega (arith, c.place_of-later.ensures, place-rank _ _ _ g _ l.0)),
       shorter c.args.place.at c.args.term.now _ (rw z.0 at v.1),
       v.2,
     )
@@ -94,13 +95,13 @@ bounds-term-at-2 t c =
 pub place_after-next-requires-2 : goal.place_after-next-requires-2
 place_after-next-requires-2 t c =
     let g = given _ _ _ c.requires.room.given in
-    let h = chosen-due _ _ _ _ _ _ (sym c.in-Cell.is ∙ c.choose.ensures) in
+    let h = chosen-due _ _ _ _ _ _ (sym c.in-Some.is ∙ c.choose.ensures) in
     (omega arith, h.some-due, omega arith)
 
 pub fill-requires : goal.fill-requires
 fill-requires t c =
     let g = given _ _ _ c.requires.room.given in
-    let h = chosen-due _ _ _ _ _ _ (sym c.in-Cell.is ∙ c.choose.ensures) in
+    let h = chosen-due _ _ _ _ _ _ (sym c.in-Some.is ∙ c.choose.ensures) in
     let z = passed-at _ _ _ _ c.place_after-next-2.ensures in (
       record { given = c.requires.room.given; table = c.requires.room.table; within = omega (arith, z.0); few = omega (arith, z.1, h.few-due) },
       simp length-set (c.advance.ensures.2 ∙ c.requires.long),
@@ -114,7 +115,9 @@ returns t c =
     let v = c.advance.ensures in
     let f = c.fill.ensures in
     let z = passed-at _ _ _ _ c.place_after-next-2.ensures in
-    let x = advance-cell c.args.edition c.args.s c.args.symbols.now c.args.place c.args.term.now (omega (arith, c.requires.long)) (search rules) _ refl _ c.place_after-next.ensures (rw c.if-advance.false at c.advance.ensures.0) _ (c.place_of-later.ensures ∙ place-rank _ _ _ g _ l.0) _ (sym c.in-Cell.is ∙ c.choose.ensures) _ c.place_after-next-2.ensures c.advance.new.term (still-room c.args.s c.args.term.now c.advance.new.term (omega (arith, c.requires.long)) v.2) v.1 in (
+    let x = advance-cell c.args.edition c.args.s c.args.symbols.now c.args.place c.args.term.now (omega (arith, c.requires.long)) (search rules) _ refl _ c.place_after-next.ensures (rw c.if-advance.false at c.advance.ensures.0)
+    _ _ (sym c.in-Some.is ∙ c.choose.ensures) (omega (arith, c.place_of-later.ensures, place-rank _ _ _ g _ l.0)) _ c.place_after-next-2.ensures c.advance.new.term
+    (still-room c.args.s c.args.term.now c.advance.new.term (omega (arith, c.requires.long)) v.2) v.1 in (
       f.0 ∙ x.0,
       shorter c.args.place.at _ _ (rw z.0 at f.1) ∙ x.1,
       f.2 ∙ simp length-set v.2,

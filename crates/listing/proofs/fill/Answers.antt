@@ -31,14 +31,14 @@ bounds-term-at c = let g = given _ _ _ c.requires.0.given in omega arith
 pub place_after-place-requires : goal.place_after-place-requires
 place_after-place-requires c =
     let g = given _ _ _ c.requires.0.given in
-    let h = chosen-due _ _ _ _ _ _ (sym c.in-Cell.is ∙ c.choose.ensures) in
+    let h = chosen-due _ _ _ _ _ _ (sym c.in-Some.is ∙ c.choose.ensures) in
     (omega arith, h.some-due, omega arith)
 
 pub loop-at-preserved : goal.loop-at-preserved
 loop-at-preserved c =
     let g = given _ _ _ c.requires.0.given in
     let v = c.loop-at.invariant in
-    let k = sym c.in-Cell.is ∙ c.choose.ensures in
+    let k = sym c.in-Some.is ∙ c.choose.ensures in
     let h = chosen-due _ _ _ _ _ _ k in
     let z = passed-at _ _ _ _ c.place_after-place.ensures in (
       omega (arith, z.0),

@@ -2,6 +2,8 @@
 use native.Mathlib.Omega.{arith}
 use Rattle.listing.proofs.Tests.{refuted, confirmed}
 use lib.ListN.{replicate}
+use Rattle.listing.specs.Clauses.{listed_result}
+use Rattle.listing.proofs.Turns.{offers-end}
 use Rattle.listing.proofs.Calls.{given}
 use Rattle.listing.proofs.Filling.{start-at}
 use Rattle.listing.proofs.Answers.{after-refused, after-strange, listed-whole, copied-long, copied-goes, after-offered}
@@ -22,8 +24,8 @@ copy-requires c =
     let w = listed-whole c.args.edition c.args.s c.args.symbols.now c.args.given.now c.args.out.now (confirmed c.is_listable.ensures c.if-not-is_listable.false) (confirmed c.is_listed.ensures c.if-not-is_listed.false) in
     (omega (arith, w.0), omega arith)
 
-pub advance-found-requires : goal.advance-found-requires
-advance-found-requires c =
+pub advance-requires : goal.advance-requires
+advance-requires c =
     let h = (confirmed c.is_listable.ensures c.if-not-is_listable.false) in
     let g = given _ _ _ h in
     let z = start-at _ c.beginning.ensures in
@@ -40,5 +42,14 @@ offer-requires c =
     let g = given _ _ _ (confirmed c.is_listable.ensures c.if-not-is_listable.false) in
     omega arith
 
+pub returns-then-not-advance : goal.returns-then-not-advance
+unfolding listed_result
+returns-then-not-advance c =
+    after-offered c.args.edition c.args.s c.args.symbols.now c.args.given.now c.args.out.now (search confirmed) (search confirmed) _ _ c.copy.ensures
+    _ c.beginning.ensures _ (rw c.if-not-advance.true at c.advance.ensures.0) _ _ (offers-end _ _)
+
 pub returns : goal.returns
-returns c = after-offered c.args.edition c.args.s c.args.symbols.now c.args.given.now c.args.out.now (confirmed c.is_listable.ensures c.if-not-is_listable.false) (confirmed c.is_listed.ensures c.if-not-is_listed.false) _ _ c.copy.ensures _ c.beginning.ensures _ c.advance-found.ensures.0 _ _ c.offer.ensures
+unfolding listed_result
+returns c =
+    after-offered c.args.edition c.args.s c.args.symbols.now c.args.given.now c.args.out.now (search confirmed) (search confirmed) _ _ c.copy.ensures
+    _ c.beginning.ensures _ (rw c.if-not-advance.false at c.advance.ensures.0) _ _ c.offer.ensures

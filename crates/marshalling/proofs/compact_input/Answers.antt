@@ -3,14 +3,8 @@ use native.Mathlib.Omega.{arith}
 use Rattle.marshalling.proofs.ExportLaws.{compact-odd, compact-long}
 use Rattle.marshalling.proofs.compact_input.Goals as goal
 
-pub overflow_add-result : goal.overflow_add-result
-overflow_add-result c = omega arith
-
 pub returns-then-bytes-ne0 : goal.returns-then-bytes-ne0
 returns-then-bytes-ne0 c = compact-odd _ _ _ _ c.if-bytes-ne0.true
-
-pub overflow_add-result-2 : goal.overflow_add-result-2
-overflow_add-result-2 c = omega arith
 
 pub returns : goal.returns
 returns c = compact-long _ _ _ _ c.if-bytes-ne0.false (omega arith)

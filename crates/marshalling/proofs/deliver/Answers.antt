@@ -1,10 +1,6 @@
 -- `deliver` meets its contract: each outcome by its law.
-use native.Mathlib.Omega.{arith}
 use Rattle.marshalling.proofs.ExportLaws.{outcome-short, outcome-cells}
 use Rattle.marshalling.proofs.deliver.Goals as goal
-
-pub overflow_add-result : goal.overflow_add-result
-overflow_add-result c = omega arith
 
 pub returns-then-out-n : goal.returns-then-out-n
 returns-then-out-n c = outcome-short _ _ _ c.if-out-n.true

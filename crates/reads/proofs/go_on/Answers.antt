@@ -1,26 +1,48 @@
 -- `reads::go_on` meets its contract.
+use Rattle.std.specs.Prelude.{Err, None, Some}
+use Rattle.basis.specs.declared.refusals.Refusal.TheVariants as refusal
 use Rattle.reads.proofs.ReadsCases.{onward-damaged, first-within, state-read, onward-first, onward-lost, next-within, onward-next}
-use Rattle.store.specs.Views.{view_of}
-use Rattle.space.specs.Layout.{sizes_of}
-use mathlib.Core.Path.{◌∙◌}
-use Rattle.basis.proofs.Tests.{told}
+use Rattle.store.specs.Clauses.{view_in}
+use Rattle.store.proofs.CallsRecords.{reads-subgoal, reads-answer}
+use mathlib.Core.Path.{◌≡◌, sym, ◌∙◌}
+use native.Mathlib.Omega.{arith}
 use borrow.Author.Rules.{rules}
 use Rattle.reads.proofs.go_on.Goals as goal
 
-pub returns-in_default : goal.returns-in_default
-returns-in_default c = onward-damaged _ _ _ (told c.in_default.is c.read_subgoal.ensures)
+pub returns-in_err-g : goal.returns-in_err-g
+returns-in_err-g c =
+    let damaged : c.read_subgoal.result ≡ None = grind arith in
+    let passed : c.from_residual.result ≡ Err refusal.Records = grind arith in
+    rw passed (onward-damaged _ _ _ (sym damaged ∙ c.read_subgoal.ensures))
 
 pub hand_out-requires : goal.hand_out-requires
-hand_out-requires c = (search rules, first-within (view_of (sizes_of c.args.h.edition) c.args.space.now c.args.h) c.args.s c.args.a c.in-Sound.g (told c.in-Sound.is c.read_subgoal.ensures), state-read (view_of (sizes_of c.args.h.edition) c.args.space.now c.args.h) c.args.s c.args.a c.in-Sound.g (told c.in-Sound.is c.read_subgoal.ensures))
+hand_out-requires c =
+    let came : c.read_subgoal.result ≡ Some c.in_ok-g.g = grind arith in
+    let got : Some c.in_ok-g.g ≡ reads-subgoal (view_in c.args.space.now c.args.h) c.args.s = sym came ∙ c.read_subgoal.ensures in
+    (search rules, first-within (view_in c.args.space.now c.args.h) c.args.s c.args.a _ got, state-read (view_in c.args.space.now c.args.h) c.args.s c.args.a _ got)
 
 pub returns-then-a-eq0 : goal.returns-then-a-eq0
-returns-then-a-eq0 c = c.hand_out.ensures ∙ onward-first _ _ _ c.in-Sound.g (told c.in-Sound.is c.read_subgoal.ensures) (search rules)
+returns-then-a-eq0 c =
+    let came : c.read_subgoal.result ≡ Some c.in_ok-g.g = grind arith in
+    c.hand_out.ensures ∙ onward-first _ _ _ _ (sym came ∙ c.read_subgoal.ensures) (search rules)
 
-pub returns-in_default-read_answer : goal.returns-in_default-read_answer
-returns-in_default-read_answer c = onward-lost _ _ _ c.in-Sound.g (told c.in-Sound.is c.read_subgoal.ensures) (search rules) (told c.in_default-read_answer.is c.read_answer.ensures)
+pub returns-in_err-y : goal.returns-in_err-y
+returns-in_err-y c =
+    let came : c.read_subgoal.result ≡ Some c.in_ok-g.g = grind arith in
+    let damaged : c.read_answer.result ≡ None = grind arith in
+    let passed : c.from_residual-in_err-y.result ≡ Err refusal.Records = grind arith in
+    rw passed (onward-lost _ _ _ _ (sym came ∙ c.read_subgoal.ensures) (search rules) (sym damaged ∙ c.read_answer.ensures))
 
 pub hand_out-requires-2 : goal.hand_out-requires-2
-hand_out-requires-2 c = (search rules, next-within (view_of (sizes_of c.args.h.edition) c.args.space.now c.args.h) c.args.s c.args.a c.in-Sound.g (told c.in-Sound.is c.read_subgoal.ensures) (search rules) c.in-Sound-read_answer.y (told c.in-Sound-read_answer.is c.read_answer.ensures), state-read (view_of (sizes_of c.args.h.edition) c.args.space.now c.args.h) c.args.s c.args.a c.in-Sound.g (told c.in-Sound.is c.read_subgoal.ensures))
+hand_out-requires-2 c =
+    let came : c.read_subgoal.result ≡ Some c.in_ok-g.g = grind arith in
+    let also : c.read_answer.result ≡ Some c.in_ok-y.y = grind arith in
+    let got : Some c.in_ok-g.g ≡ reads-subgoal (view_in c.args.space.now c.args.h) c.args.s = sym came ∙ c.read_subgoal.ensures in
+    let next : Some c.in_ok-y.y ≡ reads-answer (view_in c.args.space.now c.args.h) c.args.a = sym also ∙ c.read_answer.ensures in
+    (search rules, next-within (view_in c.args.space.now c.args.h) c.args.s c.args.a _ got (search rules) _ next, state-read (view_in c.args.space.now c.args.h) c.args.s c.args.a _ got)
 
 pub returns : goal.returns
-returns c = c.hand_out-2.ensures ∙ onward-next _ _ _ c.in-Sound.g (told c.in-Sound.is c.read_subgoal.ensures) (search rules) c.in-Sound-read_answer.y (told c.in-Sound-read_answer.is c.read_answer.ensures)
+returns c =
+    let came : c.read_subgoal.result ≡ Some c.in_ok-g.g = grind arith in
+    let also : c.read_answer.result ≡ Some c.in_ok-y.y = grind arith in
+    c.hand_out-2.ensures ∙ onward-next _ _ _ _ (sym came ∙ c.read_subgoal.ensures) (search rules) _ (sym also ∙ c.read_answer.ensures)

@@ -18,7 +18,13 @@ returns-then-s-eq0 c = elim c.then-s-eq0.branch [
 ]
 
 pub go_on-requires : goal.go_on-requires
-go_on-requires c = (search rules, omega arith, search rules, starting-within (view_of (sizes_of c.args.h.edition) c.args.space.now c.args.h) c.args.s c.args.a (told c.starts.ensures c.if-not-starts.false))
+go_on-requires c = (
+  search rules,
+  omega arith,
+  search rules,
+  starting-within (view_of (sizes_of c.args.h.edition) c.args.space.now c.args.h) c.args.s c.args.a
+      (told c.starts.ensures c.if-not-starts.false),
+)
 
 pub returns : goal.returns
 returns c = c.go_on.ensures ∙ next-onward _ _ _ _ (search rules) (search rules) (told c.starts.ensures c.if-not-starts.false)

@@ -1,5 +1,7 @@
 -- `descend` meets its contract: each turn goes down one child, and each answer comes by its law.
 use native.Mathlib.Omega.{arith}
+use mathlib.Core.Path.{◌≡◌}
+use Rattle.std.specs.Prelude.{None}
 use Rattle.basis.proofs.Tests.{told}
 use Rattle.space.proofs.HeaderLaws.{bounds-nodes}
 use borrow.Author.Rules.{rules}
@@ -16,14 +18,14 @@ pub read_node-requires : goal.read_node-requires
 read_node-requires c =
     (bounds-nodes _ _ c.requires.0, child-inside c.args.space.now c.args.h c.args.from c.loop-child.invariant)
 
-pub returns-in_default : goal.returns-in_default
-returns-in_default c =
-    descending-lost c.args.space.now c.args.h c.args.from c.loop-child.invariant c.loop-child-test.true (told c.in_default.is c.read_node.ensures)
+pub returns-in_err-x : goal.returns-in_err-x
+returns-in_err-x c =
+    let passed : c.from_residual.result ≡ None = search rules in
+    rw passed (descending-lost c.args.space.now c.args.h c.args.from c.loop-child.invariant c.loop-child-test.true (told c.in_err-x.was c.read_node.ensures))
 
 pub returns-then-x-n : goal.returns-then-x-n
 returns-then-x-n c =
-    descending-stray c.args.space.now c.args.h c.args.from c.loop-child.invariant c.loop-child-test.true _ (told c.in-Sound.is c.read_node.ensures) (search
-    rules)
+    descending-stray c.args.space.now c.args.h c.args.from c.loop-child.invariant c.loop-child-test.true _ (told c.in_ok-x.was c.read_node.ensures) (search rules)
 
 pub loop-child-smaller : goal.loop-child-smaller
 loop-child-smaller c =
@@ -31,8 +33,7 @@ loop-child-smaller c =
 
 pub loop-child-preserved : goal.loop-child-preserved
 loop-child-preserved c =
-    descending-on c.args.space.now c.args.h c.args.from c.loop-child.invariant c.loop-child-test.true _ (told c.in-Sound.is c.read_node.ensures) (search
-    rules)
+    descending-on c.args.space.now c.args.h c.args.from c.loop-child.invariant c.loop-child-test.true _ (told c.in_ok-x.was c.read_node.ensures) (search rules)
 
 pub returns : goal.returns
 returns c =

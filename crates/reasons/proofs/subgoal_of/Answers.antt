@@ -1,4 +1,5 @@
 -- `subgoal_of` meets its contract: what call finds at the leaf.
+use mathlib.Core.Logic.{inl, inr}
 use Rattle.space.proofs.HeaderLaws.{bounds-nodes}
 use Rattle.reasons.proofs.WhyCases.{leaf-named, leaf-unnamed, new-other, refused-other, link-most}
 use Rattle.reasons.proofs.subgoal_of.Goals as goal
@@ -14,11 +15,7 @@ returns-in-Old c =
     leaf-named c.args.space.now c.args.h c.args.leaf _ c.node_in-y.ensures _ _ (rw c.in-Old.is at c.call_old.ensures)
 
 pub returns-in-New : goal.returns-in-New
-returns-in-New c =
-    leaf-unnamed c.args.space.now c.args.h c.args.leaf _ c.node_in-y.ensures _ (rw c.in-New.is at c.call_old.ensures)
-    (new-other _)
-
-pub returns-in-Refused : goal.returns-in-Refused
-returns-in-Refused c =
-    leaf-unnamed c.args.space.now c.args.h c.args.leaf _ c.node_in-y.ensures _ (rw c.in-Refused.is at c.call_old.ensures)
-    (refused-other _)
+returns-in-New c = elim c.in-New.is [
+  | inl w ↦ leaf-unnamed c.args.space.now c.args.h c.args.leaf _ c.node_in-y.ensures _ (rw w.1 at c.call_old.ensures) (new-other _)
+  | inr w ↦ leaf-unnamed c.args.space.now c.args.h c.args.leaf _ c.node_in-y.ensures _ (rw w.1 at c.call_old.ensures) (refused-other _)
+]

@@ -16,7 +16,8 @@ use Rattle.reasons.proofs.why_at.Goals as goal
 
 pub why_old-requires : goal.why_old-requires
 why_old-requires c =
-    let ends_here : walked.Whole c.in-Whole.leaf ≡ shown (walk_by (search_indexed c.args.index.now c.args.h.nodes) (trie_in sizes c.args.space.now c.args.h.nodes c.args.h.subgoals) 0 c.args.tokens.now) = sym c.in-Whole.is ∙ c.walk_tokens.ensures in
+    let ends_here : walked.Whole c.in-Whole.leaf ≡ shown (walk_by (search_indexed c.args.index.now c.args.h.nodes) (trie_in sizes c.args.space.now c.args.h.nodes
+    c.args.h.subgoals) 0 c.args.tokens.now) = sym c.in-Whole.is ∙ c.walk_tokens.ensures in
     let e = ends_here in (
       c.requires.0,
       (
@@ -27,7 +28,8 @@ why_old-requires c =
 
 pub returns-in-Whole : goal.returns-in-Whole
 returns-in-Whole c =
-    let ends_here : walked.Whole c.in-Whole.leaf ≡ shown (walk_by (search_indexed c.args.index.now c.args.h.nodes) (trie_in sizes c.args.space.now c.args.h.nodes c.args.h.subgoals) 0 c.args.tokens.now) = sym c.in-Whole.is ∙ c.walk_tokens.ensures in
+    let ends_here : walked.Whole c.in-Whole.leaf ≡ shown (walk_by (search_indexed c.args.index.now c.args.h.nodes) (trie_in sizes c.args.space.now c.args.h.nodes
+    c.args.h.subgoals) 0 c.args.tokens.now) = sym c.in-Whole.is ∙ c.walk_tokens.ensures in
     reasons-whole (search_indexed c.args.index.now c.args.h.nodes) (view_in c.args.space.now c.args.h) c.args.tokens.now c.args.m _ c.why_old.result (shown-whole _ _ (ends_here)) c.why_old.ensures
 
 pub overflow_sub-tokens : goal.overflow_sub-tokens

@@ -1,15 +1,24 @@
 -- `print_answer` meets its contract: each answer by its word.
+use mathlib.Core.Path.{◌≡◌}
+use Rattle.store.specs.declared.Entry.{Entry}
+use Rattle.store.specs.declared.Entry.TheVariants as entry
 use Rattle.replies.specs.Texts.{reply_text}
 use Rattle.replies.proofs.print_answer.Goals as goal
 
-pub returns-in-New : goal.returns-in-New
+pub returns-in-Ok-New : goal.returns-in-Ok-New
 unfolding reply_text
-returns-in-New c = λ out. rw c.in-New.is c.put_numbered.ensures
+returns-in-Ok-New c = λ out.
+    let g = c.in-Ok-New in
+    let which : ◌≡◌ {A = Entry} g.field-0 (entry.New g.n) = rw g.is at g.field-0-is in
+    rw (g.is, which) c.put_numbered.ensures
 
-pub returns-in-Old : goal.returns-in-Old
+pub returns-in-Ok-Old : goal.returns-in-Ok-Old
 unfolding reply_text
-returns-in-Old c = λ out. rw c.in-Old.is c.put_numbered-in-Old.ensures
+returns-in-Ok-Old c = λ out.
+    let g = c.in-Ok-Old in
+    let which : ◌≡◌ {A = Entry} g.field-0 (entry.Old g.n) = rw g.is at g.field-0-is in
+    rw (g.is, which) c.put_numbered-in-Ok-Old.ensures
 
-pub returns-in-Refused : goal.returns-in-Refused
+pub returns-in-Err : goal.returns-in-Err
 unfolding reply_text
-returns-in-Refused c = λ out. rw c.in-Refused.is c.print_refused.ensures
+returns-in-Err c = λ out. rw c.in-Err.is c.print_refused.ensures

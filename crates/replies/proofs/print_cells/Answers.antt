@@ -1,8 +1,10 @@
 -- `print_cells` meets its contract: the cells behind their word, or a refusal.
-use mathlib.Core.Path.{sym, ap}
+use mathlib.Core.Path.{◌≡◌, sym, ap}
 use native.Mathlib.Omega.{arith}
 use lib.ListN.{take}
 use lib.Seq.{length-take-le}
+use Rattle.forms.specs.declared.Unwritten.{Unwritten}
+use Rattle.forms.specs.declared.Unwritten.TheVariants.{Refused, Short}
 use Rattle.store.specs.Replies.{said_cells}
 use Rattle.text.specs.Digits.{cell_texts}
 use Rattle.text.proofs.DigitsLaws.{puts-append}
@@ -10,23 +12,29 @@ use Rattle.replies.specs.Texts.{text_cells, reply_text}
 use Rattle.replies.proofs.print_cells.Goals as goal
 
 pub slice_bounds-put_cells-end : goal.slice_bounds-put_cells-end
-slice_bounds-put_cells-end c = sym (length-take-le _ _ (c.requires.by_index c.in-Cells.n (ap said_cells c.in-Cells.is)))
+slice_bounds-put_cells-end c = sym (length-take-le _ _ (c.requires.by_index c.in-Ok.n (ap said_cells c.in-Ok.is)))
 
 pub put_cells-requires : goal.put_cells-requires
 put_cells-requires c =
-    let n = c.requires.by_index c.in-Cells.n (ap said_cells c.in-Cells.is) in
+    let n = c.requires.by_index c.in-Ok.n (ap said_cells c.in-Ok.is) in
     omega (arith, length-take-le _ _ n)
 
-pub returns-in-Cells : goal.returns-in-Cells
+pub returns-in-Ok : goal.returns-in-Ok
 unfolding reply_text
-returns-in-Cells c =
-    rw c.in-Cells.is
-    (puts-append text_cells (cell_texts (take c.in-Cells.n c.args.out.now)) c.args.text.now _ _ _ _ _ c.put-end.ensures c.put_cells.ensures)
+returns-in-Ok c =
+    rw c.in-Ok.is
+    (puts-append text_cells (cell_texts (take c.in-Ok.n c.args.out.now)) c.args.text.now _ _ _ _ _ c.put-end.ensures c.put_cells.ensures)
 
-pub returns-in-Refused : goal.returns-in-Refused
+pub returns-in-Err-Refused : goal.returns-in-Err-Refused
 unfolding reply_text
-returns-in-Refused c = rw c.in-Refused.is c.print_refused.ensures
+returns-in-Err-Refused c =
+    let g = c.in-Err-Refused in
+    let why : ◌≡◌ {A = Unwritten} g.field-0 (Refused g.r) = rw g.is at g.field-0-is in
+    rw (g.is, why) c.print_refused.ensures
 
-pub returns-in-Short : goal.returns-in-Short
+pub returns-in-Err-Short : goal.returns-in-Err-Short
 unfolding reply_text
-returns-in-Short c = rw c.in-Short.is c.print_refused-in-Short.ensures
+returns-in-Err-Short c =
+    let g = c.in-Err-Short in
+    let why : ◌≡◌ {A = Unwritten} g.field-0 (Short g.field-0-0) = rw g.is at g.field-0-is in
+    rw (g.is, why) c.print_refused-in-Err-Short.ensures

@@ -2,10 +2,10 @@
 use Rattle.replies.specs.Texts.{reply_text}
 use Rattle.replies.proofs.print_counts.Goals as goal
 
-pub returns-in-Used : goal.returns-in-Used
+pub returns-in-Ok : goal.returns-in-Ok
 unfolding reply_text
-returns-in-Used c = λ out. rw c.in-Used.is c.print_used.ensures
+returns-in-Ok c = λ out. rw c.in-Ok.is c.print_used.ensures
 
-pub returns-in-Refused : goal.returns-in-Refused
+pub returns-in-Err : goal.returns-in-Err
 unfolding reply_text
-returns-in-Refused c = λ out. rw c.in-Refused.is c.print_refused.ensures
+returns-in-Err c = λ out. rw c.in-Err.is c.print_refused.ensures

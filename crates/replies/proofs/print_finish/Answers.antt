@@ -2,10 +2,10 @@
 use Rattle.replies.specs.Texts.{reply_text}
 use Rattle.replies.proofs.print_finish.Goals as goal
 
-pub returns-in-Done : goal.returns-in-Done
+pub returns-in-Ok : goal.returns-in-Ok
 unfolding reply_text
-returns-in-Done c = λ out. rw c.in-Done.is c.put.ensures
+returns-in-Ok c = λ out. rw c.in-Ok.is c.put.ensures
 
-pub returns-in-Refused : goal.returns-in-Refused
+pub returns-in-Err : goal.returns-in-Err
 unfolding reply_text
-returns-in-Refused c = λ out. rw c.in-Refused.is c.print_refused.ensures
+returns-in-Err c = λ out. rw c.in-Err.is c.print_refused.ensures

@@ -1,39 +1,13 @@
--- `print_why` meets its contract: the variables after the number of an old subgoal, or two numbers.
-use mathlib.Core.List.{◌∷◌}
-use lib.ListN.{take}
-use lib.Seq.{length-take-le}
-use native.Mathlib.Omega.{arith}
-use Rattle.store.specs.Replies.{NamedIn}
-use Rattle.store.specs.declared.Reason.TheVariants as reason
-use Rattle.text.specs.Digits.{word_and_number, decimal_text, cell_texts}
-use Rattle.text.proofs.DigitsLaws.{decimal-length, puts-append}
-use Rattle.replies.specs.Texts.{text_old, text_new, reason_text, reply_text}
+-- `print_why` meets its contract: the reason, or a refusal.
+use Rattle.replies.specs.Texts.{reply_text}
 use Rattle.replies.proofs.print_why.Goals as goal
 
-pub put_cells-requires : goal.put_cells-requires
-put_cells-requires c =
-    let held_here : NamedIn c.args.answer.variables (reason.Old c.in-Old.n c.in-Old.m) = rw c.in-Old.is at c.requires.0.1 in
-    omega (arith, decimal-length c.in-Old.n, held_here.1, length-take-le _ _ held_here.0)
+pub print_reason-requires : goal.print_reason-requires
+print_reason-requires c = ((rw c.in-Ok.is at c.requires.0).1, c.requires.1)
 
-pub returns-in-Old : goal.returns-in-Old
-unfolding reply_text reason_text
-returns-in-Old c = λ out.
-    let g = c.args in
-    rw c.in-Old.is
-    (puts-append (word_and_number text_old c.in-Old.n) (cell_texts (take c.in-Old.m g.answer.variables)) g.text.now _ _ _ _ _
-    c.put_numbered-end.ensures c.put_cells.ensures)
+pub returns-in-Ok : goal.returns-in-Ok
+returns-in-Ok c = λ out. rw c.in-Ok.is (c.print_reason.ensures out)
 
-pub put_field-requires : goal.put_field-requires
-put_field-requires c = omega (arith, decimal-length c.in-New.k)
-
-pub returns-in-New : goal.returns-in-New
-unfolding reply_text reason_text
-returns-in-New c = λ out.
-    let g = c.args in
-    rw c.in-New.is
-    (puts-append (word_and_number text_new c.in-New.k) (32 ∷ decimal_text c.in-New.s) g.text.now _ _ _ _ _
-    c.put_numbered-end-in-New.ensures c.put_field.ensures)
-
-pub returns-in-Refused : goal.returns-in-Refused
+pub returns-in-Err : goal.returns-in-Err
 unfolding reply_text
-returns-in-Refused c = λ out. rw c.in-Refused.is c.print_refused.ensures
+returns-in-Err c = λ out. rw c.in-Err.is c.print_refused.ensures

@@ -1,12 +1,16 @@
 -- `read_some` meets its contract.
-use mathlib.Core.Path.{sym}
+use mathlib.Core.Path.{◌≡◌, sym}
 use native.Mathlib.Omega.{arith}
 use lib.Seq.{length-take-le}
-use Rattle.tables.proofs.FedLaws.{feed-none, last-answered, last_none, chunk_read}
+use borrow.Author.Rules.{rules}
+use Rattle.std.specs.Prelude.{Err}
+use Rattle.tables.proofs.FedLaws.{feed-none, last-answered, last_none, chunk_failed}
 use Rattle.tables.proofs.read_some.Goals as goal
 
-pub returns-in-Err : goal.returns-in-Err
-returns-in-Err c = record { within = tt; reads_some = (0, c.args.kept, feed-none _) }
+pub returns-in_err-n : goal.returns-in_err-n
+returns-in_err-n c =
+    let passed : c.from_residual.result ≡ Err c.in_err-n.field-0.0 = search rules in
+    rw passed (record { within = tt; reads_some = (0, c.args.kept, feed-none _) })
 
 pub slice_bounds-answer-end-then-kept-gt0 : goal.slice_bounds-answer-end-then-kept-gt0
 slice_bounds-answer-end-then-kept-gt0 c = sym (length-take-le _ _ c.requires)
@@ -19,6 +23,14 @@ returns-then-kept-gt0 c =
 pub returns-else-kept-gt0 : goal.returns-else-kept-gt0
 returns-else-kept-gt0 c = record { within = tt; reads_some = last_none _ c.args.kept _ _ _ (omega arith) }
 
+pub returns-in_err-begun : goal.returns-in_err-begun
+returns-in_err-begun c =
+    let passed : c.from_residual-in_err-begun.result ≡ Err c.in_err-begun.field-0.0 = search rules in
+    let k = rw c.in_err-begun.was at c.take_chunk.ensures.takes_chunk in
+    rw passed (record { within = tt; reads_some = chunk_failed _ c.in_ok-n.n _ _ _ _ _ c.in_err-begun.field-0.0 k })
+
 pub returns : goal.returns
 returns c =
-    record { within = c.take_chunk.ensures.within; reads_some = chunk_read _ c.in-Ok.n _ c.take_chunk.result _ _ _ _ c.take_chunk.ensures.takes_chunk }
+    let w = rw c.in_ok-begun.was at c.take_chunk.ensures.within in
+    let k = rw c.in_ok-begun.was at c.take_chunk.ensures.takes_chunk in
+    record { within = w; reads_some = (c.in_ok-n.n, k) }

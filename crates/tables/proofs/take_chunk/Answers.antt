@@ -1,7 +1,9 @@
 -- `take_chunk` meets its contract.
-use mathlib.Core.Path.{refl, sym}
+use mathlib.Core.Path.{◌≡◌, refl, sym}
 use native.Mathlib.Omega.{arith}
 use lib.Seq.{length-take-le}
+use borrow.Author.Rules.{rules}
+use Rattle.std.specs.Prelude.{Err}
 use Rattle.tables.proofs.FedLaws.{through-none, through-all, through-some, through-more, through-line}
 use Rattle.tables.proofs.take_chunk.Goals as goal
 
@@ -36,22 +38,11 @@ slice_bounds-answer-end-in-Line c =
     let w = rw c.in-Line.is at c.take_line.ensures.in_range in
     sym (length-take-le _ _ (omega (arith, w.2 (omega arith))))
 
-pub shape_of-line-then-not-answer : goal.shape_of-line-then-not-answer
-shape_of-line-then-not-answer c = omega arith
-
-pub shape_of-space-then-not-answer : goal.shape_of-space-then-not-answer
-shape_of-space-then-not-answer c = omega arith
-
-pub shape_of-out-then-not-answer : goal.shape_of-out-then-not-answer
-shape_of-out-then-not-answer c = omega arith
-
-pub shape_of-text-then-not-answer : goal.shape_of-text-then-not-answer
-shape_of-text-then-not-answer c = omega arith
-
-pub returns-then-not-answer : goal.returns-then-not-answer
-returns-then-not-answer c =
+pub returns-in_err-answer-in-Line : goal.returns-in_err-answer-in-Line
+returns-in_err-answer-in-Line c =
+    let passed : c.from_residual.result ≡ Err c.in_err-answer-in-Line.field-0.0 = search rules in
     let e = rw c.in-Line.is at c.take_line.ensures.line_value in
-    record { within = tt; takes_chunk = through-some (through-line c.loop-at.invariant.5 _ _ _ _ _ _ e c.answer.ensures) }
+    rw passed (record { within = tt; takes_chunk = through-some (through-line c.loop-at.invariant.5 _ _ _ _ _ _ e c.answer.ensures) })
 
 pub loop-at-smaller : goal.loop-at-smaller
 loop-at-smaller c =

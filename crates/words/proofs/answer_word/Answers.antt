@@ -1,21 +1,26 @@
 -- `answer_word` meets its contract: each variant by its word.
-use native.Mathlib.Omega.{arith}
+use mathlib.Core.Path.{◌≡◌}
 use Rattle.store.specs.Replies.{said_answer}
+use Rattle.store.specs.declared.Entry.{Entry}
+use Rattle.store.specs.declared.Entry.TheVariants as entry
 use Rattle.words.specs.Words.{word}
-use Rattle.words.proofs.WordLaws.{said-word, said-bounded}
+use Rattle.words.proofs.WordLaws.{said-word}
 use Rattle.words.proofs.answer_word.Goals as goal
 
-pub returns-in-New : goal.returns-in-New
+pub returns-in-Ok-New : goal.returns-in-Ok-New
 unfolding word
-returns-in-New c = said-word said_answer c.in-New.is _ c.result_word.ensures
+returns-in-Ok-New c =
+    let g = c.in-Ok-New in
+    let which : ◌≡◌ {A = Entry} g.field-0 (entry.New g.n) = rw g.is at g.field-0-is in
+    rw (g.is, which) c.result_word.ensures
 
-pub returns-in-Old : goal.returns-in-Old
+pub returns-in-Ok-Old : goal.returns-in-Ok-Old
 unfolding word
-returns-in-Old c = said-word said_answer c.in-Old.is _ c.result_word-in-Old.ensures
+returns-in-Ok-Old c =
+    let g = c.in-Ok-Old in
+    let which : ◌≡◌ {A = Entry} g.field-0 (entry.Old g.n) = rw g.is at g.field-0-is in
+    rw (g.is, which) c.result_word-in-Ok-Old.ensures
 
-pub refusal_word-requires : goal.refusal_word-requires
-refusal_word-requires c = let h = said-bounded said_answer c.in-Refused.is c.requires in omega arith
-
-pub returns-in-Refused : goal.returns-in-Refused
+pub returns-in-Err : goal.returns-in-Err
 unfolding word
-returns-in-Refused c = said-word said_answer c.in-Refused.is _ c.refusal_word.ensures
+returns-in-Err c = said-word said_answer c.in-Err.is _ c.refusal_word.ensures

@@ -1,8 +1,7 @@
 -- `call_word` meets its contract: each variant by its word.
-use native.Mathlib.Omega.{arith}
 use Rattle.store.specs.Replies.{said_call}
 use Rattle.words.specs.Words.{word}
-use Rattle.words.proofs.WordLaws.{said-word, said-bounded}
+use Rattle.words.proofs.WordLaws.{said-word}
 use Rattle.words.proofs.call_word.Goals as goal
 
 pub returns-in-New : goal.returns-in-New
@@ -12,9 +11,6 @@ returns-in-New c = said-word said_call c.in-New.is _ c.result_word.ensures
 pub returns-in-Old : goal.returns-in-Old
 unfolding word
 returns-in-Old c = said-word said_call c.in-Old.is _ c.old_word.ensures
-
-pub refusal_word-requires : goal.refusal_word-requires
-refusal_word-requires c = let h = said-bounded said_call c.in-Refused.is c.requires in omega arith
 
 pub returns-in-Refused : goal.returns-in-Refused
 unfolding word

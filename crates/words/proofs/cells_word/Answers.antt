@@ -1,27 +1,36 @@
 -- `cells_word` meets its contract: each variant by its word.
+use mathlib.Core.Path.{◌≡◌}
 use native.Mathlib.Omega.{arith}
+use Rattle.forms.specs.declared.Unwritten.{Unwritten}
+use Rattle.forms.specs.declared.Unwritten.TheVariants.{Refused, Short}
 use Rattle.store.specs.Replies.{said_cells}
 use Rattle.words.specs.Words.{word}
 use Rattle.words.proofs.WordLaws.{said-word, said-bounded}
 use Rattle.words.proofs.cells_word.Goals as goal
 
 pub overflow_cast-n : goal.overflow_cast-n
-overflow_cast-n c = let h = said-bounded said_cells c.in-Cells.is c.requires in omega arith
+overflow_cast-n c = let h = said-bounded said_cells c.in-Ok.is c.requires in omega arith
 
-pub returns-in-Cells : goal.returns-in-Cells
+pub returns-in-Ok : goal.returns-in-Ok
 unfolding word
-returns-in-Cells c = said-word said_cells c.in-Cells.is _ c.result_word.ensures
+returns-in-Ok c = said-word said_cells c.in-Ok.is _ c.result_word.ensures
 
-pub overflow_cast-n-in-Short : goal.overflow_cast-n-in-Short
-overflow_cast-n-in-Short c = let h = said-bounded said_cells c.in-Short.is c.requires in omega arith
+pub overflow_cast-n-in-Err-Short : goal.overflow_cast-n-in-Err-Short
+overflow_cast-n-in-Err-Short c =
+    let g = c.in-Err-Short in
+    let why : ◌≡◌ {A = Unwritten} g.field-0 (Short g.n) = rw g.is at g.field-0-is in
+    let h = rw (g.is, why) at c.requires in omega arith
 
-pub returns-in-Short : goal.returns-in-Short
+pub returns-in-Err-Short : goal.returns-in-Err-Short
 unfolding word
-returns-in-Short c = said-word said_cells c.in-Short.is _ c.result_word-in-Short.ensures
+returns-in-Err-Short c =
+    let g = c.in-Err-Short in
+    let why : ◌≡◌ {A = Unwritten} g.field-0 (Short g.n) = rw g.is at g.field-0-is in
+    rw (g.is, why) c.refusal_with.ensures
 
-pub refusal_word-requires : goal.refusal_word-requires
-refusal_word-requires c = let h = said-bounded said_cells c.in-Refused.is c.requires in omega arith
-
-pub returns-in-Refused : goal.returns-in-Refused
+pub returns-in-Err-Refused : goal.returns-in-Err-Refused
 unfolding word
-returns-in-Refused c = said-word said_cells c.in-Refused.is _ c.refusal_word.ensures
+returns-in-Err-Refused c =
+    let g = c.in-Err-Refused in
+    let why : ◌≡◌ {A = Unwritten} g.field-0 (Refused g.r) = rw g.is at g.field-0-is in
+    rw (g.is, why) c.refusal_word.ensures

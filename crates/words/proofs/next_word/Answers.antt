@@ -1,20 +1,25 @@
 -- `next_word` meets its contract: each variant by its word.
-use native.Mathlib.Omega.{arith}
+use mathlib.Core.Path.{◌≡◌}
 use Rattle.store.specs.Replies.{said_next}
+use Rattle.store.specs.declared.Next.{Next}
+use Rattle.store.specs.declared.Next.TheVariants as next
 use Rattle.words.specs.Words.{word}
-use Rattle.words.proofs.WordLaws.{said-word, said-bounded}
+use Rattle.words.proofs.WordLaws.{said-word}
 use Rattle.words.proofs.next_word.Goals as goal
 
-pub returns-in-At : goal.returns-in-At
+pub returns-in-Ok-At : goal.returns-in-Ok-At
 unfolding word
-returns-in-At c = said-word said_next c.in-At.is _ c.result_word.ensures
+returns-in-Ok-At c =
+    let g = c.in-Ok-At in
+    let which : ◌≡◌ {A = Next} g.field-0 (next.At g.n) = rw g.is at g.field-0-is in
+    rw (g.is, which) c.result_word.ensures
 
-pub returns-in-Lacking : goal.returns-in-Lacking
-returns-in-Lacking c = said-word said_next c.in-Lacking.is _ c.lacking_word.ensures
+pub returns-in-Ok-Lacking : goal.returns-in-Ok-Lacking
+returns-in-Ok-Lacking c =
+    let g = c.in-Ok-Lacking in
+    let which : ◌≡◌ {A = Next} g.field-0 (next.Lacking g.state) = rw g.is at g.field-0-is in
+    rw (g.is, which) c.lacking_word.ensures
 
-pub refusal_word-requires : goal.refusal_word-requires
-refusal_word-requires c = let h = said-bounded said_next c.in-Refused.is c.requires in omega arith
-
-pub returns-in-Refused : goal.returns-in-Refused
+pub returns-in-Err : goal.returns-in-Err
 unfolding word
-returns-in-Refused c = said-word said_next c.in-Refused.is _ c.refusal_word.ensures
+returns-in-Err c = said-word said_next c.in-Err.is _ c.refusal_word.ensures

@@ -4,4 +4,4 @@ use Rattle.words.proofs.refusal_word.Goals as goal
 
 pub returns : goal.returns
 unfolding word
-returns c = c.result_word.ensures
+returns c = c.refusal_with.ensures

@@ -1,10 +1,9 @@
 -- `copying::deciding::decide_in` meets its contract: a law for each answer.
-use mathlib.Core.Path.{ap, sym, ◌∙◌}
+use mathlib.Core.Path.{sym, ◌∙◌}
 use native.Mathlib.Omega.{arith}
 use Rattle.basis.proofs.Tests.{told}
 use Rattle.space.proofs.HeaderLaws.{header-bounds}
-use Rattle.integrity.specs.Tests.{said_check}
-use Rattle.copying.proofs.DecideCases.{decided-other, decided-unfresh, decided-whole, decided-loaded}
+use Rattle.copying.proofs.DecideCases.{decided-other, decided-unfresh, decided-whole, decided-loaded, whole-said}
 use Rattle.copying.proofs.deciding.decide_in.Goals as goal
 
 pub returns-then-h-ne-SOURCE_EDITION : goal.returns-then-h-ne-SOURCE_EDITION
@@ -24,9 +23,9 @@ returns-then-not-fits c =
 pub whole_answer-requires : goal.whole_answer-requires
 whole_answer-requires c = header-bounds _ _ c.requires
 
-pub returns-in-Whole : goal.returns-in-Whole
-returns-in-Whole c =
-    let found = ap said_check (sym c.in-Whole.is) ∙ c.check.ensures in
+pub returns-then-is_ok : goal.returns-then-is_ok
+returns-then-is_ok c =
+    let found = whole-said _ (sym c.if-is_ok.true ∙ c.is_ok.ensures.value) ∙ c.check.ensures in
     let a = c.args in
     let e1 = c.wide.ensures.0 in
     let e2 = c.wide-2.ensures.0 in

@@ -17,14 +17,14 @@ returns-then-not-forms_named c =
 pub forms_fit-requires : goal.forms_fit-requires
 forms_fit-requires c = (c.requires, told c.loads.ensures (c.if-not-loads.false))
 
-pub returns-then-forms_fit : goal.returns-then-forms_fit
-returns-then-forms_fit c =
-    loaded-done _ _ _ _ (told c.loads.ensures (c.if-not-loads.false))
+pub returns-then-not-forms_fit : goal.returns-then-not-forms_fit
+returns-then-not-forms_fit c =
+    loaded-small _ _ _ _ (told c.loads.ensures (c.if-not-loads.false))
     (told c.forms_named.ensures (c.if-not-forms_named.false))
-    (told c.forms_fit.ensures c.if-forms_fit.true)
+    (told c.forms_fit.ensures c.if-not-forms_fit.true)
 
 pub returns : goal.returns
 returns c =
-    loaded-small _ _ _ _ (told c.loads.ensures (c.if-not-loads.false))
+    loaded-done _ _ _ _ (told c.loads.ensures (c.if-not-loads.false))
     (told c.forms_named.ensures (c.if-not-forms_named.false))
-    (told c.forms_fit.ensures c.if-forms_fit.false)
+    (told c.forms_fit.ensures c.if-not-forms_fit.false)

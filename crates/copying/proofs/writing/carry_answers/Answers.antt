@@ -25,13 +25,13 @@ carry_answer-requires c =
     let l = c.loop-i in
     let r = answer-ready c.args.source.now c.args.h c.args.target.now l.target l.i _ c.answer_in-y.ensures _
     c.subgoal_in-g.ensures (c.requires.1 l.i (omega arith)) l.invariant.0 in
-    record { ends = ((bounds-nodes _ _ c.requires.0, r.0), r.1); target_value = (r.2, r.3) }
+    record { ends = rw c.answer_end.ensures ((bounds-nodes _ _ c.requires.0, r.0), r.1); target_value = (r.2, r.3) }
 
 pub loop-i-preserved : goal.loop-i-preserved
 loop-i-preserved c =
     let l = c.loop-i in (
       answers_next c.args.source.now c.args.h c.args.target.now l.target l.i _ c.answer_in-y.ensures _ c.subgoal_in-g.ensures _ l.invariant.0
-          c.carry_answer.ensures,
+          (rw c.answer_end.ensures at c.carry_answer.ensures),
       omega (arith, c.carry_answer.auto, l.invariant.1),
     )
 

@@ -18,12 +18,12 @@ pub carry_subgoal-requires : goal.carry_subgoal-requires
 carry_subgoal-requires c =
     let l = c.loop-i in
     let r = ready_at c.args.source.now c.args.h c.args.target.now l.target l.i _ c.subgoal_in-g.ensures (c.requires.1 l.i (omega arith)) l.invariant.0 in
-    record { ends = ((bounds-nodes _ _ c.requires.0, r.0), r.1); target_value = (r.2, r.3) }
+    record { ends = rw c.subgoal_end.ensures ((bounds-nodes _ _ c.requires.0, r.0), r.1); target_value = (r.2, r.3) }
 
 pub loop-i-preserved : goal.loop-i-preserved
 loop-i-preserved c =
     let l = c.loop-i in (
-      first_next c.args.source.now c.args.h c.args.target.now l.target l.i _ c.subgoal_in-g.ensures _ l.invariant.0 c.carry_subgoal.ensures,
+      first_next c.args.source.now c.args.h c.args.target.now l.target l.i _ c.subgoal_in-g.ensures _ l.invariant.0 (rw c.subgoal_end.ensures at c.carry_subgoal.ensures),
       omega (arith, c.carry_subgoal.auto, l.invariant.1),
     )
 

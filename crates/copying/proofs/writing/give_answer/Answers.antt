@@ -9,13 +9,13 @@ returns-in_default c =
 
 pub subgoal_in-g-requires : goal.subgoal_in-g-requires
 subgoal_in-g-requires c =
-    takes-used _ _ _ (told c.in-Sound.is c.read_header.ensures) c.requires.1
+    takes-used _ _ _ (told c.in-Ok.is c.read_header.ensures) c.requires.1
 
 pub answer_at-requires : goal.answer_at-requires
 answer_at-requires c =
-    takes-held _ _ _ _ (told c.in-Sound.is c.read_header.ensures) c.requires.1 c.subgoal_in-g.ensures
+    takes-held _ _ _ _ (told c.in-Ok.is c.read_header.ensures) c.requires.1 c.subgoal_in-g.ensures
 
 pub returns : goal.returns
 returns c =
-    form-entered c.args.target.now c.args.form.now c.args.s c.requires.0 _ (told c.in-Sound.is c.read_header.ensures) _ c.subgoal_in-g.ensures _ _
+    form-entered c.args.target.now c.args.form.now c.args.s c.requires.0 _ (told c.in-Ok.is c.read_header.ensures) _ c.subgoal_in-g.ensures _ _
     c.answer_at.ensures

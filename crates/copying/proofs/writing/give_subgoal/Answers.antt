@@ -10,8 +10,8 @@ returns-in_default c =
 
 pub call_at-requires : goal.call_at-requires
 call_at-requires c =
-    (header-bounds _ _ (told c.in-Sound.is c.read_header.ensures), c.requires.1)
+    (header-bounds _ _ (told c.in-Ok.is c.read_header.ensures), c.requires.1)
 
 pub returns : goal.returns
 returns c =
-    given-entered c.args.target.now c.args.form.now c.args.m c.requires.0 _ (told c.in-Sound.is c.read_header.ensures) _ _ c.call_at.ensures
+    given-entered c.args.target.now c.args.form.now c.args.m c.requires.0 _ (told c.in-Ok.is c.read_header.ensures) _ _ c.call_at.ensures

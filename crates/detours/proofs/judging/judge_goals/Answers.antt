@@ -1,8 +1,9 @@
 -- `detours::judging::judge_goals` meets its contract.
-use mathlib.Core.Path.{refl}
+use mathlib.Core.Path.{◌≡◌, refl}
 use native.Mathlib.Omega.{arith}
 use borrow.Author.Rules.{rules}
-use Rattle.detours.specs.declared.GoalJudged.TheVariants as goal_judged
+use Rattle.std.specs.Prelude.{Err, None, Some}
+use Rattle.basis.specs.declared.refusals.Refusal.TheVariants as refusal
 use Rattle.detours.proofs.GoalCases.{within-each, told-goal, judging-begun, judging-damaged, judging-on, judging-ended}
 use Rattle.detours.proofs.judging.judge_goals.Goals as goal
 
@@ -16,16 +17,19 @@ judge_goal-requires c =
 
 pub loop-goal-preserved : goal.loop-goal-preserved
 loop-goal-preserved c =
+    let came : c.judge_goal.result ≡ Some c.in_ok-judged.judged = grind arith in
     judging-on c.args.space.now c.args.h c.args.goals.now c.loop-goal.goal-index c.loop-goal.opened c.loop-goal.fit
-    c.loop-goal.invariant _ (omega arith) _ _ _ _ (search rules)
-    (told-goal c.args.space.now c.args.h (goal_judged.Sound _ _) c.wide.ensures.0
-    (rw c.in-Sound.is at c.judge_goal.ensures)) refl refl
+    c.loop-goal.invariant _ (omega arith) _ _ _ (search rules)
+    (told-goal c.args.space.now c.args.h (Some c.in_ok-judged.judged) c.wide.ensures.0
+    (rw came at c.judge_goal.ensures)) refl refl
 
-pub returns-in_default : goal.returns-in_default
-returns-in_default c =
-    judging-damaged c.args.space.now c.args.h c.args.goals.now c.loop-goal.goal-index c.loop-goal.opened c.loop-goal.fit
-    c.loop-goal.invariant (search rules) (told-goal c.args.space.now c.args.h goal_judged.Damaged c.wide.ensures.0
-    (rw c.in_default.is at c.judge_goal.ensures))
+pub returns-in_err-judged : goal.returns-in_err-judged
+returns-in_err-judged c =
+    let damaged : c.judge_goal.result ≡ None = grind arith in
+    let passed : c.from_residual.result ≡ Err refusal.Records = grind arith in
+    rw passed (judging-damaged c.args.space.now c.args.h c.args.goals.now c.loop-goal.goal-index c.loop-goal.opened c.loop-goal.fit
+    c.loop-goal.invariant (search rules) (told-goal c.args.space.now c.args.h None c.wide.ensures.0
+    (rw damaged at c.judge_goal.ensures)))
 
 pub returns : goal.returns
 returns c =

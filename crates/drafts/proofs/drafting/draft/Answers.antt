@@ -1,4 +1,6 @@
 -- `drafts::drafting::draft` meets its contract.
+use mathlib.Core.Path.{◌≡◌}
+use Rattle.std.specs.Prelude.{None}
 use native.Mathlib.Omega.{arith}
 use borrow.Author.Rules.{rules}
 use Rattle.drafts.proofs.DraftCases.{drafting-begun, drafting-reachable, drafting-on, drafting-full, mark-node, drafting-done}
@@ -11,10 +13,12 @@ pub reach-requires : goal.reach-requires
 reach-requires c = drafting-reachable _ _ _ _ _ c.requires _ _ _ _ c.loop-token.invariant
 
 pub loop-token-preserved : goal.loop-token-preserved
-loop-token-preserved c = drafting-on _ _ _ _ _ c.requires _ _ _ _ c.loop-token.invariant (search rules) _ _ _ (rw c.in-At.is at c.reach.ensures)
+loop-token-preserved c = drafting-on _ _ _ _ _ c.requires _ _ _ _ c.loop-token.invariant (search rules) _ _ _ (rw c.in_ok-reached.was at c.reach.ensures)
 
-pub returns-in_default : goal.returns-in_default
-returns-in_default c = drafting-full _ _ _ _ _ c.requires _ _ _ _ c.loop-token.invariant (search rules) _ (rw c.in_default.is at c.reach.ensures)
+pub returns-in_err-reached : goal.returns-in_err-reached
+returns-in_err-reached c =
+    let passed : c.from_residual.result ≡ None = search rules in
+    rw passed (drafting-full _ _ _ _ _ c.requires _ _ _ _ c.loop-token.invariant (search rules) _ (rw c.in_err-reached.was at c.reach.ensures))
 
 pub mark-held-requires : goal.mark-held-requires
 mark-held-requires c = mark-node _ _ _ _ _ c.requires _ _ _ _ c.loop-token.invariant (λ l. omega arith) (omega arith)

@@ -1,11 +1,7 @@
 -- `engine::calls::tables_build` meets its contract: the word of what the build answers.
 use mathlib.Core.Path.{ap, ◌∙◌}
 use Rattle.words.specs.Words.{word_build}
-use Rattle.words.proofs.BuildBounds.{build-bounded, reply-bounded}
 use Rattle.engine.proofs.calls.tables_build.Goals as goal
-
-pub build_word-requires : goal.build_word-requires
-build_word-requires c = reply-bounded c.build.ensures.0 (build-bounded _ _)
 
 pub returns : goal.returns
 returns c = (c.build_word.ensures ∙ ap word_build c.build.ensures.0, c.build.ensures.1)

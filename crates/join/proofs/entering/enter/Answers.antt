@@ -19,10 +19,10 @@ pub returns-in_default-read_header : goal.returns-in_default-read_header
 returns-in_default-read_header c = absurd (still-sound (indexes-find c.args.asked.now.index.now c.args.x.h.nodes) c.args.space.now c.args.x c.args.s c.args.asked.now.pairs.now c.args.asked.now.copies.now _ _ _ _ _ c.loop-n.invariant.0 _ _ _ _ (rw c.in-At.is at c.advance.ensures) _ c.give.ensures _ (told c.in_default-read_header.is c.read_header.ensures))
 
 pub loop-n-smaller : goal.loop-n-smaller
-loop-n-smaller c = entering-less (indexes-find c.args.asked.now.index.now c.args.x.h.nodes) c.args.space.now c.args.x c.args.s c.args.asked.now.pairs.now c.args.asked.now.copies.now _ _ _ _ _ c.loop-n.invariant.0 _ _ _ _ (rw c.in-At.is at c.advance.ensures) _ c.give.ensures _ (told c.in-Sound.is c.read_header.ensures)
+loop-n-smaller c = entering-less (indexes-find c.args.asked.now.index.now c.args.x.h.nodes) c.args.space.now c.args.x c.args.s c.args.asked.now.pairs.now c.args.asked.now.copies.now _ _ _ _ _ c.loop-n.invariant.0 _ _ _ _ (rw c.in-At.is at c.advance.ensures) _ c.give.ensures _ (told c.in-Ok.is c.read_header.ensures)
 
 pub loop-n-preserved : goal.loop-n-preserved
-loop-n-preserved c = (entering-on (indexes-find c.args.asked.now.index.now c.args.x.h.nodes) c.args.space.now c.args.x c.args.s c.args.asked.now.pairs.now c.args.asked.now.copies.now _ _ _ _ _ c.loop-n.invariant.0 _ _ _ _ (rw c.in-At.is at c.advance.ensures) _ c.give.ensures _ (told c.in-Sound.is c.read_header.ensures), entering-size (indexes-find c.args.asked.now.index.now c.args.x.h.nodes) c.args.space.now c.args.x c.args.s c.args.asked.now.pairs.now c.args.asked.now.copies.now _ _ _ _ _ c.loop-n.invariant.0 _ _ _ _ (rw c.in-At.is at c.advance.ensures) _ c.give.ensures ∙ c.loop-n.invariant.1)
+loop-n-preserved c = (entering-on (indexes-find c.args.asked.now.index.now c.args.x.h.nodes) c.args.space.now c.args.x c.args.s c.args.asked.now.pairs.now c.args.asked.now.copies.now _ _ _ _ _ c.loop-n.invariant.0 _ _ _ _ (rw c.in-At.is at c.advance.ensures) _ c.give.ensures _ (told c.in-Ok.is c.read_header.ensures), entering-size (indexes-find c.args.asked.now.index.now c.args.x.h.nodes) c.args.space.now c.args.x c.args.s c.args.asked.now.pairs.now c.args.asked.now.copies.now _ _ _ _ _ c.loop-n.invariant.0 _ _ _ _ (rw c.in-At.is at c.advance.ensures) _ c.give.ensures ∙ c.loop-n.invariant.1)
 
 pub returns : goal.returns
 returns c = entered-end (indexes-find c.args.asked.now.index.now c.args.x.h.nodes) c.args.space.now c.args.x c.args.s c.args.asked.now.pairs.now c.args.asked.now.copies.now _ _ _ _ _ c.loop-n.invariant.0 (walk-ended c.loop-n.space c.loop-n.y _ _ c.loop-n.walk c.advance.new.self _ c.advance.ensures c.in_default.not-At c.loop-n.invariant.0.fit)

@@ -7,4 +7,4 @@ pub returns-in_default : goal.returns-in_default
 returns-in_default c = root-unsound c.args.space.now c.args.h c.args.root (told c.in_default.is c.read_node.ensures)
 
 pub returns : goal.returns
-returns c = root-read c.args.space.now c.args.h c.args.root c.in-Sound.y (told c.in-Sound.is c.read_node.ensures)
+returns c = root-read c.args.space.now c.args.h c.args.root c.in-Some.y (told c.in-Some.is c.read_node.ensures)

@@ -28,15 +28,15 @@ returns-in_default c = at-damaged (kept-first (trie_in sizes c.args.space.now c.
 
 pub returns-then-z-parent : goal.returns-then-z-parent
 returns-then-z-parent c =
-    at-stray (kept-first (trie_in sizes c.args.space.now c.args.nodes c.args.links) c.args.lasts.now c.args.slots.now c.args.parent c.args.token c.node_in-y.result c.node_in-y.ensures (search rules) (c.requires.nodes_in.2 (search rules))) _ c.in-Sound.ensures (search rules)
+    at-stray (kept-first (trie_in sizes c.args.space.now c.args.nodes c.args.links) c.args.lasts.now c.args.slots.now c.args.parent c.args.token c.node_in-y.result c.node_in-y.ensures (search rules) (c.requires.nodes_in.2 (search rules))) _ c.in-Some.ensures (search rules)
 
 pub returns-then-z-token : goal.returns-then-z-token
 returns-then-z-token c =
-    at-found (kept-first (trie_in sizes c.args.space.now c.args.nodes c.args.links) c.args.lasts.now c.args.slots.now c.args.parent c.args.token c.node_in-y.result c.node_in-y.ensures (search rules) (c.requires.nodes_in.2 (search rules))) _ c.in-Sound.ensures (search rules) (search rules)
+    at-found (kept-first (trie_in sizes c.args.space.now c.args.nodes c.args.links) c.args.lasts.now c.args.slots.now c.args.parent c.args.token c.node_in-y.result c.node_in-y.ensures (search rules) (c.requires.nodes_in.2 (search rules))) _ c.in-Some.ensures (search rules) (search rules)
 
 pub returns-then-z-eq0 : goal.returns-then-z-eq0
 returns-then-z-eq0 c =
-    at_last (kept-first (trie_in sizes c.args.space.now c.args.nodes c.args.links) c.args.lasts.now c.args.slots.now c.args.parent c.args.token c.node_in-y.result c.node_in-y.ensures (search rules) (c.requires.nodes_in.2 (search rules))) _ c.in-Sound.ensures (search rules) (search rules) (search rules)
+    at_last (kept-first (trie_in sizes c.args.space.now c.args.nodes c.args.links) c.args.lasts.now c.args.slots.now c.args.parent c.args.token c.node_in-y.result c.node_in-y.ensures (search rules) (c.requires.nodes_in.2 (search rules))) _ c.in-Some.ensures (search rules) (search rules) (search rules)
 
 pub find-requires : goal.find-requires
 find-requires c =
@@ -48,4 +48,4 @@ returns c =
     let first_inside_here : c.node_in-y.result.child < c.args.nodes = let f = first-within (trie_in sizes c.args.space.now c.args.nodes c.args.links) c.args.parent c.requires.nodes_in.1 c.requires.parent_value in
     let e = ap (λ (y : Node). y.child) c.node_in-y.ensures in
     omega arith in
-    c.find.ensures ∙ sym (at_next (kept-first (trie_in sizes c.args.space.now c.args.nodes c.args.links) c.args.lasts.now c.args.slots.now c.args.parent c.args.token c.node_in-y.result c.node_in-y.ensures (search rules) (c.requires.nodes_in.2 (search rules))) _ c.in-Sound.ensures (search rules) (search rules) (search rules) (first_inside_here)).3
+    c.find.ensures ∙ sym (at_next (kept-first (trie_in sizes c.args.space.now c.args.nodes c.args.links) c.args.lasts.now c.args.slots.now c.args.parent c.args.token c.node_in-y.result c.node_in-y.ensures (search rules) (c.requires.nodes_in.2 (search rules))) _ c.in-Some.ensures (search rules) (search rules) (search rules) (first_inside_here)).3

@@ -28,8 +28,8 @@ loop-b-preserved c = (finding-on _ _ _ _ c.requires.throughout _ _ _ c.requires.
 pub returns : goal.returns
 returns c = finding-end _ _ _ _ c.requires.throughout _ _ _ c.requires.compared _ _ c.loop-b.invariant.0 c.loop-b-test.false
 
-pub returns-in-Form : goal.returns-in-Form
-returns-in-Form c = finding-at _ _ _ _ c.requires.throughout _ _ _ c.requires.compared _ _ c.loop-b.invariant.0 c.loop-b-test.true _ c.answer_in-y.ensures _ _ _ c.take_answer.ensures c.take_answer.auto.form _ c.matches.ensures c.if-matches.true _ _ c.put_together.ensures _ c.in-Form.is
+pub returns-in-Some : goal.returns-in-Some
+returns-in-Some c = finding-at _ _ _ _ c.requires.throughout _ _ _ c.requires.compared _ _ c.loop-b.invariant.0 c.loop-b-test.true _ c.answer_in-y.ensures _ _ _ c.take_answer.ensures c.take_answer.auto.form _ c.matches.ensures c.if-matches.true _ _ c.put_together.ensures _ c.in-Some.is
 
-pub returns-in-TooLong : goal.returns-in-TooLong
-returns-in-TooLong c = finding-long _ _ _ _ c.requires.throughout _ _ _ c.requires.compared _ _ c.loop-b.invariant.0 c.loop-b-test.true _ c.answer_in-y.ensures _ _ _ c.take_answer.ensures c.take_answer.auto.form _ c.matches.ensures c.if-matches.true _ _ c.put_together.ensures c.in-TooLong.is
+pub returns-in-None : goal.returns-in-None
+returns-in-None c = finding-long _ _ _ _ c.requires.throughout _ _ _ c.requires.compared _ _ c.loop-b.invariant.0 c.loop-b-test.true _ c.answer_in-y.ensures _ _ _ c.take_answer.ensures c.take_answer.auto.form _ c.matches.ensures c.if-matches.true _ _ c.put_together.ensures c.in-None.is

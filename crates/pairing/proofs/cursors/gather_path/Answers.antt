@@ -1,5 +1,7 @@
 -- `pairing::cursors::gather_path` meets its contract.
 use Rattle.pairing.proofs.GatherLaws.{gathering-begun, gathered-all, gathered-root, gathering-on}
+use Prim.Native.Nat.{◌+◌, ◌-◌}
+use mathlib.Core.Path.{◌≡◌}
 use native.Mathlib.Omega.{arith}
 use borrow.Author.Rules.{rules}
 use Rattle.pairing.proofs.cursors.gather_path.Goals as goal
@@ -14,7 +16,9 @@ pub shape_of-cells-then-y-n : goal.shape_of-cells-then-y-n
 shape_of-cells-then-y-n c = c.loop-at.invariant.size
 
 pub returns-then-y-n : goal.returns-then-y-n
-returns-then-y-n c = gathered-root c.args.space.now c.args.end c.args.cells.now _ _ _ c.loop-at.invariant _ c.node_in-y.ensures (search rules)
+returns-then-y-n c =
+    let all : c.loop-at.at - 1 + 1 ≡ c.loop-at.at = omega arith in
+    rw all (gathered-root c.args.space.now c.args.end c.args.cells.now _ _ _ c.loop-at.invariant _ c.node_in-y.ensures (search rules))
 
 pub offset_bounds-cells-at : goal.offset_bounds-cells-at
 offset_bounds-cells-at c = omega (arith, c.loop-at.invariant.within)

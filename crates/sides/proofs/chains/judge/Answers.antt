@@ -2,8 +2,8 @@
 use Rattle.store.proofs.ChainMeasure.{ahead-less}
 use Rattle.sides.proofs.ChainCases.{passed-begin, passed-ended, passed-broken, passed_on}
 use Rattle.sides.specs.Chains.{AnswerJudged}
-use Rattle.sides.specs.declared.Member.TheVariants as member
 use mathlib.Core.Path.{refl}
+use Rattle.std.specs.Prelude.{Some}
 use native.Mathlib.Omega.{arith}
 use borrow.Author.Rules.{rules}
 use Rattle.sides.proofs.chains.judge.Goals as goal
@@ -16,13 +16,13 @@ judge_answer-requires c = (c.requires.held, omega arith, c.loop-a.invariant.with
 
 pub loop-a-smaller : goal.loop-a-smaller
 loop-a-smaller c =
-    let sound_here : AnswerJudged c.args.space.now c.args.h c.args.s c.loop-a.a (member.Sound c.in-Sound.next c.in-Sound.free) = rw c.in-Sound.is at c.judge_answer.ensures in
+    let sound_here : AnswerJudged c.args.space.now c.args.h c.args.s c.loop-a.a (Some c.in-Some.member) = rw c.in-Some.is at c.judge_answer.ensures in
     ahead-less _ _ _ (search rules) c.loop-a.invariant.within (sound_here).0.0
 
 pub loop-a-preserved : goal.loop-a-preserved
 loop-a-preserved c =
-    let sound_here : AnswerJudged c.args.space.now c.args.h c.args.s c.loop-a.a (member.Sound c.in-Sound.next c.in-Sound.free) = rw c.in-Sound.is at c.judge_answer.ensures in
-    passed_on c.args.space.now c.args.h c.args.s c.loop-a.invariant (search rules) _ _ _ (sound_here) refl
+    let sound_here : AnswerJudged c.args.space.now c.args.h c.args.s c.loop-a.a (Some c.in-Some.member) = rw c.in-Some.is at c.judge_answer.ensures in
+    passed_on c.args.space.now c.args.h c.args.s c.loop-a.invariant (search rules) _ _ (sound_here) refl
 
 pub returns-in_default : goal.returns-in_default
 returns-in_default c = passed-broken c.args.space.now c.args.h c.args.s c.loop-a.invariant (search rules) (rw c.in_default.is at c.judge_answer.ensures)

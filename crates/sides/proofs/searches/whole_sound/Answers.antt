@@ -11,4 +11,4 @@ pub returns-in_default : goal.returns-in_default
 returns-in_default c = whole-damaged _ _ _ _ (search rules) (told c.in_default.is c.read_answer.ensures)
 
 pub returns : goal.returns
-returns c = whole-linked _ _ _ _ (search rules) c.in-Sound.y (told c.in-Sound.is c.read_answer.ensures)
+returns c = whole-linked _ _ _ _ (search rules) c.in-Some.y (told c.in-Some.is c.read_answer.ensures)

@@ -12,28 +12,25 @@ returns-in_default c =
 pub read_subgoal-requires : goal.read_subgoal-requires
 read_subgoal-requires c =
     let p = c.args in
-    let e = told c.in-Sound.is c.read_answer.ensures in
-    let w = answer-within p.source.now p.h p.a c.in-Sound.y e in
+    let e = told c.in-Some.is c.read_answer.ensures in
+    let w = answer-within p.source.now p.h p.a c.in-Some.y e in
     (c.requires.0, w.0, w.1)
 
 pub returns-in_default-read_subgoal : goal.returns-in_default-read_subgoal
 returns-in_default-read_subgoal c =
     let p = c.args in
-    let e = told c.in-Sound.is c.read_answer.ensures in
-    owner-damaged p.source.now p.h p.a c.in-Sound.y e (told c.in_default-read_subgoal.is c.read_subgoal.ensures)
+    let e = told c.in-Some.is c.read_answer.ensures in
+    owner-damaged p.source.now p.h p.a c.in-Some.y e (told c.in_default-read_subgoal.is c.read_subgoal.ensures)
 
 pub path_worth-requires : goal.path_worth-requires
 path_worth-requires c =
     let p = c.args in
-    let e = told c.in-Sound.is c.read_answer.ensures in (
-      bounds-nodes _ _ c.requires.0,
-      (answer-within p.source.now p.h p.a
-          c.in-Sound.y e).2,
-    )
+    let e = told c.in-Some.is c.read_answer.ensures in
+    rw c.answer_end.ensures (bounds-nodes _ _ c.requires.0, (answer-within p.source.now p.h p.a c.in-Some.y e).2)
 
 pub returns : goal.returns
 returns c =
     let p = c.args in
-    let e = told c.in-Sound.is c.read_answer.ensures in
-    let q = told c.in-Sound-read_subgoal.is c.read_subgoal.ensures in
-    answer-formed p.source.now p.h p.a c.in-Sound.y e c.in-Sound-read_subgoal.g q _ c.path_worth.ensures
+    let e = told c.in-Some.is c.read_answer.ensures in
+    let q = told c.in-Some-read_subgoal.is c.read_subgoal.ensures in
+    answer-formed p.source.now p.h p.a c.in-Some.y e c.in-Some-read_subgoal.g q _ (rw c.answer_end.ensures at c.path_worth.ensures)

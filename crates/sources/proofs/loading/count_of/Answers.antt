@@ -2,8 +2,8 @@
 use Rattle.sources.proofs.LoadCases.{count-answers, count-subgoals}
 use Rattle.sources.proofs.loading.count_of.Goals as goal
 
-pub returns-then-x : goal.returns-then-x
-returns-then-x c = count-answers _ c.if-x.true
+pub returns-in-Answers : goal.returns-in-Answers
+returns-in-Answers c = count-answers _ c.in-Answers.is
 
-pub returns : goal.returns
-returns c = count-subgoals _ c.if-x.false
+pub returns-in-Subgoals : goal.returns-in-Subgoals
+returns-in-Subgoals c = count-subgoals _ c.in-Subgoals.is

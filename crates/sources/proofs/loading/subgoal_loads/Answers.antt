@@ -13,17 +13,17 @@ returns-in_default c =
 pub path_worth-requires : goal.path_worth-requires
 path_worth-requires c =
     let p = c.args in
-    let e = told c.in-Sound.is c.read_subgoal.ensures in
-    (bounds-nodes _ _ c.requires.0, (subgoal-within p.source.now p.h p.s c.in-Sound.g e).0)
+    let e = told c.in-Some.is c.read_subgoal.ensures in
+    rw c.subgoal_end.ensures (bounds-nodes _ _ c.requires.0, (subgoal-within p.source.now p.h p.s c.in-Some.g e).0)
 
 pub overflow_add-result : goal.overflow_add-result
 overflow_add-result c =
     let p = c.args in
-    let e = told c.in-Sound.is c.read_subgoal.ensures in
-    omega (arith, (subgoal-within p.source.now p.h p.s c.in-Sound.g e).1)
+    let e = told c.in-Some.is c.read_subgoal.ensures in
+    omega (arith, (subgoal-within p.source.now p.h p.s c.in-Some.g e).1)
 
 pub returns : goal.returns
 returns c =
     let p = c.args in
-    let e = told c.in-Sound.is c.read_subgoal.ensures in
-    subgoal-formed p.source.now p.h p.s c.in-Sound.g e _ c.path_worth.ensures
+    let e = told c.in-Some.is c.read_subgoal.ensures in
+    subgoal-formed p.source.now p.h p.s c.in-Some.g e _ (rw c.subgoal_end.ensures at c.path_worth.ensures)

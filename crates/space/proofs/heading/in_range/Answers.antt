@@ -1,10 +1,13 @@
 -- `space::heading::in_range` meets its contract.
-use Rattle.space.proofs.HeaderCases.{range-few, range-most}
-use borrow.Author.Rules.{rules}
+use native.Mathlib.Omega.{arith}
+use Rattle.std.proofs.lemmas.Bool.Decides.{nat_tests}
+use Rattle.space.specs.Heading.{in_range}
 use Rattle.space.proofs.heading.in_range.Goals as goal
 
 pub returns-then-least-n : goal.returns-then-least-n
-returns-then-least-n c = range-most _ _ (search rules)
+unfolding in_range
+returns-then-least-n c = grind (arith, nat_tests)
 
-pub returns : goal.returns
-returns c = range-few _ _ (search rules)
+pub returns-else-least-n : goal.returns-else-least-n
+unfolding in_range
+returns-else-least-n c = grind (arith, nat_tests)

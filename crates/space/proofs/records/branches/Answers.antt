@@ -7,5 +7,5 @@ use Rattle.space.proofs.records.branches.Goals as goal
 pub returns-then-follows_in : goal.returns-then-follows_in
 returns-then-follows_in c = c.follows_in-then-follows_in.ensures ∙ and_second _ _ (told c.follows_in.ensures c.if-follows_in.true)
 
-pub returns : goal.returns
-returns c = and_none _ _ (told c.follows_in.ensures c.if-follows_in.false)
+pub returns-else-follows_in : goal.returns-else-follows_in
+returns-else-follows_in c = c.if-follows_in.false ∙ and_none _ _ (told c.follows_in.ensures c.if-follows_in.false)

@@ -1,13 +1,17 @@
 -- `space::records::follows_in` meets its contract.
-use Rattle.space.proofs.JudgingCases.{follows-none, follows-below, follows-above}
-use borrow.Author.Rules.{rules}
+use native.Mathlib.Omega.{arith}
+use Rattle.std.proofs.lemmas.Bool.Decides.{nat_tests}
+use Rattle.space.specs.Judging.{follows}
 use Rattle.space.proofs.records.follows_in.Goals as goal
 
 pub returns-then-x-eq0 : goal.returns-then-x-eq0
-returns-then-x-eq0 c = follows-none _ _ _ (search rules)
+unfolding follows
+returns-then-x-eq0 c = grind (arith, nat_tests)
 
 pub returns-then-n-x : goal.returns-then-n-x
-returns-then-n-x c = follows-above _ _ _ (search rules) (search rules)
+unfolding follows
+returns-then-n-x c = grind (arith, nat_tests)
 
 pub returns : goal.returns
-returns c = follows-below _ _ _ (search rules) (search rules)
+unfolding follows
+returns c = grind (arith, nat_tests)

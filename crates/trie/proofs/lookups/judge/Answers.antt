@@ -2,8 +2,8 @@
 use Rattle.trie.proofs.TurnCases.{judge-damaged, judge-sound}
 use Rattle.trie.proofs.lookups.judge.Goals as goal
 
-pub returns-in-Sound : goal.returns-in-Sound
-returns-in-Sound c = judge-sound _ _ _ _ _ c.in-Sound.ensures
+pub returns-in-Some : goal.returns-in-Some
+returns-in-Some c = judge-sound _ _ _ _ _ c.in-Some.ensures
 
-pub returns-in-Damaged : goal.returns-in-Damaged
-returns-in-Damaged c = judge-damaged _ _ _ _ c.in-Damaged.ensures
+pub returns-in-None : goal.returns-in-None
+returns-in-None c = judge-damaged _ _ _ _ c.in-None.ensures

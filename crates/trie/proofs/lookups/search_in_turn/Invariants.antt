@@ -5,9 +5,9 @@ use Rattle.trie.specs.Siblings.{trie_in}
 use Rattle.trie.proofs.TurnCases.{InTurn}
 use Rattle.trie.proofs.lookups.search_in_turn.Given as goal
 
-abbrev pub invariant-loop-nodes : goal.invariant-loop-nodes
-invariant-loop-nodes l =
+abbrev pub invariant-loop-x : goal.invariant-loop-x
+invariant-loop-x l =
     InTurn l.space l.nodes l.links l.index l.stood l.parent l.token l.n l.slot (search_indexed l.index l.stood (trie_in sizes l.space l.nodes l.links) l.parent l.token)
 
-abbrev pub decreases-loop-nodes : goal.decreases-loop-nodes
-decreases-loop-nodes l = l.nodes - l.n
+abbrev pub decreases-loop-x : goal.decreases-loop-x
+decreases-loop-x l = l.nodes - l.n

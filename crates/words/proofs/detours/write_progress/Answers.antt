@@ -13,5 +13,5 @@ bit true = refl
 bit false = refl
 
 pub returns : goal.returns
-returns c = 
+returns c =
     ap (λ (x : ℕ). set (set c.args.out.now 0 c.args.tried) 1 x) (c.from.ensures ∙ bit c.args.ended) ∙ two-set c.args.out.now _ _ c.requires

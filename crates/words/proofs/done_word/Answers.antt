@@ -1,0 +1,13 @@
+-- `done_word` meets its contract: each variant by its word.
+use Rattle.store.specs.Replies.{said_finish}
+use Rattle.words.specs.Words.{word}
+use Rattle.words.proofs.WordLaws.{said-word}
+use Rattle.words.proofs.done_word.Goals as goal
+
+pub returns-in-Ok : goal.returns-in-Ok
+unfolding word
+returns-in-Ok c = said-word said_finish c.in-Ok.is _ c.result_word.ensures
+
+pub returns-in-Err : goal.returns-in-Err
+unfolding word
+returns-in-Err c = said-word said_finish c.in-Err.is _ c.refusal_word.ensures
