@@ -11,15 +11,15 @@ ghost use Rattle.store.specs.Decisions.{sound_last, answered_new, answered_old, 
 ghost use Rattle.store.specs.Changes.{chained, answer_entered};
 ghost use Rattle.trie.specs.Index.{search_indexed};
 ghost use Rattle.store.specs.Calls.{Answers, AnswersIndexed};
+ghost use Rattle.convert.specs.Holds.{RoomForForm};
 ghost use Rattle.store.specs.Clauses.{view_in, Does, AnswersUnder};
 ghost use Rattle.store.specs.Clauses.{Held, HeldLast, RefusesNew};
 ghost use Rattle.store.specs.Clauses.{entered_below, answered_from, answered_terms, FormIn, DoesRead};
 ghost use Rattle.store.specs.Replies.{said_answer};
 
-use basis::limits::MOST_CELLS;
 use basis::refusals::Refusal;
 use basis::wide;
-use convert::buffers::{FEW_CELLS, FORM_OF_FEW, FORM_OF_MOST, cells_rung};
+use convert::buffers::with_form;
 use convert::read_terms;
 use forms::Form;
 use space::heading::{read_header, write_answer_counts};
@@ -238,16 +238,15 @@ fn answer_terms(
     ensures { Does space.old h (answered_terms (search_indexed index.now h.nodes) h s g.variables terms.now)
         (said_answer result) space.new }
 {
-    if cells_rung(terms.len()) <= FEW_CELLS {
-        let mut vars = [0u32; FEW_CELLS];
-        let mut form = [0u32; FORM_OF_FEW];
-        let read = read_terms(terms, g.variables, &mut vars, &mut form, h.edition);
-        return answer_read(space, h, s, g, read, &form, index);
-    }
-    let mut vars = [0u32; MOST_CELLS];
-    let mut form = [0u32; FORM_OF_MOST];
-    let read = read_terms(terms, g.variables, &mut vars, &mut form, h.edition);
-    answer_read(space, h, s, g, read, &form, index)
+    let mut answer = |vars: &mut [u32], form: &mut [u32]|
+        requires { Held space.now h s g × RoomForForm terms.now vars.now form.now }
+        ensures { Does space.entry.now h (answered_terms (search_indexed index.entry.now h.nodes) h s g.variables
+            terms.entry.now) (said_answer result) space.exit.now }
+    {
+        let read = read_terms(terms, g.variables, vars, form, h.edition);
+        answer_read(space, h, s, g, read, form, index)
+    };
+    with_form(terms.len(), &mut answer)
 }
 
 // In a space whose header is sound: the number, the subgoal and its answer root.

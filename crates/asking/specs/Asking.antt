@@ -4,8 +4,8 @@ use Rattle.store.specs.Calls.{space_step}
 use Rattle.text.specs.Digits.{Puts}
 use Rattle.text.specs.Places.{FieldEnds, rest_at}
 use Rattle.replies.specs.Texts.{reply_bytes, text_room}
-use Rattle.asking.specs.Lines.{Meaning, means_call, means_answer, means_finish, means_next, means_load}
-use Rattle.asking.specs.Lines.{means_instance, means_counts, means_why, longest_line}
+use Rattle.asking.specs.Lines.{Meaning, means_call, means_answer, means_finish, means_next, means_counts}
+use Rattle.asking.specs.Lines.{means_why, longest_line}
 use Rattle.asking.specs.Saying.{Said, said_of}
 
 -- what is asked behind a word of a line can be printed: its fields begin behind a place, and the text has room for a
@@ -51,16 +51,12 @@ counts_meant line at = means_counts (rest_at line at)
 abbrev pub why_meant : List ℕ → ℕ → Meaning
 why_meant line at = means_why (rest_at line at)
 
--- load and instance are lent out besides: what is said and what is left, on a space and an out
-abbrev pub load_said : List ℕ → ℕ → List ℕ → List ℕ → Said (List ℕ)
-load_said line at space out = said_of space_step (means_load (rest_at line at) out) space out
-
-abbrev pub instance_said : List ℕ → ℕ → List ℕ → List ℕ → Said (List ℕ)
-instance_said line at space out = said_of space_step (means_instance (rest_at line at) out) space out
+-- load and instance are lent out besides: what is said and what is left by the meaning of the fields, on a space and an
+-- out
+abbrev pub lent_said : (List (List ℕ) → List ℕ → Meaning) → List ℕ → ℕ → List ℕ → List ℕ → Said (List ℕ)
+lent_said means line at space out = said_of space_step (means (rest_at line at) out) space out
 
 -- it is printed, and the space is as it was
-abbrev pub LoadPrints : List ℕ → ℕ → List ℕ → List ℕ → List ℕ → ℕ → List ℕ → Type 0
-LoadPrints line at space out text end text' = Prints (load_said line at space out) text end text' space
-
-abbrev pub InstancePrints : List ℕ → ℕ → List ℕ → List ℕ → List ℕ → ℕ → List ℕ → Type 0
-InstancePrints line at space out text end text' = Prints (instance_said line at space out) text end text' space
+abbrev pub LentPrints : (List (List ℕ) → List ℕ → Meaning) → (line : List ℕ) (at : ℕ) (space out text : List ℕ) → ℕ
+    → List ℕ → Type 0
+LentPrints means line at space out text end text' = Prints (lent_said means line at space out) text end text' space

@@ -5,7 +5,8 @@ ghost use Rattle.std.specs.Prelude.{◌≡◌};
 ghost use Rattle.asking.specs.Asking.{Askable, AskableCells, AskableOut};
 ghost use Rattle.asking.specs.Asking.{Asks, AsksReading};
 ghost use Rattle.asking.specs.Asking.{call_meant, answer_meant, finish_meant, next_meant, counts_meant, why_meant};
-ghost use Rattle.asking.specs.Asking.{load_said, instance_said, LoadPrints, InstancePrints};
+ghost use Rattle.asking.specs.Asking.{lent_said, LentPrints};
+ghost use Rattle.asking.specs.Lines.{means_load, means_instance};
 
 use answering::answer;
 use calling::{call, finish};
@@ -80,10 +81,11 @@ pub fn ask_next(line: &[u8], at: usize, space: &[u32], text: &mut [u8]) -> usize
 }
 
 // load, with a number. What was written to out is printed.
+// Not one generic function with `ask_instance`: its clauses over `F.post`, of three arguments, outgrow these steps.
 pub fn ask_load(line: &[u8], at: usize, space: &[u32], out: &mut [u32], text: &mut [u8]) -> usize
     requires { AskableOut line.now at out.old text.old }
-    ensures load_prints { LoadPrints line.now at space.now out.old text.old result text.new }
-    ensures out_value { out.new ≡ (load_said line.now at space.now out.old).out }
+    ensures load_prints { LentPrints means_load line.now at space.now out.old text.old result text.new }
+    ensures out_value { out.new ≡ (lent_said means_load line.now at space.now out.old).out }
 {
     let Some(number) = only_number(line, at) else {
         return print_bad(text);
@@ -101,8 +103,8 @@ pub fn ask_instance(
     text: &mut [u8],
 ) -> usize
     requires { AskableOut line.now at out.old text.old }
-    ensures instance_prints { InstancePrints line.now at space.now out.old text.old result text.new }
-    ensures out_value { out.new ≡ (instance_said line.now at space.now out.old).out }
+    ensures instance_prints { LentPrints means_instance line.now at space.now out.old text.old result text.new }
+    ensures out_value { out.new ≡ (lent_said means_instance line.now at space.now out.old).out }
 {
     let Some(number) = only_number(line, at) else {
         return print_bad(text);

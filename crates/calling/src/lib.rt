@@ -16,10 +16,9 @@ ghost use Rattle.store.specs.Clauses.{view_in, Does, AnswersUnder, StoppedAt};
 ghost use Rattle.store.specs.Clauses.{called_from};
 ghost use Rattle.store.specs.Replies.{said_state, said_call, said_finish};
 
-use basis::limits::MOST_CELLS;
 use basis::refusals::Refusal;
 use basis::wide;
-use convert::buffers::{FEW_CELLS, FORM_OF_FEW, FORM_OF_MOST, cells_rung};
+use convert::buffers::with_form;
 use convert::read_terms;
 use forms::is_callable;
 use space::heading::{read_header, write_subgoal_counts};
@@ -162,14 +161,12 @@ pub fn call_indexed(space: &mut [u32], term: &[u32], index: &[u32]) -> CallAnswe
     match read_header(space) {
         Err(r) => CallAnswer::Refused(r),
         Ok(h) => {
-            if cells_rung(term.len()) <= FEW_CELLS {
-                let mut vars = [0u32; FEW_CELLS];
-                let mut form = [0u32; FORM_OF_FEW];
-                return call_with(space, h, term, &mut vars, &mut form, index);
-            }
-            let mut vars = [0u32; MOST_CELLS];
-            let mut form = [0u32; FORM_OF_MOST];
-            call_with(space, h, term, &mut vars, &mut form, index)
+            let mut call = |vars: &mut [u32], form: &mut [u32]|
+                requires { Bounds space.now h × RoomForForm term.now vars.now form.now }
+                ensures { AnswersUnder (search_indexed index.entry.now h.nodes) space.entry.now h
+                    (request.call term.entry.now) (said_call result) space.exit.now }
+            { call_with(space, h, term, vars, form, index) };
+            with_form(term.len(), &mut call)
         }
     }
 }

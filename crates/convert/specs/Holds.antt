@@ -33,6 +33,13 @@ RoomForForm cs vars form = length cs ≤ 256 → (length cs ≤ length vars) × 
 abbrev pub RoomForTerms : (form cells : List ℕ) → Type 0
 RoomForTerms form cells = length cells < 256 → 2 * length form ≤ length cells
 
+-- the same by the number of cells, and of tokens
+abbrev pub RoomForCells : (n : ℕ) (vars form : List ℕ) → Type 0
+RoomForCells n vars form = n ≤ 256 → (n ≤ length vars) × (3 * n ≤ 2 * length form)
+
+abbrev pub RoomForTokens : (n : ℕ) (cells : List ℕ) → Type 0
+RoomForTokens n cells = length cells < 256 → 2 * n ≤ length cells
+
 -- m terms were read as they are defined to be, and the buffers hold their variables and their form
 abbrev pub ReadsAs : (ℕ → ℕ) → StoredForm → (m : ℕ) (cs vars form : List ℕ) → Reading → Type 0
 ReadsAs arity s m cs vars form r = (r ≡ reading arity s m cs) × HoldsForm s cs form r × HoldsVariables cs vars r

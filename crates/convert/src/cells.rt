@@ -69,6 +69,7 @@ pub fn read_cells(
 }
 
 // Loads the m terms that stand numbered in s, and leaves them at the start of cells.
+// One scan for both, by a closure for each cell, was tried: that `cells[at]` may be written at any call stayed open.
 pub fn load_cells(s: &[u32], m: usize, cells: &mut [u32], edition: u32) -> Option<Loaded>
     requires { RoomForTerms s.now cells.old }
     ensures { CountsPairs edition m s.now cells.new result }

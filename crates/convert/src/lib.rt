@@ -11,10 +11,6 @@ ghost use Rattle.convert.specs.Holds.{Compacts, CompactsIn, Expands, ExpandsIn};
 
 use basis::limits::{MOST_CELLS, MOST_VARIABLES};
 use basis::refusals::Refusal;
-use buffers::{
-    FEW_CELLS, FEW_TOKENS, FORM_OF_FEW, FORM_OF_MOST, SOME_TOKENS, TERMS_OF_FEW, TERMS_OF_MOST,
-    TERMS_OF_SOME, cells_rung, tokens_rung,
-};
 use forms::{Form, Place, Unwritten};
 
 // What was loaded: the cells written, and how many variables there are.
@@ -126,7 +122,8 @@ pub fn load_terms(s: &[u32], m: usize, cells: &mut [u32], edition: u32) -> Optio
     Some(loaded.cells)
 }
 
-// Copies the first n cells.
+// Copies the first n cells. (With the number beside the slice: its callers would each cut both slices to it and prove
+// that they have it.)
 pub fn copy(from: &[u32], n: usize, out: &mut [u32])
     requires { (n ≤ length from.now) × (n ≤ length out.old) }
     ensures { out.new ≡ take n from.now ++ drop n out.old }
@@ -162,14 +159,10 @@ fn compact_with(
 fn compact_terms(s: &[u32], m: usize, out: &mut [u32], edition: u32) -> Result<usize, Unwritten>
     ensures { Compacts edition m s.now out.old result out.new }
 {
-    if cells_rung(s.len()) <= FEW_CELLS {
-        let mut vars = [0u32; FEW_CELLS];
-        let mut form = [0u32; FORM_OF_FEW];
-        return compact_with(s, m, &mut vars, &mut form, out, edition);
-    }
-    let mut vars = [0u32; MOST_CELLS];
-    let mut form = [0u32; FORM_OF_MOST];
-    compact_with(s, m, &mut vars, &mut form, out, edition)
+    let mut compact = |vars: &mut [u32], form: &mut [u32]| compact_with(
+        s, m, vars, form, out, edition,
+    );
+    buffers::with_form(s.len(), &mut compact)
 }
 
 // Compacts the m terms in s into out, in the edition of this number.
@@ -207,17 +200,8 @@ fn expand_with(
 pub fn expand_terms(s: &[u32], m: usize, out: &mut [u32], edition: u32) -> Result<usize, Unwritten>
     ensures { Expands edition m s.now out.old result out.new }
 {
-    let rung = tokens_rung(s.len());
-    if rung <= FEW_TOKENS {
-        let mut cells = [0u32; TERMS_OF_FEW];
-        return expand_with(s, m, &mut cells, out, edition);
-    }
-    if rung <= SOME_TOKENS {
-        let mut cells = [0u32; TERMS_OF_SOME];
-        return expand_with(s, m, &mut cells, out, edition);
-    }
-    let mut cells = [0u32; TERMS_OF_MOST];
-    expand_with(s, m, &mut cells, out, edition)
+    let mut expand = |cells: &mut [u32]| expand_with(s, m, cells, out, edition);
+    buffers::with_terms(s.len(), &mut expand)
 }
 
 // Expands the form of m terms in s into out, in the edition of this number.

@@ -13,8 +13,9 @@ use Rattle.plain.specs.Coding.{coding_of}
 use Rattle.plain.specs.Requests.{Reply, Best, none_found, found, detours, detoured, refused, lent}
 use Rattle.plain.specs.Detours.{Option, diverts, total_of, Progress, trying, tries, search, detour, all_within}
 use Rattle.space.specs.Heading.{space_header}
-use Rattle.space.specs.declared.Head.{Head}
-use Rattle.store.specs.Clauses.{view_in}
+use Rattle.space.specs.Tables.{Opened}
+use Rattle.space.specs.declared.tables.Table.{Table}
+use Rattle.store.specs.Clauses.{view_at}
 use Rattle.store.specs.Changes.{change_by}
 use Rattle.store.specs.Decisions.{says, refuses, decide, decide_by, goals_in, detours_in}
 use Rattle.store.specs.Calls.{Answers, reply, out_after, under_by, under_any_by, space_step_by}
@@ -87,33 +88,33 @@ begun budget = set (set (replicate 20 0) 0 budget) 1 no_total
 progress-begun : (n budget : ℕ) → progress_in n (begun budget) true ≡ record { left = budget; best = none_found; ended = true }
 progress-begun n budget = rw (best_none n (begun budget) refl) refl
 
-module _ (cs : List ℕ) (h : Head) (ss : List ℕ) (budget : ℕ) (work : List ℕ) (r : Bool) (s : Searches cs h ss 0 0 (begun budget) work r) where
-  from-begun : progress_in (length ss) work r ≡ search (goals_from cs h ss 0) [] (record { left = budget; best = none_found; ended = true })
-  from-begun = s.progress [] (chosen_none (begun budget)) ∙ ap (search (goals_from cs h ss 0) []) (progress-begun (length ss) budget)
+module _ (table : Table) (ss : List ℕ) (budget : ℕ) (work : List ℕ) (r : Bool) (s : Searches table ss 0 0 (begun budget) work r) where
+  from-begun : progress_in (length ss) work r ≡ search (goals_from table ss 0) [] (record { left = budget; best = none_found; ended = true })
+  from-begun = s.progress [] (chosen_none (begun budget)) ∙ ap (search (goals_from table ss 0) []) (progress-begun (length ss) budget)
 
   pub find-left : get_or work 0 0 ≤ budget
-  find-left = omega (arith, ap (λ (p : Progress). p.left) from-begun, search-left (goals_from cs h ss 0) [] (record { left = budget; best = none_found; ended = true }))
+  find-left = omega (arith, ap (λ (p : Progress). p.left) from-begun, search-left (goals_from table ss 0) [] (record { left = budget; best = none_found; ended = true }))
 
-  pub find-told : detoured (detour_in work (length ss) budget r) ≡ detoured (detour (goals_from cs h ss 0) budget)
+  pub find-told : detoured (detour_in work (length ss) budget r) ≡ detoured (detour (goals_from table ss 0) budget)
   unfolding detour
   find-told = ap (λ (p : Progress). detoured (record { best = p.best; tried = budget - p.left; ended = p.ended })) from-begun
 
 -- ---- the call
 
-module _ (cs : List ℕ) (h : Head) (ss : List ℕ) (budget : ℕ) where
-  pub decides-number : all_within h.subgoals ss ≡ false → refuses 7 ≡ decide (coding_of h.edition) (view_in cs h) (detours ss budget)
+module _ (table : Table) (ss : List ℕ) (budget : ℕ) where
+  pub decides-number : all_within table.head.subgoals ss ≡ false → refuses 7 ≡ decide (coding_of table.head.edition) (view_at table) (detours ss budget)
   unfolding decide_by
   decides-number e = sym (rw e refl)
 
-  module _ (e : all_within h.subgoals ss ≡ true) where
-    decides-on : detours_in (coding_of h.edition) (goals_in (coding_of h.edition) (view_in cs h) ss) budget ≡ decide (coding_of h.edition) (view_in cs h) (detours ss budget)
+  module _ (e : all_within table.head.subgoals ss ≡ true) where
+    decides-on : detours_in (coding_of table.head.edition) (goals_in (coding_of table.head.edition) (view_at table) ss) budget ≡ decide (coding_of table.head.edition) (view_at table) (detours ss budget)
     unfolding decide_by
     decides-on = sym (rw e refl)
 
-    pub decides-refused : (r : Refusal) → GoalsTold cs h ss (Err r) → refuses (number_of r) ≡ decide (coding_of h.edition) (view_in cs h) (detours ss budget)
+    pub decides-refused : (r : Refusal) → GoalsTold table ss (Err r) → refuses (number_of r) ≡ decide (coding_of table.head.edition) (view_at table) (detours ss budget)
     decides-refused r t = sym (t budget) ∙ decides-on
 
-    pub decides-found : (x : Reply) → Ready cs h ss → x ≡ detoured (detour (goals_from cs h ss 0) budget) → says x ≡ decide (coding_of h.edition) (view_in cs h) (detours ss budget)
+    pub decides-found : (x : Reply) → Ready table ss → x ≡ detoured (detour (goals_from table ss 0) budget) → says x ≡ decide (coding_of table.head.edition) (view_at table) (detours ss budget)
     decides-found x t f = ap says f ∙ sym (t.told budget) ∙ decides-on
 
 module _ (cs : List ℕ) (ss : List ℕ) (budget : ℕ) where
@@ -121,6 +122,8 @@ module _ (cs : List ℕ) (ss : List ℕ) (budget : ℕ) where
   unfolding space_step_by under_any_by lent
   detours-declined r e = rw (← e) (refl, refl, refl)
 
-  pub detours-answered : (h : Head) → Ok h ≡ space_header cs → (x : Reply) → says x ≡ decide (coding_of h.edition) (view_in cs h) (detours ss budget) → Answers cs (detours ss budget) x [] cs
+  pub detours-answered : (table : Table) → Opened cs (Ok table) → (x : Reply) → says x ≡ decide (coding_of table.head.edition) (view_at table) (detours ss budget) → Answers cs (detours ss budget) x [] cs
   unfolding space_step_by under_any_by under_by reply out_after change_by lent
-  detours-answered h e x d = rw (← e, ← d) (refl, refl, refl)
+  detours-answered table o x d =
+      let e : Ok table.head ≡ space_header table.cells.now = rw o.0 o.1 in
+      rw (← o.0, ← e, ← d) (refl, refl, refl)

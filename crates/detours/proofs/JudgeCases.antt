@@ -1,43 +1,36 @@
 -- A law for each case of judging a goal's answers.
 use Rattle.std.specs.Prelude.{None, Option, Some}
-use Prim.Native.Nat.{ℕ, suc, ◌+◌, ◌-◌, ◌<◌, ◌≤◌}
+use Prim.Native.Nat.{ℕ, suc, ◌<◌}
 use mathlib.Core.Path.{◌≡◌, refl, sym, ap, ◌∙◌, subst}
 use mathlib.Core.Bool.{Bool, true, false, ◌&&◌, false≢true}
-use mathlib.Core.List.{List, [], ◌∷◌, ◌++◌, append_assoc, append-nil}
+use mathlib.Core.List.{List, [], ◌∷◌, ◌++◌}
 use native.Mathlib.Omega.{arith}
 use lib.Dec.{eqb}
-use lib.ListN.{length, length-append}
-use borrow.Author.Tests.{eq-eqb, ne_eqb, eqb-true, eqb-false}
+use lib.ListN.{length-append}
+use borrow.Author.Tests.{eq-eqb, eqb-true, eqb-false}
 use Rattle.basis.proofs.Cases.{by_cases}
 use Rattle.forms.specs.Cells.{atomic, integral}
-use Rattle.forms.specs.Numbering.{met}
 use Rattle.forms.specs.Stored.{stored_of}
 use Rattle.plain.specs.Words.{Word}
-use Rattle.plain.specs.Coding.{Coding, coding_of}
+use Rattle.plain.specs.Coding.{coding_of}
 use Rattle.plain.specs.Detours.{Live, offers, all_offer}
 use Rattle.space.specs.Layout.{sizes, node_in}
-use Rattle.space.specs.Judging.{answer_sound, read_node}
+use Rattle.space.specs.Judging.{read_node}
 use Rattle.space.specs.declared.Node.{Node}
 use Rattle.space.specs.Sound.{subgoal_under}
-use Rattle.space.specs.declared.Head.{Head}
 use Rattle.space.specs.declared.Subgoal.{Subgoal}
-use Rattle.space.specs.declared.Answer.{Answer}
-use Rattle.space.proofs.JudgingLaws.{node-bounds, read-node-sound, read-node-damaged, answer-bounds, read-answer-sound, follows-rises, follows-within}
+use Rattle.space.specs.declared.tables.Table.{Table}
+use Rattle.space.proofs.JudgingLaws.{node-bounds, read-node-sound, read-node-damaged}
 use Rattle.trie.specs.Siblings.{Trie, sound}
 use Rattle.trie.specs.Paths.{Path, none, tokens, below, gather}
-use Rattle.trie.specs.Ends.{answer_end}
 use Rattle.trie.specs.Runs.{trie_of, path_to}
 use Rattle.trie.specs.declared.End.{End}
 use Rattle.trie.proofs.PathLaws.{gather-unsound, gather-root, gather-other, gather-up}
 use Rattle.trie.proofs.WalkLaws.{both_true}
-use Rattle.store.specs.Clauses.{view_in}
-use Rattle.store.specs.Decisions.{Lives, severed, lives, lives_behind, lives_from, lives_of}
-use Rattle.store.proofs.CallsRecords.{reads-answer, read-answer-damaged}
 use Rattle.path_terms.specs.AlongPaths.{worth}
-use Rattle.detours.specs.Judging.{offer_form, offer_path, fit_path, fits, PathSevered, PathHeld, prepended, lives_at, Onward, AnswerJudged, variables_of, goal_fits, AnswersHeld}
-use Rattle.detours.specs.declared.Member.{Member}
+use Rattle.sides.specs.Chains.{PathHeld, all_pass, LivesHeld}
+use Rattle.detours.specs.Judging.{offer_form, offer_path, fit_path, fits, AnswersHeld}
 use Rattle.detours.proofs.OfferForms.{form-long, offered, offers-form, offer-legal}
-use Rattle.detours.proofs.LiveSteps.{lives-end}
 
 -- ---- three nodes of a path
 
@@ -211,7 +204,7 @@ module _ (cs : List ℕ) (e : End) where
 
 module _ (edition m : ℕ) where
   -- an atom and an integer, held against two terms
-  held-fit : (p : Path) → m ≡ 2 → offer_path p ≡ true → PathHeld edition p m true
+  held-fit : (p : Path) → m ≡ 2 → offer_path p ≡ true → PathHeld (fits edition m) edition p m true
   unfolding offer_path
   held-fit none e f = absurd (false≢true f)
   held-fit (tokens w) e f =
@@ -220,17 +213,8 @@ module _ (edition m : ℕ) where
       let g : offers ((coding_of edition).terms w) ≡ true = offers-form edition w l ∙ f in
       (w, refl, rw e l, rw (eq-eqb m 2 e, g) refl)
 
-  pub path-fit : (p : Path) → true ≡ fit_path m p → PathHeld edition p m true
+  pub path-fit : (p : Path) → true ≡ fit_path m p → PathHeld (fits edition m) edition p m true
   path-fit p e = let b = both_true (eqb m 2) (offer_path p) (sym e) in held-fit p (eqb-true m 2 b.0) b.1
-
-  pub path-severed : (p : Path) (n : ℕ) → n ≡ worth edition m false p → n ≡ 0 → PathSevered edition p m
-  unfolding lives_behind
-  path-severed none n e z a later = refl
-  path-severed (tokens w) n e z a severed = refl
-  path-severed (tokens w) n e z a (lives ls) =
-      by_cases ((stored_of edition).legal m w)
-      (λ l. let d : n ≡ length (met [] w) + 1 = rw l at e in absurd (omega arith))
-      (λ l. rw l refl)
 
   unfit : (w : Word) → (stored_of edition).legal m w ≡ true → false ≡ fit_path m (tokens w) → fits edition m w ≡ false
   unfolding offer_path
@@ -239,151 +223,31 @@ module _ (edition m : ℕ) where
       rw t (offers-form edition w g ∙ sym (rw t at e)))
       (λ t. rw t refl)
 
-  pub path-unfit : (p : Path) (n : ℕ) → n ≡ worth edition m false p → (n ≡ 0 → ⊥) → false ≡ fit_path m p → PathHeld edition p m false
+  pub path-unfit : (p : Path) (n : ℕ) → n ≡ worth edition m false p → (n ≡ 0 → ⊥) → false ≡ fit_path m p → PathHeld (fits edition m) edition p m false
   path-unfit none n e z f = absurd (z e)
   path-unfit (tokens w) n e z f =
       by_cases ((stored_of edition).legal m w)
       (λ l. (w, refl, l, unfit w l f))
       (λ l. let d : n ≡ 0 = rw l at e in absurd (z d))
 
--- ---- an answer
-
-behind-legal : (test : Word → Bool) (a : ℕ) (w : Word) → test w ≡ true → (later : Lives) → lives_behind test a (tokens w) later ≡ prepended (record { number = a; form = w } ∷ []) later
-unfolding lives_behind prepended
-behind-legal test a w t severed = refl
-behind-legal test a w t (lives ls) = rw t refl
-
-module _ (cs : List ℕ) (h : Head) (s a : ℕ) (z : a ≡ 0 → ⊥) where
-  pub answer-damaged : None ≡ reads-answer (view_in cs h) a → AnswerJudged cs h s a None
-  unfolding lives_from
-  answer-damaged e steps = simp (ne_eqb _ _ z, read-answer-damaged _ _ _ _ _ e)
-
-  module _ (y : Answer) (e : Some y ≡ reads-answer (view_in cs h) a) where
-    read : (y ≡ (view_in cs h).answer a) × (answer_sound h.nodes h.subgoals h.answers a ((view_in cs h).answer a) ≡ true)
-    read = read-answer-sound h.nodes h.subgoals h.answers (view_in cs h).answer a e
-
-    pub answer-other : (y.subgoal ≡ s → ⊥) → AnswerJudged cs h s a None
-    unfolding lives_from
-    answer-other o steps = simp (ne_eqb _ _ z, read.1, ne_eqb _ _ (λ x. o (ap (λ (w : Answer). w.subgoal) read.0 ∙ x)))
-
-    pub answer-leaf : y.leaf < h.nodes
-    answer-leaf =
-        let b = answer-bounds _ _ _ _ _ read.1 in
-        let f : y.leaf ≡ ((view_in cs h).answer a).leaf = ap (λ (w : Answer). w.leaf) read.0 in
-        omega arith
-
-    module _ (o : y.subgoal ≡ s) (g : Subgoal) (f : g ≡ subgoal_under cs h s) where
-      -- the answers from a on: its path before what follows
-      from-here : (steps : ℕ) → lives_at cs h s (suc steps) a
-          ≡ lives_behind ((stored_of h.edition).legal g.variables) a (path_to cs (answer_end h g y)) (lives_at cs h s steps y.next)
-      unfolding lives_from
-      from-here steps =
-          rw (f, read.0)
-          (simp (ne_eqb _ _ z, read.1, eq-eqb _ _ (ap (λ (w : Answer). w.subgoal) (sym read.0) ∙ o)))
-
-      pub answer-severed : PathSevered h.edition (path_to cs (answer_end h g y)) g.variables → AnswerJudged cs h s a None
-      answer-severed p steps = from-here steps ∙ p a (lives_at cs h s steps y.next)
-
-      pub answer-held : (b : Bool) → PathHeld h.edition (path_to cs (answer_end h g y)) g.variables b → AnswerJudged cs h s a (Some (record { next = y.next; fits = b }))
-      answer-held b p = (
-        onward,
-        (
-          p.0,
-          ap (λ (x : Subgoal). fits h.edition x.variables p.0) (sym f) ∙ p.3,
-          λ steps. from-here steps ∙ ap (λ (q : Path). lives_behind ((stored_of h.edition).legal g.variables) a q (lives_at cs h s steps y.next)) p.1
-              ∙ behind-legal ((stored_of h.edition).legal g.variables) a p.0 p.2 (lives_at cs h s steps y.next),
-        ),
-      )
-        where
-          onward : Onward h a y.next
-          onward =
-              let b = answer-bounds _ _ _ _ _ read.1 in
-              let w = follows-within (h.answers + 1) a ((view_in cs h).answer a).next (omega arith) b.next-follows in
-              let n : y.next ≡ ((view_in cs h).answer a).next = ap (λ (w : Answer). w.next) read.0 in
-              (λ k. let r = follows-rises (h.answers + 1) a ((view_in cs h).answer a).next b.next-follows (λ x. k (n ∙ x)) in omega arith, omega arith)
-
 -- ---- all answers
 
-prepended-none : (x : Lives) → x ≡ prepended [] x
-unfolding prepended
-prepended-none severed = refl
-prepended-none (lives ls) = refl
+-- the test that the closure judges by asks for two variables too
+pass-offer : (edition : ℕ) (ls : List Live) → all_pass (fits edition 2) ls ≡ all_offer (coding_of edition) ls
+unfolding all_pass all_offer
+pass-offer edition [] = refl
+pass-offer edition (l ∷ ls) = by_cases (offers ((coding_of edition).terms l.form)) (λ e. rw e (pass-offer edition ls)) (λ e. rw e refl)
 
-prepended-append : (ks ls : List Live) (x : Lives) → prepended ks (prepended ls x) ≡ prepended (ks ++ ls) x
-unfolding prepended
-prepended-append ks ls severed = refl
-prepended-append ks ls (lives ms) = ap lives (sym (append_assoc ks ls ms))
+pass-fit : (edition m : ℕ) (ls : List Live) → (eqb m 2 && all_offer (coding_of edition) ls) ≡ (eqb m 2 && all_pass (fits edition m) ls)
+pass-fit edition m ls = by_cases (eqb m 2)
+    (λ e. rw (eqb-true m 2 e) (sym (pass-offer edition ls)))
+    (λ e. rw e refl)
 
-prepended-severed : (ks : List Live) → prepended ks severed ≡ severed
-unfolding prepended
-prepended-severed ks = refl
-
-prepended-ended : (ks : List Live) → prepended ks (lives []) ≡ lives ks
-unfolding prepended
-prepended-ended ks = ap lives (append-nil ks)
-
-offer-append : (c : Coding) (ls : List Live) (l : Live) → all_offer c (ls ++ (l ∷ [])) ≡ (all_offer c ls && offers (c.terms l.form))
-unfolding all_offer
-offer-append c [] l = by_cases (offers (c.terms l.form)) (λ e. rw e refl) (λ e. rw e refl)
-offer-append c (k ∷ ls) l = by_cases (offers (c.terms k.form)) (λ e. rw e (offer-append c ls l)) (λ e. rw e refl)
-
-offer-nothing : (c : Coding) → all_offer c [] ≡ true
-unfolding all_offer
-offer-nothing c = refl
-
-and-true : (a : Bool) → (a && true) ≡ a
-and-true true = refl
-and-true false = refl
-
-and-apart : (a b c : Bool) → ((a && b) && (a && c)) ≡ (a && (b && c))
-and-apart true b c = refl
-and-apart false b c = refl
-
--- the answers before a are judged: they stand before those from a on, whose steps suffice
-pub record Passed (cs : List ℕ) (h : Head) (s a : ℕ) (b : Bool) : Type 0 where
-  pub before : List Live
-  pub steps : ℕ
-  pub rest : lives_of (coding_of h.edition) (view_in cs h) s ≡ prepended before (lives_at cs h s steps a)
-  pub fit : goal_fits cs h s before ≡ b
-  pub suffice : (a ≡ 0 → ⊥) → h.answers < steps + a
-  pub within : a ≤ h.answers
-
-module _ (cs : List ℕ) (h : Head) (s : ℕ) where
-  pub passed-begin : (g : Subgoal) (b : Bool) → g ≡ subgoal_under cs h s → g.first ≤ h.answers → b ≡ eqb g.variables 2 → Passed cs h s g.first b
-  passed-begin g b f l e = record {
-    before = [];
-    steps = h.answers;
-    rest = ap (λ (x : Subgoal). lives_at cs h s h.answers x.first) (sym f) ∙ prepended-none (lives_at cs h s h.answers g.first);
-    fit = ap (λ (x : Bool). eqb (variables_of cs h s) 2 && x) (offer-nothing (coding_of h.edition)) ∙ and-true (eqb (variables_of cs h s) 2)
-        ∙ ap (λ (x : Subgoal). eqb x.variables 2) (sym f) ∙ sym e;
-    suffice = λ z. omega arith;
-    within = l;
-  }
-
-  module _ {a : ℕ} {b : Bool} (p : Passed cs h s a b) where
-    pub passed-ended : a ≡ 0 → AnswersHeld cs h s b
-    passed-ended z =
-        (p.before, p.rest ∙ ap (prepended p.before) (lives-end (coding_of h.edition) (view_in cs h) s p.steps a z) ∙ prepended-ended p.before, p.fit)
-
-    module _ (z : a ≡ 0 → ⊥) where
-      one-step : p.steps ≡ suc (p.steps - 1)
-      one-step = let k = p.suffice z in let l = p.within in omega arith
-
-      from_step : (x : Lives) → lives_at cs h s (suc (p.steps - 1)) a ≡ x → lives_of (coding_of h.edition) (view_in cs h) s ≡ prepended p.before x
-      from_step x e = p.rest ∙ ap (λ (k : ℕ). prepended p.before (lives_at cs h s k a)) one-step ∙ ap (prepended p.before) e
-
-      pub passed-severed : AnswerJudged cs h s a None → lives_of (coding_of h.edition) (view_in cs h) s ≡ severed
-      passed-severed j = from_step severed (j (p.steps - 1)) ∙ prepended-severed p.before
-
-      pub passed_on : (m : Member) (r : Bool) → AnswerJudged cs h s a (Some m) → r ≡ (b && m.fits) → Passed cs h s m.next r
-      passed_on m r j e = record {
-        before = p.before ++ (record { number = a; form = j.1.0 } ∷ []);
-        steps = p.steps - 1;
-        rest = from_step _ (j.1.2 (p.steps - 1)) ∙ prepended-append p.before (record { number = a; form = j.1.0 } ∷ []) (lives_at cs h s (p.steps - 1) m.next);
-        fit =
-            ap (λ (x : Bool). eqb (variables_of cs h s) 2 && x) (offer-append (coding_of h.edition) p.before (record { number = a; form = j.1.0 }))
-            ∙ sym (and-apart (eqb (variables_of cs h s) 2) (all_offer (coding_of h.edition) p.before) (offers ((coding_of h.edition).terms j.1.0)))
-            ∙ rw (p.fit, j.1.1) (sym e);
-        suffice = λ k. let u = p.suffice z in let i = j.0.0 k in omega (arith, one-step);
-        within = j.0.1;
-      }
+module _ (table : Table) (s : ℕ) (g : Subgoal) (f : g ≡ subgoal_under table.cells.now table.head s) where
+  pub answers-held : (b : Bool) → LivesHeld (fits table.head.edition g.variables) table s b → AnswersHeld table s (eqb g.variables 2 && b)
+  answers-held b e = (
+    e.0,
+    e.1,
+    ap (λ (x : Subgoal). eqb x.variables 2 && all_offer (coding_of table.head.edition) e.0) (sym f) ∙ pass-fit table.head.edition g.variables e.0
+        ∙ ap (λ (x : Bool). eqb g.variables 2 && x) e.2,
+  )

@@ -1,5 +1,5 @@
 -- The answers of a goal from one on: what is known of the first of them, and those after it.
-use Prim.Native.Nat.{ℕ, zero, suc, ◌<◌}
+use Prim.Native.Nat.{ℕ, suc, ◌<◌}
 use mathlib.Core.Path.{◌≡◌, refl, sym, ap, ◌∙◌}
 use mathlib.Core.Bool.{Bool, true}
 use mathlib.Core.List.{List, [], ◌∷◌, ◌++◌}
@@ -15,6 +15,7 @@ use Rattle.trie.specs.Siblings.{Trie}
 use Rattle.trie.specs.Paths.{Path, none, tokens, gather, longest}
 use Rattle.trie.proofs.PathLaws.{Above, path-root, path-above}
 use Rattle.store.specs.Views.{View, answer_trie}
+use Rattle.sides.proofs.ChainCases.{lives-end}
 use Rattle.store.specs.Decisions.{sound_answer_of, Lives, severed, lives, lives_behind, lives_from}
 
 severed-not : {ls : List Live} → severed ≡ lives ls → ⊥
@@ -57,14 +58,6 @@ lives-begins c v s k a ls some e =
     (λ j. let g = behind-parts test a p x ls (rw j at f) in
     record { form = g.form; rest = g.rest; is = g.is; judged = j; path = g.path; legal = g.legal; later = g.later })
     (λ j. absurd (severed-not (rw j at f)))
-
-lives-zero : (c : Coding) (v : View) (s k : ℕ) → lives_from c v s k 0 ≡ lives []
-unfolding lives_from
-lives-zero c v s zero = refl
-lives-zero c v s (suc k) = refl
-
-pub lives-end : (c : Coding) (v : View) (s k a : ℕ) → a ≡ 0 → lives_from c v s k a ≡ lives []
-lives-end c v s k a z = rw z (lives-zero c v s k)
 
 lives-are : {ks ls : List Live} → lives ks ≡ lives ls → ks ≡ ls
 lives-are e = cc

@@ -9,7 +9,7 @@ use lib.Seq.{get_or-set_same, get_or-set_other}
 use Rattle.basis.specs.Choice.{pick}
 use Rattle.plain.specs.Requests.{Best}
 use Rattle.plain.specs.Detours.{Option, diverts, better, Progress, trying, tries, search}
-use Rattle.space.specs.declared.Head.{Head}
+use Rattle.space.specs.declared.tables.Table.{Table}
 use Rattle.detours.specs.Searching.{work_cells, best_from, numbers_from, diverters_from, diverters_in, best_in, progress_in, options_in, Chosen, Stays, among}
 use Rattle.detours.specs.Searching.{Keeps, option_from, going, goals_from, Searchable, Looks, Searches}
 use Rattle.detours.specs.declared.Offer.{Offer}
@@ -59,16 +59,15 @@ going_on gs os o q e = rw e refl
 
 -- ---- what may be searched
 
-module _ {cs : List ℕ} {h : Head} {goals : List ℕ} {at sum : ℕ} {work : List ℕ} (r : Searchable cs h goals at sum work) where
+module _ {table : Table} {goals : List ℕ} {at sum : ℕ} {work : List ℕ} (r : Searchable table goals at sum work) where
   -- in cells that are as many
-  pub searchable-kept : {work' : List ℕ} → length work' ≡ length work → Searchable cs h goals at sum work'
-  searchable-kept e = record { bounds = r.bounds; few = r.few; here = r.here; small = r.small; size = e ∙ r.size; searched = r.searched }
+  pub searchable-kept : {work' : List ℕ} → length work' ≡ length work → Searchable table goals at sum work'
+  searchable-kept e = record { few = r.few; here = r.here; small = r.small; size = e ∙ r.size; searched = r.searched }
 
   -- the goal after it, one choice more being made
   pub searchable-next : {work' : List ℕ} (next minutes : ℕ) → next ≡ suc at → next < length goals → minutes < 2 ^ 28 → length work' ≡ work_cells
-      → Searchable cs h goals next (sum + minutes) work'
+      → Searchable table goals next (sum + minutes) work'
   searchable-next next minutes e l m s = record {
-    bounds = r.bounds;
     few = r.few;
     here = l;
     small = omega (arith, r.small);
@@ -78,14 +77,14 @@ module _ {cs : List ℕ} {h : Head} {goals : List ℕ} {at sum : ℕ} {work : Li
 
 -- ---- one choice
 
-module _ (cs : List ℕ) (h : Head) (goals : List ℕ) (at sum : ℕ) (o : Offer) (work : List ℕ) where
+module _ (table : Table) (goals : List ℕ) (at sum : ℕ) (o : Offer) (work : List ℕ) where
   abbrev spent : List ℕ
   spent = set work 0 (get_or work 0 0 - 1)
 
-  pub look-stopped : get_or work 0 0 ≡ 0 → Looks cs h goals at sum o work work false
+  pub look-stopped : get_or work 0 0 ≡ 0 → Looks table goals at sum o work work false
   look-stopped z = record {
     stays = stays-self work at;
-    progress = λ os c. sym (trying-none (get_or work 0 0) (best_in (length goals) work) (going (goals_from cs h goals (suc at)) os (option_from o)) z);
+    progress = λ os c. sym (trying-none (get_or work 0 0) (best_in (length goals) work) (going (goals_from table goals (suc at)) os (option_from o)) z);
   }
 
   module _ (few : length goals ≤ 6) (size : length work ≡ work_cells) (some : get_or work 0 0 ≡ 0 → ⊥) where
@@ -111,12 +110,12 @@ module _ (cs : List ℕ) (h : Head) (goals : List ℕ) (at sum : ℕ) (o : Offer
     taken-told b e os c =
         diverts-among o.diverter os ∙ ap (among o.diverter) (sym (chosen-stays stays-spent c).diverters) ∙ sym e
 
-    pub look-taken : true ≡ among o.diverter (diverters_in spent at) → Looks cs h goals at sum o work spent true
+    pub look-taken : true ≡ among o.diverter (diverters_in spent at) → Looks table goals at sum o work spent true
     look-taken e = record {
       stays = stays-spent;
       progress = λ os c.
-          sym (counted (going (goals_from cs h goals (suc at)) os (option_from o))
-          ∙ going-taken (goals_from cs h goals (suc at)) os (option_from o) (progress_in (length goals) spent true) (taken-told true e os c));
+          sym (counted (going (goals_from table goals (suc at)) os (option_from o))
+          ∙ going-taken (goals_from table goals (suc at)) os (option_from o) (progress_in (length goals) spent true) (taken-told true e os c));
     }
 
     module _ (free : false ≡ among o.diverter (diverters_in spent at)) (here : at < length goals) where
@@ -162,17 +161,17 @@ module _ (cs : List ℕ) (h : Head) (goals : List ℕ) (at sum : ℕ) (o : Offer
 
       -- what is left to do after the choice is put down
       after-put : (os : List Option) → Chosen work at sum os
-          → trying (get_or work 0 0) (best_in (length goals) work) (going (goals_from cs h goals (suc at)) os (option_from o))
-          ≡ search (goals_from cs h goals (suc at)) (os ++ (option_from o ∷ [])) (progress_in (length goals) put true)
+          → trying (get_or work 0 0) (best_in (length goals) work) (going (goals_from table goals (suc at)) os (option_from o))
+          ≡ search (goals_from table goals (suc at)) (os ++ (option_from o ∷ [])) (progress_in (length goals) put true)
       after-put os c =
-          counted (going (goals_from cs h goals (suc at)) os (option_from o))
-          ∙ going_on (goals_from cs h goals (suc at)) os (option_from o) (progress_in (length goals) spent true) (taken-told false free os c)
-          ∙ ap (search (goals_from cs h goals (suc at)) (os ++ (option_from o ∷ []))) (sym progress-put)
+          counted (going (goals_from table goals (suc at)) os (option_from o))
+          ∙ going_on (goals_from table goals (suc at)) os (option_from o) (progress_in (length goals) spent true) (taken-told false free os c)
+          ∙ ap (search (goals_from table goals (suc at)) (os ++ (option_from o ∷ []))) (sym progress-put)
 
-      no-goals : suc at ≡ length goals → goals_from cs h goals (suc at) ≡ []
-      no-goals e = ap (map (options_in cs h)) (drop_of_length-le goals {i = suc at} (omega arith))
+      no-goals : suc at ≡ length goals → goals_from table goals (suc at) ≡ []
+      no-goals e = ap (map (options_in table)) (drop_of_length-le goals {i = suc at} (omega arith))
 
-      look-whole : (work' : List ℕ) → suc at ≡ length goals → Keeps put (suc at) (sum + o.minutes) work' → Looks cs h goals at sum o work work' true
+      look-whole : (work' : List ℕ) → suc at ≡ length goals → Keeps put (suc at) (sum + o.minutes) work' → Looks table goals at sum o work work' true
       look-whole work' e k = record {
         stays = stays_then stays_put (stays-fewer k.stays);
         progress = λ os c.
@@ -184,7 +183,7 @@ module _ (cs : List ℕ) (h : Head) (goals : List ℕ) (at sum : ℕ) (o : Offer
             ∙ search-all (os ++ (option_from o ∷ [])) (progress_in (length goals) put true)));
       }
 
-      look-below : (work' : List ℕ) (r : Bool) → Searches cs h goals (suc at) (sum + o.minutes) put work' r → Looks cs h goals at sum o work work' r
+      look-below : (work' : List ℕ) (r : Bool) → Searches table goals (suc at) (sum + o.minutes) put work' r → Looks table goals at sum o work work' r
       look-below work' r s = record {
         stays = stays_then stays_put (stays-fewer s.stays);
         progress = λ os c. s.progress (os ++ (option_from o ∷ [])) (chosen-put os c) ∙ sym (after-put os c);
@@ -192,8 +191,8 @@ module _ (cs : List ℕ) (h : Head) (goals : List ℕ) (at sum : ℕ) (o : Offer
 
       -- the last goal's choice is put down; or the goals after this one are searched
       module _ (next : ℕ) (is : next ≡ suc at) (work' : List ℕ) where
-        pub look-last : next ≡ length goals → Keeps put next (sum + o.minutes) work' → Looks cs h goals at sum o work work' true
+        pub look-last : next ≡ length goals → Keeps put next (sum + o.minutes) work' → Looks table goals at sum o work work' true
         look-last e k = look-whole work' (sym is ∙ e) (subst (λ (n : ℕ). Keeps put n (sum + o.minutes) work') is k)
 
-        pub look-deeper : (r : Bool) → Searches cs h goals next (sum + o.minutes) put work' r → Looks cs h goals at sum o work work' r
-        look-deeper r s = look-below work' r (subst (λ (n : ℕ). Searches cs h goals n (sum + o.minutes) put work' r) is s)
+        pub look-deeper : (r : Bool) → Searches table goals next (sum + o.minutes) put work' r → Looks table goals at sum o work work' r
+        look-deeper r s = look-below work' r (subst (λ (n : ℕ). Searches table goals n (sum + o.minutes) put work' r) is s)

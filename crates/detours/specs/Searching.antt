@@ -9,10 +9,10 @@ use Rattle.plain.specs.Requests.{Best, none_found, found}
 use Rattle.plain.specs.Detours.{Live, Option, diverts, total_of, numbers_in, better, Progress, trying, search}
 use Rattle.plain.specs.Detours.{all_offer, option_of}
 use Rattle.space.specs.Layout.{sizes, node_in}
-use Rattle.space.specs.Sound.{Bounds, NodesIn, subgoal_under}
-use Rattle.space.specs.declared.Head.{Head}
+use Rattle.space.specs.Sound.{subgoal_under}
+use Rattle.space.specs.declared.tables.Table.{Table}
 use Rattle.store.specs.Decisions.{Lives, severed, lives, lives_of}
-use Rattle.store.specs.Clauses.{view_in}
+use Rattle.store.specs.Clauses.{view_at}
 use Rattle.detours.specs.declared.Offer.{Offer}
 
 -- ---- the goals
@@ -22,21 +22,21 @@ lives_in severed = []
 lives_in (lives ls) = ls
 
 -- the answers of subgoal s, where none is damaged
-abbrev pub answers_in : List ℕ → Head → ℕ → List Live
-answers_in cs h s = lives_in (lives_of (coding_of h.edition) (view_in cs h) s)
+abbrev pub answers_in : Table → ℕ → List Live
+answers_in t s = lives_in (lives_of (coding_of t.head.edition) (view_at t) s)
 
 -- what they offer
-abbrev pub options_in : List ℕ → Head → ℕ → List Option
-options_in cs h s = map (option_of (coding_of h.edition)) (answers_in cs h s)
+abbrev pub options_in : Table → ℕ → List Option
+options_in t s = map (option_of (coding_of t.head.edition)) (answers_in t s)
 
 -- a subgoal of two variables whose answers are sound, each an atom and an integer
-pub record Searched (cs : List ℕ) (h : Head) (s : ℕ) : Type 0 where
+pub record Searched (t : Table) (s : ℕ) : Type 0 where
   pub low : 1 ≤ s
-  pub high : s ≤ h.subgoals
-  pub two : (subgoal_under cs h s).variables ≡ 2
-  pub first-within : (subgoal_under cs h s).first ≤ h.answers
-  pub sound : lives_of (coding_of h.edition) (view_in cs h) s ≡ lives (answers_in cs h s)
-  pub fit : all_offer (coding_of h.edition) (answers_in cs h s) ≡ true
+  pub high : s ≤ t.head.subgoals
+  pub two : (subgoal_under t.cells.now t.head s).variables ≡ 2
+  pub first-within : (subgoal_under t.cells.now t.head s).first ≤ t.head.answers
+  pub sound : lives_of (coding_of t.head.edition) (view_at t) s ≡ lives (answers_in t s)
+  pub fit : all_offer (coding_of t.head.edition) (answers_in t s) ≡ true
 
 -- ---- the cells that the search works in
 
@@ -117,16 +117,16 @@ pub record Keeps (work : List ℕ) (n total : ℕ) (work' : List ℕ) : Type 0 w
 -- ---- one choice
 
 -- the nodes of an answer's path: its leaf and the one above it
-abbrev pub Readable : List ℕ → ℕ → ℕ → ℕ → Type 0
-Readable cs nodes a leaf =
-    NodesIn cs nodes × (leaf < nodes) × ((node_in sizes cs leaf).parent < nodes) × (a < 2 ^ 32)
+abbrev pub Readable : Table → ℕ → ℕ → Type 0
+Readable t a leaf =
+    (leaf < t.head.nodes) × ((node_in sizes t.cells.now leaf).parent < t.head.nodes) × (a ≤ t.head.answers)
 
-abbrev pub offer_at : List ℕ → ℕ → ℕ → Offer
-offer_at cs a leaf =
-    let last = node_in sizes cs leaf in
+abbrev pub offer_at : Table → ℕ → ℕ → Offer
+offer_at t a leaf =
+    let last = node_in sizes t.cells.now leaf in
     record {
       number = a;
-      diverter = (node_in sizes cs last.parent).token;
+      diverter = (node_in sizes t.cells.now last.parent).token;
       minutes = payload last.token;
     }
 
@@ -144,31 +144,30 @@ going gs os o q = pick (diverts o.diverter os) q (search gs (os ++ (o ∷ [])) q
 -- ---- the search
 
 -- the goals from a place on
-abbrev pub goals_from : List ℕ → Head → List ℕ → ℕ → List (List Option)
-goals_from cs h goals at = map (options_in cs h) (drop at goals)
+abbrev pub goals_from : Table → List ℕ → ℕ → List (List Option)
+goals_from t goals at = map (options_in t) (drop at goals)
 
 -- the goal at a place may be searched, where the minutes chosen for those before it are a sum
-pub record Searchable (cs : List ℕ) (h : Head) (goals : List ℕ) (at sum : ℕ) (work : List ℕ) : Type 0 where
-  pub bounds : Bounds cs h
+pub record Searchable (t : Table) (goals : List ℕ) (at sum : ℕ) (work : List ℕ) : Type 0 where
   pub few : length goals ≤ 6
   pub here : at < length goals
   pub small : sum ≤ at * 2 ^ 28
   pub size : length work ≡ work_cells
-  pub searched : (i : ℕ) → i < length goals → Searched cs h (get_or goals i 0)
+  pub searched : (i : ℕ) → i < length goals → Searched t (get_or goals i 0)
 
 -- one choice leaves the progress of trying it, whatever is chosen before it
-pub record Looks (cs : List ℕ) (h : Head) (goals : List ℕ) (at sum : ℕ) (o : Offer) (work work' : List ℕ) (r : Bool)
+pub record Looks (t : Table) (goals : List ℕ) (at sum : ℕ) (o : Offer) (work work' : List ℕ) (r : Bool)
     : Type 0 where
   pub stays : Stays work at work'
   pub progress : (os : List Option) → Chosen work at sum os
       → progress_in (length goals) work' r
       ≡ trying (get_or work 0 0) (best_in (length goals) work)
-      (going (goals_from cs h goals (suc at)) os (option_from o))
+      (going (goals_from t goals (suc at)) os (option_from o))
 
 -- and so does the search from a goal on
-pub record Searches (cs : List ℕ) (h : Head) (goals : List ℕ) (at sum : ℕ) (work work' : List ℕ) (r : Bool)
+pub record Searches (t : Table) (goals : List ℕ) (at sum : ℕ) (work work' : List ℕ) (r : Bool)
     : Type 0 where
   pub stays : Stays work at work'
   pub progress : (os : List Option) → Chosen work at sum os
       → progress_in (length goals) work' r
-      ≡ search (goals_from cs h goals at) os (progress_in (length goals) work true)
+      ≡ search (goals_from t goals at) os (progress_in (length goals) work true)

@@ -1,22 +1,23 @@
 // The goals judged, each as a join's source is, and whether its answers are an atom and an integer.
 ghost use Rattle.std.specs.Prelude.{◌≡◌, true, ◌&&◌, ◌||◌, ◌≤◌};
 ghost use Rattle.plain.specs.Detours.{all_within};
-ghost use Rattle.space.specs.Sound.{Bounds, SubgoalUsed};
+ghost use Rattle.space.specs.Sound.{subgoal_under};
 ghost use Rattle.trie.specs.Runs.{Ends, path_to};
-ghost use Rattle.store.specs.Clauses.{Held};
-ghost use Rattle.detours.specs.Judging.{offer_path, fit_path, PathJudged, AnswerJudged, AnswersJudged};
+ghost use Rattle.sides.specs.Chains.{PathJudged};
+ghost use Rattle.detours.specs.Judging.{offer_path, fit_path, fits, AnswersJudged};
 ghost use Rattle.detours.specs.Judging.{GoalTold, ruled, GoalsTold};
 
-use super::{GoalJudged, Member};
+use super::GoalJudged;
 use basis::limits::MOST_GOALS;
 use basis::refusals::Refusal;
 use basis::wide;
 use forms::{is_atom, is_integer};
 use path_terms::path_worth;
-use space::records::{read_answer, read_rising_node, read_subgoal};
-use space::{Head, Subgoal};
+use sides::chains::judge_all;
+use space::Subgoal;
+use space::records::read_rising_node;
+use space::tables::Table;
 use trie::End;
-use trie::ends::answer_end;
 
 // Is the path an atom and an integer? Three nodes tell.
 fn is_offer(space: &[u32], end: End) -> bool
@@ -56,7 +57,7 @@ fn is_fit(space: &[u32], end: End, m: usize) -> bool
 // nothing else is to be read of it.
 fn judge_path(space: &[u32], end: End, m: usize, edition: u32) -> Option<bool>
     requires { Ends space.now end }
-    ensures { PathJudged edition (path_to space.now end) m result }
+    ensures { PathJudged (fits edition m) edition (path_to space.now end) m result }
 {
     if is_fit(space, end, m) {
         return Some(true);
@@ -67,44 +68,24 @@ fn judge_path(space: &[u32], end: End, m: usize, edition: u32) -> Option<bool>
     Some(false)
 }
 
-// Answer a, which is to be the subgoal's; nothing where it is damaged.
-fn judge_answer(space: &[u32], h: Head, s: usize, g: Subgoal, a: usize) -> Option<Member>
-    requires { Held space.now h s g × (1 ≤ a) × (a ≤ h.answers) }
-    ensures { AnswerJudged space.now h s a result }
+// Do all answers of subgoal s fit, whose record is g? Nothing where one is damaged.
+fn judge_answers(table: &Table, s: usize, g: Subgoal) -> Option<bool>
+    requires is { g ≡ subgoal_under table.now.cells.now table.now.head s }
+    requires first_le_answers { g.first ≤ table.now.head.answers }
+    ensures { AnswersJudged table.now s result }
 {
-    let y = read_answer(space, h, a)?;
-    if y.subgoal != s {
-        return None;
-    }
-    let end = answer_end(h, g, y);
-    let fits = judge_path(space, end, g.variables, h.edition)?;
-    Some(Member { next: y.next, fits })
-}
-
-// Do all answers of subgoal s fit, whose record is g? Nothing where one is damaged: those after one that does not fit
-// are judged too.
-fn judge_answers(space: &[u32], h: Head, s: usize, g: Subgoal) -> Option<bool>
-    requires held { Held space.now h s g }
-    requires first_le_answers { g.first ≤ h.answers }
-    ensures { AnswersJudged space.now h s result }
-{
-    let mut a = g.first;
-    let mut fit = g.variables == 2;
-    while a != 0 {
-        let member = judge_answer(space, h, s, g, a)?;
-        fit &= member.fits;
-        a = member.next;
-    }
-    Some(fit)
+    let fitting = |end| judge_path(table.cells, end, g.variables, table.head.edition);
+    let all = judge_all(table, s, g, fitting)?;
+    Some(g.variables == 2 && all)
 }
 
 // Subgoal s as a goal: its record, then its answers; nothing where one is damaged.
-fn judge_goal(space: &[u32], h: Head, s: usize) -> Option<GoalJudged>
-    requires { SubgoalUsed space.now h s }
-    ensures { GoalTold space.now h s result }
+fn judge_goal(table: &Table, s: usize) -> Option<GoalJudged>
+    requires { (1 ≤ s) × (s ≤ table.now.head.subgoals) }
+    ensures { GoalTold table.now s result }
 {
-    let g = read_subgoal(space, h, s)?;
-    let fits = judge_answers(space, h, s, g)?;
+    let g = table.read_subgoal(s)?;
+    let fits = judge_answers(table, s, g)?;
     Some(GoalJudged {
         is_open: g.state == 0,
         fits,
@@ -138,14 +119,14 @@ pub fn are_numbers(subgoals: usize, goals: &[u32]) -> bool
 }
 
 // Judges goals that are numbers of subgoals. What is damaged comes before all else, so every goal is judged.
-pub fn judge_goals(space: &[u32], h: Head, goals: &[u32]) -> Result<(), Refusal>
-    requires { Bounds space.now h × (all_within h.subgoals goals.now ≡ true) }
-    ensures { GoalsTold space.now h goals.now result }
+pub fn judge_goals(table: &Table, goals: &[u32]) -> Result<(), Refusal>
+    requires { all_within table.now.head.subgoals goals.now ≡ true }
+    ensures { GoalsTold table.now goals.now result }
 {
     let mut opened = false;
     let mut fit = true;
     for goal in goals {
-        let judged = judge_goal(space, h, wide(*goal)).ok_or(Refusal::Records)?;
+        let judged = judge_goal(table, wide(*goal)).ok_or(Refusal::Records)?;
         opened |= judged.is_open;
         fit &= judged.fits;
     }

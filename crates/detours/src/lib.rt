@@ -8,7 +8,6 @@ pub mod searching;
 ghost use Rattle.std.specs.Prelude.{◌≡◌, [], Ok};
 ghost use Rattle.plain.specs.Requests.{detours, detoured};
 ghost use Rattle.plain.specs.Detours.{detour};
-ghost use Rattle.space.specs.Sound.{Bounds};
 ghost use Rattle.store.specs.Calls.{Answers};
 ghost use Rattle.store.specs.Replies.{said_detours};
 ghost use Rattle.detours.specs.Searching.{goals_from};
@@ -19,8 +18,7 @@ use basis::limits::MOST_GOALS;
 use basis::refusals::Refusal;
 use judging::{are_numbers, judge_goals};
 use searching::{LEFT, NO_TOTAL, TOTAL, WORK_CELLS, search};
-use space::Head;
-use space::heading::read_header;
+use space::tables::Table;
 use store::{Detour, Outcome};
 
 // What an answer of a goal offers.
@@ -31,14 +29,6 @@ pub struct Offer {
     // Its diverter, as a cell.
     pub diverter: u32,
     pub minutes: u32,
-}
-
-// One answer of a goal, which was found sound: the number of the next one, and whether it fits: two terms, an atom and
-// an integer.
-#[derive(Clone, Copy)]
-pub struct Member {
-    pub next: usize,
-    pub fits: bool,
 }
 
 // A goal none of whose records is damaged.
@@ -69,33 +59,32 @@ fn outcome_in(work: &[u32; WORK_CELLS], n: usize, budget: u32, ended: bool) -> D
 }
 
 // The search over goals that may be searched.
-fn search_goals(space: &[u32], h: Head, goals: &[u32], budget: u32) -> Detour
-    requires { Bounds space.now h × Ready space.now h goals.now }
-    ensures { said_detours (Ok result) ≡ detoured (detour (goals_from space.now h goals.now 0) budget) }
+fn search_goals(table: &Table, goals: &[u32], budget: u32) -> Detour
+    requires { Ready table.now goals.now }
+    ensures { said_detours (Ok result) ≡ detoured (detour (goals_from table.now goals.now 0) budget) }
 {
     let mut work = [0u32; WORK_CELLS];
     work[LEFT] = budget;
     work[TOTAL] = NO_TOTAL;
-    let ended = search(space, h, goals, 0, 0, &mut work);
+    let ended = search(table, goals, 0, 0, &mut work);
     outcome_in(&work, goals.len(), budget, ended)
 }
 
 // Detours, under a sound header.
-fn detours_in(space: &[u32], h: Head, goals: &[u32], budget: u32) -> Result<Detour, Refusal>
-    requires { Bounds space.now h }
-    ensures { Decides space.now h goals.now budget result }
+fn detours_in(table: &Table, goals: &[u32], budget: u32) -> Result<Detour, Refusal>
+    ensures { Decides table.now goals.now budget result }
 {
-    if !are_numbers(h.subgoals, goals) {
+    if !are_numbers(table.head.subgoals, goals) {
         return Err(Refusal::Number);
     }
-    judge_goals(space, h, goals)?;
-    Ok(search_goals(space, h, goals, budget))
+    judge_goals(table, goals)?;
+    Ok(search_goals(table, goals, budget))
 }
 
 // One answer for each goal, no diverter twice, least total, within a budget of choices tried.
 pub fn detours(space: &[u32], goals: &[u32], budget: u32) -> Result<Detour, Refusal>
     ensures { Answers space.now (detours goals.now budget) (said_detours result) [] space.now }
 {
-    let h = read_header(space)?;
-    detours_in(space, h, goals, budget)
+    let table = Table::open(space)?;
+    detours_in(&table, goals, budget)
 }

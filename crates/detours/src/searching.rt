@@ -15,8 +15,7 @@ use super::Offer;
 use basis::limits::MOST_GOALS;
 use basis::wide;
 use forms::payload_of;
-use space::Head;
-use space::records::{answer_in, node_in, subgoal_in};
+use space::tables::Table;
 
 pub const LEFT: usize = 0;
 
@@ -60,12 +59,12 @@ fn keep(work: &mut [u32; WORK_CELLS], n: usize, total: u32)
 }
 
 // What answer a offers, by its leaf: the minutes stand there, the diverter above it.
-fn offer_in(space: &[u32], nodes: usize, a: usize, leaf: usize) -> Offer
-    requires { Readable space.now nodes a leaf }
-    ensures { result ≡ offer_at space.now a leaf }
+fn offer_in(table: &Table, a: usize, leaf: usize) -> Offer
+    requires { Readable table.now a leaf }
+    ensures { result ≡ offer_at table.now a leaf }
 {
-    let last = node_in(space, nodes, leaf);
-    let first = node_in(space, nodes, last.parent);
+    let last = table.node(leaf);
+    let first = table.node(last.parent);
     Offer {
         number: a as u32,
         diverter: first.token,
@@ -77,16 +76,15 @@ fn offer_in(space: &[u32], nodes: usize, a: usize, leaf: usize) -> Offer
 // after it may not.
 #[cycle(search_try_offer)]
 fn try_offer(
-    space: &[u32],
-    h: Head,
+    table: &Table,
     goals: &[u32],
     at: usize,
     sum: u32,
     offer: Offer,
     work: &mut [u32; WORK_CELLS],
 ) -> bool
-    requires { Searchable space.now h goals.now at sum work.old × Lookable offer }
-    ensures { Looks space.now h goals.now at sum offer work.old work.new result }
+    requires { Searchable table.now goals.now at sum work.old × Lookable offer }
+    ensures { Looks table.now goals.now at sum offer work.old work.new result }
 {
     if work[LEFT] == 0 {
         return false;
@@ -102,28 +100,27 @@ fn try_offer(
         keep(work, at + 1, total);
         return true;
     }
-    search(space, h, goals, at + 1, total, work)
+    search(table, goals, at + 1, total, work)
 }
 
 // The choices for the goal at a place and for those after it. False where the budget ended the search.
 #[cycle(search_try_offer)]
 pub fn search(
-    space: &[u32],
-    h: Head,
+    table: &Table,
     goals: &[u32],
     at: usize,
     sum: u32,
     work: &mut [u32; WORK_CELLS],
 ) -> bool
-    requires { Searchable space.now h goals.now at sum work.old }
-    ensures { Searches space.now h goals.now at sum work.old work.new result }
+    requires { Searchable table.now goals.now at sum work.old }
+    ensures { Searches table.now goals.now at sum work.old work.new result }
 {
-    let g = subgoal_in(space, h, wide(goals[at]));
+    let g = table.subgoal(wide(goals[at]));
     let mut a = g.first;
     while a != 0 {
-        let y = answer_in(space, h, a);
-        let offer = offer_in(space, h.nodes, a, y.leaf);
-        if !try_offer(space, h, goals, at, sum, offer, work) {
+        let y = table.answer(a);
+        let offer = offer_in(table, a, y.leaf);
+        if !try_offer(table, goals, at, sum, offer, work) {
             return false;
         }
         a = y.next;

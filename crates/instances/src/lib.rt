@@ -22,9 +22,7 @@ ghost use Rattle.instances.specs.Instances.{
 };
 
 use basis::limits::MOST_VARIABLES;
-use convert::buffers::{
-    FEW_TOKENS, SOME_TOKENS, TERMS_OF_FEW, TERMS_OF_MOST, TERMS_OF_SOME, tokens_rung,
-};
+use convert::buffers::with_terms;
 use forms::{arguments_of, due_after, is_variable, payload_of};
 
 // A term for each variable of the subgoal: where each starts, and the end of the last.
@@ -172,27 +170,20 @@ fn instance_beside(
     requires { RoomForTerms form.now terms.old }
     ensures { InstancesOf form.now path.now m edition out.old result out.new }
 {
-    if tokens_rung(path.len()) <= FEW_TOKENS {
-        let mut cells = [0u32; TERMS_OF_FEW];
-        return instance_with(&path[..], &form[..], m, &mut cells, terms, out, edition);
-    }
-    let mut cells = [0u32; TERMS_OF_MOST];
-    instance_with(&path[..], &form[..], m, &mut cells, terms, out, edition)
+    let mut instance = |cells: &mut [u32]|
+        requires { RoomForTerms path.now cells.now × RoomForTerms form.now terms.now }
+        ensures { InstancesOf form.entry.now path.entry.now m edition out.entry.now result out.exit.now }
+    { instance_with(&path[..], &form[..], m, cells, terms, out, edition) };
+    with_terms(path.len(), &mut instance)
 }
 
 // The same with buffers of its own for both.
 pub fn instance_path(path: &[u32], form: &[u32], m: usize, out: &mut [u32], edition: u32) -> usize
     ensures { InstancesOf form.now path.now m edition out.old result out.new }
 {
-    let rung = tokens_rung(form.len());
-    if rung <= FEW_TOKENS {
-        let mut terms = [0u32; TERMS_OF_FEW];
-        return instance_beside(&path[..], &form[..], m, &mut terms, out, edition);
-    }
-    if rung <= SOME_TOKENS {
-        let mut terms = [0u32; TERMS_OF_SOME];
-        return instance_beside(&path[..], &form[..], m, &mut terms, out, edition);
-    }
-    let mut terms = [0u32; TERMS_OF_MOST];
-    instance_beside(&path[..], &form[..], m, &mut terms, out, edition)
+    let mut instance = |terms: &mut [u32]|
+        requires { RoomForTerms form.now terms.now }
+        ensures { InstancesOf form.entry.now path.entry.now m edition out.entry.now result out.exit.now }
+    { instance_beside(&path[..], &form[..], m, terms, out, edition) };
+    with_terms(form.len(), &mut instance)
 }

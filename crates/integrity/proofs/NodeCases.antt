@@ -3,7 +3,6 @@ use Rattle.std.specs.Prelude.{None, Option, Some}
 use Prim.Native.Nat.{ℕ, ◌+◌, ◌<◌, ◌≤◌}
 use mathlib.Core.Path.{◌≡◌, refl}
 use mathlib.Core.Bool.{true, false, ◌&&◌}
-use mathlib.Core.List.{List}
 use native.Mathlib.Omega.{arith}
 use lib.Dec.{eqb}
 use borrow.Author.Tests.{eq-eqb, ne_eqb}
@@ -11,14 +10,13 @@ use Rattle.basis.proofs.Tests.{strictly}
 use Rattle.basis.specs.Choice.{pick}
 use Rattle.plain.specs.Coding.{Coding, coding_of}
 use Rattle.space.specs.Layout.{sizes, node_in}
-use Rattle.space.specs.Sound.{Bounds}
 use Rattle.space.specs.Judging.{read_node}
-use Rattle.space.specs.declared.Head.{Head}
+use Rattle.space.specs.declared.tables.Table.{Table}
 use Rattle.space.specs.declared.Node.{Node}
 use Rattle.space.proofs.JudgingLaws.{node-bounds, node-sound, follows-within, read-node-sound, read-node-damaged}
 use Rattle.trie.specs.Siblings.{sound, parent_is}
 use Rattle.store.specs.Views.{View}
-use Rattle.store.specs.Clauses.{view_in}
+use Rattle.store.specs.Clauses.{view_at}
 use Rattle.agreement.specs.Whole.{all_nodes, root_whole, child_whole, link_whole, node_whole}
 use Rattle.agreement.proofs.WholeTests.{node-local, every-below}
 use Rattle.integrity.specs.Tests.{subgoal_ends, answer_ends, leads_back, node_test, NodesWhole, NodeOfNumber, ChildOfNumber, tries_in}
@@ -54,38 +52,38 @@ module _ (c : Coding) (v : View) (i : ℕ) where
 
 -- ---- under a head: a node that was read and found sound, where those before it are whole
 
-module _ (cs : List ℕ) (h : Head) (i : ℕ) where
+module _ (t : Table) (i : ℕ) where
   abbrev Reads : Option Node → Type 0
-  Reads r = r ≡ read_node h.nodes (h.subgoals + h.answers) (node_in sizes cs) i
+  Reads r = r ≡ read_node t.head.nodes (t.head.subgoals + t.head.answers) (node_in sizes t.cells.now) i
 
-  pub node-damaged : Reads None → false ≡ node_test cs h i
-  node-damaged e = node-unsound (coding_of h.edition) (view_in cs h) i (read-node-damaged _ _ _ _ e)
+  pub node-damaged : Reads None → false ≡ node_test t i
+  node-damaged e = node-unsound (coding_of t.head.edition) (view_at t) i (read-node-damaged _ _ _ _ e)
 
   module _ (y : Node) (e : Reads (Some y)) where
-    pub read_is : y ≡ node_in sizes cs i
-    read_is = (read-node-sound h.nodes (h.subgoals + h.answers) (node_in sizes cs) i e).0
+    pub read_is : y ≡ node_in sizes t.cells.now i
+    read_is = (read-node-sound t.head.nodes (t.head.subgoals + t.head.answers) (node_in sizes t.cells.now) i e).0
 
-    pub read-sound : sound (tries_in cs h) i ≡ true
-    read-sound = (read-node-sound h.nodes (h.subgoals + h.answers) (node_in sizes cs) i e).1
+    pub read-sound : sound (tries_in t) i ≡ true
+    read-sound = (read-node-sound t.head.nodes (t.head.subgoals + t.head.answers) (node_in sizes t.cells.now) i e).1
 
-    module _ (b : Bounds cs h) (l : i < h.nodes) where
-      pub child-within : y.child < h.nodes
+    module _ (l : i < t.head.nodes) where
+      pub child-within : y.child < t.head.nodes
       child-within =
           let d = node-bounds _ _ _ _ read-sound in
-          rw read_is (follows-within h.nodes i _ (omega arith) d.child-follows)
+          rw read_is (follows-within t.head.nodes i _ (omega arith) d.child-follows)
 
-      sibling-within : y.sibling < h.nodes
+      sibling-within : y.sibling < t.head.nodes
       sibling-within =
           let d = node-bounds _ _ _ _ read-sound in
-          rw read_is (follows-within h.nodes i _ (omega arith) d.sibling-follows)
+          rw read_is (follows-within t.head.nodes i _ (omega arith) d.sibling-follows)
 
       parent-most : y.parent ≤ i
       parent-most = let d = node-bounds _ _ _ _ read-sound in rw read_is d.parent-most
 
-      pub read-node-of : NodeOfNumber cs h i y
-      read-node-of = (b, l, read_is)
+      pub read-node-of : NodeOfNumber t i y
+      read-node-of = (l, read_is)
 
-      pub read-child-of : NodesWhole cs h i → (y.parent ≡ i → ⊥) → ChildOfNumber cs h i y
+      pub read-child-of : NodesWhole t i → (y.parent ≡ i → ⊥) → ChildOfNumber t i y
       read-child-of w o =
           let p : y.parent < i = strictly y.parent i parent-most o in
-          (read-node-of, sibling-within, omega (arith, p), whole-sound (coding_of h.edition) (view_in cs h) y.parent (every-below (node_test cs h) i w y.parent p))
+          (read-node-of, sibling-within, omega (arith, p), whole-sound (coding_of t.head.edition) (view_at t) y.parent (every-below (node_test t) i w y.parent p))

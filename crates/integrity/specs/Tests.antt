@@ -6,14 +6,14 @@ use Rattle.forms.specs.Numbering.{met}
 use Rattle.plain.specs.Words.{Word}
 use Rattle.plain.specs.Coding.{Coding, predicate, coding_of}
 use Rattle.space.specs.Layout.{sizes, node_in}
-use Rattle.space.specs.Sound.{Bounds, SubgoalUsed, subgoal_under, answer_under}
-use Rattle.space.specs.declared.Head.{Head}
+use Rattle.space.specs.Sound.{subgoal_under, answer_under}
+use Rattle.space.specs.declared.tables.Table.{Table}
 use Rattle.space.specs.declared.Node.{Node}
 use Rattle.space.specs.declared.Subgoal.{Subgoal}
 use Rattle.space.specs.declared.Answer.{Answer}
 use Rattle.trie.specs.Siblings.{Trie, trie_in, sound}
 use Rattle.store.specs.Views.{View}
-use Rattle.store.specs.Clauses.{view_in}
+use Rattle.store.specs.Clauses.{view_at}
 use Rattle.agreement.specs.Whole.{every_below, first_leaf, node_whole, subgoal_whole, answer_whole, chain, chains}
 use Rattle.agreement.specs.Faults.{Fault, first_failing, nothing, heading, node, subgoal, answer}
 use Rattle.agreement.specs.Faults.{among, chained, answer_lost}
@@ -94,15 +94,15 @@ module _ (v : View) where
 
 -- ---- under a head
 
-module _ (cs : List ℕ) (h : Head) where
+module _ (t : Table) where
   abbrev pub node_test : ℕ → Bool
-  node_test = node_whole (coding_of h.edition) (view_in cs h)
+  node_test = node_whole (coding_of t.head.edition) (view_at t)
 
   abbrev pub subgoal_test : ℕ → Bool
-  subgoal_test = subgoal_whole (coding_of h.edition) (view_in cs h)
+  subgoal_test = subgoal_whole (coding_of t.head.edition) (view_at t)
 
   abbrev pub answer_test : ℕ → Bool
-  answer_test = answer_whole (coding_of h.edition) (view_in cs h)
+  answer_test = answer_whole (coding_of t.head.edition) (view_at t)
 
   -- the first n records of a kind are whole
   abbrev pub NodesWhole : ℕ → Type 0
@@ -116,19 +116,19 @@ module _ (cs : List ℕ) (h : Head) where
 
   -- all records of these kinds are
   abbrev pub ChainsWhole : Type 0
-  ChainsWhole = Bounds cs h × SubgoalsWhole h.subgoals × AnswersWhole h.answers
+  ChainsWhole = SubgoalsWhole t.head.subgoals × AnswersWhole t.head.answers
 
   -- and a chain starts with an answer, or with none
   abbrev pub ChainStarts : ℕ → Type 0
-  ChainStarts first = ChainsWhole × (first ≤ h.answers)
+  ChainStarts first = ChainsWhole × (first ≤ t.head.answers)
 
   -- the chain from an answer on
   abbrev pub answers_from : ℕ → List ℕ
-  answers_from first = chain (coding_of h.edition) (view_in cs h) h.answers first
+  answers_from first = chain (coding_of t.head.edition) (view_at t) t.head.answers first
 
   -- how many answers are on it: no more than there are
   abbrev pub ChainCounted : ℕ → ℕ → Type 0
-  ChainCounted first n = (n ≡ length (answers_from first)) × (n ≤ h.answers)
+  ChainCounted first n = (n ≡ length (answers_from first)) × (n ≤ t.head.answers)
 
   -- whether a is on it
   abbrev pub ChainSearched : ℕ → ℕ → Bool → Type 0
@@ -136,10 +136,10 @@ module _ (cs : List ℕ) (h : Head) where
 
   -- how many are on the chains of all subgoals
   abbrev pub chained_count : ℕ
-  chained_count = length (chains (coding_of h.edition) (view_in cs h) h.subgoals)
+  chained_count = length (chains (coding_of t.head.edition) (view_at t) t.head.subgoals)
 
   abbrev pub chained_in : ℕ → Bool
-  chained_in = chained (coding_of h.edition) (view_in cs h)
+  chained_in = chained (coding_of t.head.edition) (view_at t)
 
   abbrev pub AllChained : ℕ → Type 0
   AllChained n = every_below (λ i. chained_in (suc i)) n ≡ true
@@ -147,42 +147,38 @@ module _ (cs : List ℕ) (h : Head) where
   -- what is broken where each record by itself is whole
   unfoldable pub chains_fault : Fault
   chains_fault =
-      pick (eqb chained_count h.answers) nothing (answer (suc (answer_lost (coding_of h.edition) (view_in cs h))))
+      pick (eqb chained_count t.head.answers) nothing (answer (suc (answer_lost (coding_of t.head.edition) (view_at t))))
 
   -- the nodes of all tries
   abbrev pub tries_in : Trie
-  tries_in = trie_in sizes cs h.nodes (h.subgoals + h.answers)
-
-  -- a number that a record can have
-  abbrev pub RecordNumber : ℕ → Type 0
-  RecordNumber k = Bounds cs h × (1 ≤ k)
+  tries_in = trie_in sizes t.cells.now t.head.nodes (t.head.subgoals + t.head.answers)
 
   -- node i, where all nodes are whole
   abbrev pub NodeAmongWhole : ℕ → Type 0
-  NodeAmongWhole i = Bounds cs h × NodesWhole h.nodes × (i < h.nodes)
+  NodeAmongWhole i = NodesWhole t.head.nodes × (i < t.head.nodes)
 
   -- where first children lead from it
   abbrev pub LeafReached : ℕ → ℕ → Type 0
-  LeafReached i r = (r ≡ first_leaf (view_in cs h).node h.nodes i) × (r < h.nodes)
+  LeafReached i r = (r ≡ first_leaf (view_at t).node t.head.nodes i) × (r < t.head.nodes)
 
   -- a subgoal's number, where all nodes are whole
   abbrev pub SubgoalAmongWhole : ℕ → Type 0
-  SubgoalAmongWhole s = SubgoalUsed cs h s × NodesWhole h.nodes
+  SubgoalAmongWhole s = (1 ≤ s) × (s ≤ t.head.subgoals) × NodesWhole t.head.nodes
 
   -- a record that was read under its number
   abbrev pub NodeOfNumber : ℕ → Node → Type 0
-  NodeOfNumber i y = Bounds cs h × (i < h.nodes) × (y ≡ node_in sizes cs i)
+  NodeOfNumber i y = (i < t.head.nodes) × (y ≡ node_in sizes t.cells.now i)
 
   -- below another node, which is sound
   abbrev pub ChildOfNumber : ℕ → Node → Type 0
   ChildOfNumber i y =
-      NodeOfNumber i y × (y.sibling < h.nodes) × (y.parent < h.nodes) × (sound tries_in y.parent ≡ true)
+      NodeOfNumber i y × (y.sibling < t.head.nodes) × (y.parent < t.head.nodes) × (sound tries_in y.parent ≡ true)
 
   abbrev pub SubgoalOfNumber : ℕ → Subgoal → Type 0
-  SubgoalOfNumber s g = Bounds cs h × (g ≡ subgoal_under cs h s)
+  SubgoalOfNumber s g = (g ≡ subgoal_under t.cells.now t.head s)
 
   abbrev pub AnswerOfNumber : ℕ → Answer → Type 0
-  AnswerOfNumber a y = Bounds cs h × (y ≡ answer_under cs h a)
+  AnswerOfNumber a y = (y ≡ answer_under t.cells.now t.head a)
 
 -- ---- a pass over records, by a closure that tests them
 

@@ -2,22 +2,21 @@
 // a subgoal they must lead to a subgoal that is no later.
 ghost use Rattle.std.specs.Prelude.{◌≡◌};
 ghost use Rattle.plain.specs.Coding.{coding_of};
-ghost use Rattle.store.specs.Clauses.{view_in};
+ghost use Rattle.store.specs.Clauses.{view_at};
 ghost use Rattle.agreement.specs.Whole.{led_up};
 ghost use Rattle.integrity.specs.Tests.{NodeAmongWhole, LeafReached};
 
 use basis::limits::MOST_TOKENS;
-use space::Head;
-use space::records::node_in;
+use space::tables::Table;
 
 // Where first children lead from node i.
-fn first_leaf(space: &[u32], h: Head, i: usize) -> usize
-    requires { NodeAmongWhole space.now h i }
-    ensures { LeafReached space.now h i result }
+fn first_leaf(table: &Table, i: usize) -> usize
+    requires { NodeAmongWhole table.now i }
+    ensures { LeafReached table.now i result }
 {
     let mut j = i;
     loop {
-        let y = node_in(space, h.nodes, j);
+        let y = table.node(j);
         if y.child == 0 {
             return j;
         }
@@ -26,20 +25,20 @@ fn first_leaf(space: &[u32], h: Head, i: usize) -> usize
 }
 
 // From each node above node i but the root, to a leaf whose link is at most s?
-pub fn led_up(space: &[u32], h: Head, s: usize, i: usize) -> bool
-    requires { NodeAmongWhole space.now h i }
-    ensures { result ≡ led_up (coding_of h.edition) (view_in space.now h) 383 s i }
+pub fn led_up(table: &Table, s: usize, i: usize) -> bool
+    requires { NodeAmongWhole table.now i }
+    ensures { result ≡ led_up (coding_of table.now.head.edition) (view_at table.now) 383 s i }
 {
     let mut n = i;
     for _ in 0..MOST_TOKENS {
-        let y = node_in(space, h.nodes, n);
+        let y = table.node(n);
         let p = y.parent;
-        let above = node_in(space, h.nodes, p);
+        let above = table.node(p);
         if above.parent == p {
             return true;
         }
-        let leaf = first_leaf(space, h, p);
-        let z = node_in(space, h.nodes, leaf);
+        let leaf = first_leaf(table, p);
+        let z = table.node(leaf);
         if s < z.link {
             return false;
         }

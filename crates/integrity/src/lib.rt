@@ -11,16 +11,14 @@ mod records;
 
 ghost use Rattle.std.specs.Prelude.{◌≡◌};
 ghost use Rattle.plain.specs.Coding.{coding_of};
-ghost use Rattle.space.specs.Sound.{Bounds};
-ghost use Rattle.store.specs.Clauses.{view_in};
+ghost use Rattle.store.specs.Clauses.{view_at};
 ghost use Rattle.agreement.specs.Faults.{fault_in, fault_of};
 ghost use Rattle.integrity.specs.Tests.{said_check, ChainsWhole, chains_fault};
 
 use chains::{chains_length, first_lost};
 use nodes::first_node;
 use records::{first_answer, first_subgoal};
-use space::Head;
-use space::heading::read_header;
+use space::tables::Table;
 
 // What is broken first: the header, or the record of this number.
 #[derive(Clone, Copy)]
@@ -32,43 +30,42 @@ pub enum Broken {
 }
 
 // Where every record by itself is whole: the chains.
-fn check_chains(space: &[u32], h: Head) -> Result<(), Broken>
-    requires { ChainsWhole space.now h }
-    ensures { said_check result ≡ chains_fault space.now h }
+fn check_chains(table: &Table) -> Result<(), Broken>
+    requires { ChainsWhole table.now }
+    ensures { said_check result ≡ chains_fault table.now }
 {
-    if chains_length(space, h) == h.answers {
+    if chains_length(table) == table.head.answers {
         return Ok(());
     }
-    let a = first_lost(space, h);
+    let a = first_lost(table);
     Err(Broken::Answer((a + 1) as u32))
 }
 
 // Under a sound header.
-fn check_in(space: &[u32], h: Head) -> Result<(), Broken>
-    requires { Bounds space.now h }
-    ensures { said_check result ≡ fault_in (coding_of h.edition) (view_in space.now h) }
+fn check_in(table: &Table) -> Result<(), Broken>
+    ensures { said_check result ≡ fault_in (coding_of table.now.head.edition) (view_at table.now) }
 {
-    let n = first_node(space, h);
-    if n < h.nodes {
+    let n = first_node(table);
+    if n < table.head.nodes {
         return Err(Broken::Node(n as u32));
     }
-    let s = first_subgoal(space, h);
-    if s < h.subgoals {
+    let s = first_subgoal(table);
+    if s < table.head.subgoals {
         return Err(Broken::Subgoal((s + 1) as u32));
     }
-    let a = first_answer(space, h);
-    if a < h.answers {
+    let a = first_answer(table);
+    if a < table.head.answers {
         return Err(Broken::Answer((a + 1) as u32));
     }
-    check_chains(space, h)
+    check_chains(table)
 }
 
 // Is the space whole?
 pub fn check(space: &[u32]) -> Result<(), Broken>
     ensures { said_check result ≡ fault_of space.now }
 {
-    match read_header(space) {
-        Ok(h) => check_in(space, h),
+    match Table::open(space) {
+        Ok(table) => check_in(&table),
         Err(_) => Err(Broken::Header),
     }
 }

@@ -5,8 +5,8 @@ use Rattle.basis.specs.Choice.{pick}
 use Rattle.forms.specs.Cells.{payload, tag, variable, callable}
 use Rattle.forms.specs.Numbering.{rank}
 use Rattle.listing.specs.declared.Spot.{Spot}
-use Rattle.listing.specs.Listing.{listable, alphabet, contains, Listed, Listing, offered, listing_out}
-use Rattle.listing.specs.Steps.{passed, allowed, sums_below, can_go_on, first_of, prefixed, first_way, next_way}
+use Rattle.listing.specs.Listing.{alphabet, contains, Listed, Listing, offered, listing_out}
+use Rattle.listing.specs.Steps.{passed, allowed, can_go_on, first_of, prefixed, first_way, next_way}
 use Rattle.listing.specs.Steps.{goes, spelt}
 
 -- at the first place an atom or a functor
@@ -39,10 +39,8 @@ listed_result false t = None
 
 -- ---- contracts
 
--- there is a list, the sums are its symbols', and the place is one of a term of s cells
-pub record RoomToFill (e s : ℕ) (symbols : List ℕ) (sums : List Bool) (p : Spot) : Type 0 where
-  pub given : listable e s symbols ≡ true
-  pub table : sums ≡ sums_below e symbols 8
+-- the place is one of a term of s cells
+pub record RoomToFill (s : ℕ) (p : Spot) : Type 0 where
   pub within : p.at ≤ s
   pub few : p.due ≤ 8
 
@@ -58,8 +56,8 @@ FillsFrom e s symbols p term r term' =
     × (length term' ≡ length term)
 
 -- besides, a term stands there that goes on from the place
-pub record RoomToAdvance (e s : ℕ) (symbols : List ℕ) (sums : List Bool) (term : List ℕ) (p : Spot) : Type 0 where
-  pub room : RoomToFill e s symbols sums p
+pub record RoomToAdvance (e s : ℕ) (symbols term : List ℕ) (p : Spot) : Type 0 where
+  pub room : RoomToFill s p
   pub long : length term ≡ 8
   pub letters : spelt (alphabet s symbols) (drop p.at (take s term)) ≡ true
   pub ends : goes e p (drop p.at (take s term)) ≡ true

@@ -21,6 +21,17 @@ struct Spot {
     due: usize,
 }
 
+// The terms of s cells over symbols for which there is a list, with the numbers below 8 that are sums of arities.
+#[derive(Drop)]
+struct Terms<'a> {
+    symbols: &'a [u32],
+    s: usize,
+    edition: u32,
+    sums: [bool; MOST_LISTED],
+    ghost given: { listable edition s symbols.now ≡ true },
+    ghost table: { sums ≡ sums_below edition symbols.now 8 },
+}
+
 // ---- what is given
 
 // The place of c among the symbols.
@@ -204,104 +215,87 @@ fn sums_of(symbols: &[u32], edition: u32) -> [bool; MOST_LISTED]
     sums
 }
 
-// Whether so many terms can stand in exactly `left` cells: none in no cell, or some where arities make up the rest.
-fn can_fit(due: usize, left: usize, sums: &[bool; MOST_LISTED]) -> bool
-    requires { left < 8 }
-    ensures { result ≡ fits_by sums.now due left }
-{
-    if due == 0 {
-        return left == 0;
+impl Terms<'_> {
+    // Whether so many terms can stand in exactly `left` cells: none in no cell, or some where arities make up the rest.
+    fn can_fit(&self, due: usize, left: usize) -> bool
+        requires { left < 8 }
+        ensures { result ≡ fits_by self.now.sums due left }
+    {
+        if due == 0 {
+            return left == 0;
+        }
+        due <= left && self.sums[left - due]
     }
-    due <= left && sums[left - due]
-}
 
-// Whether a term can go on with c at a place, and end with the `left` cells after it.
-fn goes_on(c: u32, place: Spot, left: usize, sums: &[bool; MOST_LISTED], edition: u32) -> bool
-    requires { (left < 8) × (place.at ≤ 8) × (place.due ≤ 8) }
-    ensures { result ≡ goes_on_by edition sums.now place left c }
-{
-    is_allowed(c, place) && can_fit(place_after(place, c, edition).due, left, sums)
+    // Whether a term can go on with c at a place, and end with the `left` cells after it.
+    fn goes_on(&self, c: u32, place: Spot, left: usize) -> bool
+        requires { (left < 8) × (place.at ≤ 8) × (place.due ≤ 8) }
+        ensures { result ≡ goes_on_by self.now.edition self.now.sums place left c }
+    {
+        is_allowed(c, place) && self.can_fit(place_after(place, c, self.edition).due, left)
+    }
+
+    // The first cell, from the one numbered `from` on, with which a term can go on at a place.
+    fn choose(&self, from: usize, place: Spot) -> Option<u32>
+        requires { RoomToFill self.now.s place × (place.at < self.now.s) }
+        ensures { ChoosesCell self.now.edition self.now.s self.now.symbols.now place from result }
+    {
+        let left = self.s - place.at - 1;
+        // Read once, before the loop: read in each turn it takes 7 % more time a term.
+        let symbols = self.symbols;
+        for j in from..symbols.len() + self.s {
+            let c = letter(symbols, j);
+            if self.goes_on(c, place, left) {
+                return Some(c);
+            }
+        }
+        None
+    }
+
+    // Fills the term from a place on with the first cells that end it. False where there are none.
+    // A bool, as the term is changed in place and an Option would hold nothing; so is that of `advance`.
+    fn fill(&self, term: &mut [u32; MOST_LISTED], from: Spot) -> bool
+        requires { RoomToFill self.now.s from × (length term.old ≡ 8) }
+        ensures { FillsFrom self.now.edition self.now.s self.now.symbols.now from term.old result term.new }
+    {
+        let mut place = from;
+        for at in from.at..self.s {
+            let Some(c) = self.choose(0, place) else {
+                return false;
+            };
+            term[at] = c;
+            place = place_after(place, c, self.edition);
+        }
+        true
+    }
+
+    // Turns the term, from a place on, into the next one that has the same cells before it. False where it is the last.
+    fn advance(&self, term: &mut [u32; MOST_LISTED], place: Spot) -> bool
+        requires { RoomToAdvance self.now.edition self.now.s self.now.symbols.now term.old place }
+        ensures { AdvancesFrom self.now.edition self.now.s self.now.symbols.now place term.old result term.new }
+    {
+        let at = place.at;
+        if self.s <= at {
+            return false;
+        }
+        let c = term[at];
+        let next = place_after(place, c, self.edition);
+        if self.advance(term, next) {
+            return true;
+        }
+        let later = place_of(self.symbols, c) + 1;
+        // The place is written anew, so that its own copy is never lent and stays in registers.
+        let here = Spot { at, ..place };
+        let Some(d) = self.choose(later, here) else {
+            return false;
+        };
+        term[at] = d;
+        let next = place_after(place, d, self.edition);
+        self.fill(term, next)
+    }
 }
 
 // ---- the first term, and the one after a term
-
-// The first cell, from the one numbered `from` on, with which a term of s cells can go on at a place.
-fn choose(
-    symbols: &[u32],
-    from: usize,
-    place: Spot,
-    s: usize,
-    sums: &[bool; MOST_LISTED],
-    edition: u32,
-) -> Option<u32>
-    requires { RoomToFill edition s symbols.now sums.now place × (place.at < s) }
-    ensures { ChoosesCell edition s symbols.now place from result }
-{
-    let left = s - place.at - 1;
-    for j in from..symbols.len() + s {
-        let c = letter(symbols, j);
-        if goes_on(c, place, left, sums, edition) {
-            return Some(c);
-        }
-    }
-    None
-}
-
-// Fills the term from a place on with the first cells that end it. False where there are none.
-// A bool, as the term is changed in place and an Option would hold nothing; so is that of `advance`.
-fn fill(
-    symbols: &[u32],
-    s: usize,
-    sums: &[bool; MOST_LISTED],
-    edition: u32,
-    term: &mut [u32; MOST_LISTED],
-    from: Spot,
-) -> bool
-    requires { RoomToFill edition s symbols.now sums.now from × (length term.old ≡ 8) }
-    ensures { FillsFrom edition s symbols.now from term.old result term.new }
-{
-    let mut place = from;
-    for at in from.at..s {
-        let Some(c) = choose(symbols, 0, place, s, sums, edition) else {
-            return false;
-        };
-        term[at] = c;
-        place = place_after(place, c, edition);
-    }
-    true
-}
-
-// Turns the term, from a place on, into the next one that has the same cells before it. False where it is the last.
-fn advance(
-    symbols: &[u32],
-    s: usize,
-    sums: &[bool; MOST_LISTED],
-    edition: u32,
-    term: &mut [u32; MOST_LISTED],
-    place: Spot,
-) -> bool
-    requires { RoomToAdvance edition s symbols.now sums.now term.old place }
-    ensures { AdvancesFrom edition s symbols.now place term.old result term.new }
-{
-    let at = place.at;
-    if s <= at {
-        return false;
-    }
-    let c = term[at];
-    let next = place_after(place, c, edition);
-    if advance(symbols, s, sums, edition, term, next) {
-        return true;
-    }
-    let later = place_of(symbols, c) + 1;
-    // The place is written anew, so that its own copy is never lent and stays in registers.
-    let here = Spot { at, ..place };
-    let Some(d) = choose(symbols, later, here, s, sums, edition) else {
-        return false;
-    };
-    term[at] = d;
-    let next = place_after(place, d, edition);
-    fill(symbols, s, sums, edition, term, next)
-}
 
 // Writes the term of s cells that was found, if it fits.
 fn offer(term: &[u32; MOST_LISTED], s: usize, out: &mut [u32]) -> Result<Option<usize>, Unwritten>
@@ -328,8 +322,14 @@ pub fn first_term(
         return Err(Unwritten::Refused(Refusal::Listing));
     }
     let sums = sums_of(symbols, edition);
+    let terms = Terms {
+        symbols,
+        s,
+        edition,
+        sums,
+    };
     let mut term = [0; MOST_LISTED];
-    if !fill(symbols, s, &sums, edition, &mut term, beginning()) {
+    if !terms.fill(&mut term, beginning()) {
         return Ok(None);
     }
     offer(&term, s, out)
@@ -352,9 +352,15 @@ pub fn term_after(
         return Err(Unwritten::Refused(Refusal::Listed));
     }
     let sums = sums_of(symbols, edition);
+    let terms = Terms {
+        symbols,
+        s,
+        edition,
+        sums,
+    };
     let mut term = [0; MOST_LISTED];
     convert::copy(given, s, &mut term);
-    if !advance(symbols, s, &sums, edition, &mut term, beginning()) {
+    if !terms.advance(&mut term, beginning()) {
         return Ok(None);
     }
     offer(&term, s, out)

@@ -7,18 +7,18 @@ use mathlib.Core.Path.{◌≡◌, ap, ◌∙◌}
 use native.Mathlib.Omega.{arith}
 use lib.ListN.{length, take, drop}
 use lib.Seq.{take_at}
-use borrow.Author.Tests.{le-leb, lt-leb, eq-eqb, ne_eqb}
+use lib.Dec.{eqb}
+use borrow.Author.Tests.{eqb-true, eqb-false, le-leb, lt-leb, eq-eqb, ne_eqb}
 use Rattle.basis.specs.declared.refusals.Refusal.{Refusal}
 use Rattle.basis.specs.declared.refusals.Refusal.TheVariants as refusal
 use Rattle.basis.proofs.Cases.{by_cases}
 use Rattle.forms.specs.declared.Unwritten.TheVariants.{Refused, Short}
-use Rattle.forms.specs.Cells.{arity_of}
-use Rattle.forms.specs.Stored.{StoredForm, compact_stored, stored_of}
+use Rattle.forms.specs.Stored.{StoredForm, stored_of}
 use Rattle.forms.specs.Converting.{converter_edition, formed, reading, loading, fitting, fitting_form, fitting_terms, compacting, expanding}
 use Rattle.convert.proofs.ReadingLaws.{reading-long}
-use Rattle.forms.proofs.StoredLaws.{stored_of_lem, converter-stored}
+use Rattle.forms.proofs.StoredLaws.{stored_of_lem}
 use Rattle.marshalling.specs.Bytes.{cells_of, bytes_of}
-use Rattle.marshalling.specs.Export.{Outcome, outcome, returned, written_bytes, outcome_of, exported, compact_bytes, expand_bytes, outcome_in}
+use Rattle.marshalling.specs.Export.{RefusesBytes, Outcome, outcome, returned, written_bytes, outcome_of, exported, compact_bytes, expand_bytes, outcome_in}
 use Rattle.marshalling.proofs.BytesLaws.{cells-length}
 
 -- ---- what fits or does not fit
@@ -100,11 +100,10 @@ module _ (e : ℕ) (o : Outcome) (out : List ℕ) where
   unfolding outcome_in returned
   edition-refused k = rw k
 
--- in an edition that a converter takes, the stored form is compact form
-pub compacted-in : (e : ℕ) (b out : List ℕ) (o : Outcome) → converter_edition e ≡ true → o ≡ compact_bytes (arity_of e) (stored_of e) b out
-    → o ≡ outcome_in e (compact_bytes (arity_of e) (compact_stored (arity_of e)) b out) out
-compacted-in e b out o k h = edition-known e _ out o k (h ∙ ap (λ (s : StoredForm). compact_bytes (arity_of e) s b out) (converter-stored e k))
-
-pub expanded-in : (e : ℕ) (b out : List ℕ) (o : Outcome) → converter_edition e ≡ true → o ≡ expand_bytes (stored_of e) b out
-    → o ≡ outcome_in e (expand_bytes (compact_stored (arity_of e)) b out) out
-expanded-in e b out o k h = edition-known e _ out o k (h ∙ ap (λ (s : StoredForm). expand_bytes s b out) (converter-stored e k))
+-- what is exported by a converter that answers o for whole cells, where that is o' in an edition that there is
+pub export-in : (e : ℕ) (b out : List ℕ) (r : ℕ) (out' : List ℕ) (o o' : Outcome) → RefusesBytes e b out r out'
+    → ((length b % 4 ≡ 0 → ⊥) → outcome (returned (Err (Refused refusal.Term))) out ≡ o) → (converter_edition e ≡ true → length b % 4 ≡ 0 → outcome r out' ≡ o)
+    → (converter_edition e ≡ true → o ≡ o') → outcome r out' ≡ outcome_in e o' out
+export-in e b out r out' o o' refused odd whole same = by_cases (converter_edition e)
+    (λ k. edition-known e o' out _ k (by_cases (eqb (length b % 4) 0) (λ z. whole k (eqb-true _ _ z)) (λ z. refused.1 k (eqb-false _ _ z) ∙ odd (eqb-false _ _ z)) ∙ same k))
+    (λ k. refused.0 k ∙ edition-refused e o' out k)

@@ -1,5 +1,6 @@
 -- What the exports return, and every byte of out afterwards, for every input and every out.
-use Rattle.std.specs.Prelude.{ℕ, ◌+◌, ◌*◌, ◌^◌, ◌/◌, ◌%◌, ◌≤◌, ◌<◌, List, ◌++◌, ◌≡◌, length, take, drop, eqb, Ok, Err}
+use Rattle.std.specs.Prelude.{true, false, Ok, Err}
+use Rattle.std.specs.Prelude.{ℕ, ◌+◌, ◌*◌, ◌^◌, ◌/◌, ◌%◌, ◌≤◌, ◌<◌, List, ◌++◌, ◌≡◌, length, take, drop, eqb}
 use Rattle.basis.specs.Choice.{pick}
 use Rattle.basis.specs.Refusals.{number_of}
 use Rattle.basis.specs.declared.refusals.Refusal.TheVariants as refusal
@@ -83,3 +84,10 @@ ExpandsBytes e input out r out' = outcome r out' ≡ expand_bytes (stored_of e) 
 abbrev pub ExpandsBytesIn : (e : ℕ) (input out : List ℕ) (r : ℕ) (out' : List ℕ) → Type 0
 ExpandsBytesIn e input out r out' =
     outcome r out' ≡ outcome_in e (expand_bytes (compact_stored (arity_of e)) input out) out
+
+-- what no converter is given: another edition is refused (1), then a byte count not divisible by 4 (3)
+abbrev pub RefusesBytes : (e : ℕ) (input out : List ℕ) (r : ℕ) (out' : List ℕ) → Type 0
+RefusesBytes e input out r out' =
+    (converter_edition e ≡ false → outcome r out' ≡ outcome (returned (Err (Refused refusal.Header))) out)
+    × (converter_edition e ≡ true → (length input % 4 ≡ 0 → ⊥)
+    → outcome r out' ≡ outcome (returned (Err (Refused refusal.Term))) out)

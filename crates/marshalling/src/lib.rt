@@ -2,9 +2,10 @@
 // number is returned, the cells written or a refusal.
 #![tactic(auto)]
 
-ghost use Rattle.std.specs.Prelude.{◌≡◌, ◌++◌, ◌*◌, ◌^◌, ◌/◌, ◌≤◌, ◌<◌, length, take, drop};
+ghost use Rattle.std.specs.Prelude.{true, ◌≡◌, ◌++◌, ◌*◌, ◌^◌, ◌/◌, ◌≤◌, ◌<◌, length, take, drop};
 ghost use Rattle.marshalling.specs.Bytes.{cells_of, bytes_of};
-ghost use Rattle.marshalling.specs.Export.{CompactRoom, ExpandRoom, Delivers, returned};
+ghost use Rattle.forms.specs.Converting.{converter_edition};
+ghost use Rattle.marshalling.specs.Export.{RefusesBytes, CompactRoom, ExpandRoom, Delivers, returned};
 ghost use Rattle.marshalling.specs.Export.{CompactsBytes, CompactsBytesIn, ExpandsBytes, ExpandsBytesIn};
 
 use basis::limits::{MOST_CELLS, MOST_TOKENS};
@@ -87,16 +88,12 @@ fn compact_with(
     deliver(form, read.tokens, out)
 }
 
-// Compacts one term. Short terms get short buffers, since making a buffer clears it; over 256 cells
-// nothing is read.
-fn compact_input(input: &[u8], out: &mut [u8], edition: u32) -> Result<u32, Unwritten>
+// Compacts one term. Short terms get short buffers, since making a buffer clears it; over 256 cells nothing is read.
+// Not by `with_form`: it lends two buffers of two lengths, and here are three of three, since the input is decoded too.
+fn compact_cells(input: &[u8], n: usize, out: &mut [u8], edition: u32) -> Result<u32, Unwritten>
+    requires { 4 * n ≡ length input.now }
     ensures { CompactsBytes edition input.now out.old (returned result) out.new }
 {
-    let bytes = input.len();
-    if bytes % 4 != 0 {
-        return Err(Unwritten::Refused(Refusal::Term));
-    }
-    let n = bytes / 4;
     let rung = cells_rung(n);
     if rung <= FEW_CELLS {
         let mut cells = [0u32; FEW_CELLS];
@@ -119,8 +116,8 @@ fn compact_input(input: &[u8], out: &mut [u8], edition: u32) -> Result<u32, Unwr
     Err(Unwritten::Refused(Refusal::Length))
 }
 
-// Expands the n cells of input, with buffers that are long enough for them: each token writes at most
-// two cells.
+// Expands the n cells of input, with buffers that are long enough for them: each token writes at most two cells.
+// Apart from `compact_with`: the reader needs `vars`, and hands on its refusal; the rest is `decode` and `deliver`.
 fn expand_with(
     input: &[u8],
     n: usize,
@@ -139,16 +136,12 @@ fn expand_with(
     deliver(cells, k, out)
 }
 
-// Expands the form of one term. Short forms get short buffers, since making a buffer clears it; no
-// legal form is over 383 tokens, so nothing longer is read.
-fn expand_input(input: &[u8], out: &mut [u8], edition: u32) -> Result<u32, Unwritten>
+// Expands the form of one term. Short forms get short buffers, since making a buffer clears it; no legal form is over
+// 383 tokens, so nothing longer is read. Not by `with_terms`: the form is decoded into a buffer of its rung too.
+fn expand_cells(input: &[u8], n: usize, out: &mut [u8], edition: u32) -> Result<u32, Unwritten>
+    requires { 4 * n ≡ length input.now }
     ensures { ExpandsBytes edition input.now out.old (returned result) out.new }
 {
-    let bytes = input.len();
-    if bytes % 4 != 0 {
-        return Err(Unwritten::Refused(Refusal::Term));
-    }
-    let n = bytes / 4;
     let rung = tokens_rung(n);
     if rung <= FEW_TOKENS {
         let mut form = [0u32; FEW_TOKENS];
@@ -173,22 +166,51 @@ fn expand_input(input: &[u8], out: &mut [u8], edition: u32) -> Result<u32, Unwri
     Err(Unwritten::Refused(Refusal::Form))
 }
 
+// Returns what a converter answers that is given the number of cells of input and out: in an edition that there is, and
+// where the input is whole cells.
+fn export<F: FnOnce(usize, &mut [u8]) -> Result<u32, Unwritten>>(
+    input: &[u8],
+    out: &mut [u8],
+    edition: u32,
+    convert: F,
+) -> u32
+    requires { 4 * (length input.now / 4) ≡ length input.now → (lent : _) → lent.now ≡ out.old
+        → F.pre convert (length input.now / 4) lent }
+    ensures refused { RefusesBytes edition input.now out.old result out.new }
+    ensures converted { converter_edition edition ≡ true → 4 * (length input.now / 4) ≡ length input.now
+        → (lent : _) × (left : _) × (answer : _) × (lent.now ≡ out.old) × (left.now ≡ out.new)
+        × (result ≡ returned answer) × F.post convert (length input.now / 4) lent answer left }
+{
+    if !forms::is_converter_edition(edition) {
+        return returned(Err(Unwritten::Refused(Refusal::Header)));
+    }
+    let bytes = input.len();
+    if bytes % 4 != 0 {
+        return returned(Err(Unwritten::Refused(Refusal::Term)));
+    }
+    returned(convert(bytes / 4, out))
+}
+
 // Compacts one term in the edition of this number.
 pub fn compact_bytes(input: &[u8], out: &mut [u8], edition: u32) -> u32
     ensures { CompactsBytesIn edition input.now out.old result out.new }
 {
-    if forms::is_converter_edition(edition) {
-        return returned(compact_input(input, out, edition));
-    }
-    returned(Err(Unwritten::Refused(Refusal::Header)))
+    export(
+        input,
+        out,
+        edition,
+        |n, out: &mut [u8]| compact_cells(input, n, out, edition),
+    )
 }
 
 // Expands the form of one term in the edition of this number.
 pub fn expand_bytes(input: &[u8], out: &mut [u8], edition: u32) -> u32
     ensures { ExpandsBytesIn edition input.now out.old result out.new }
 {
-    if forms::is_converter_edition(edition) {
-        return returned(expand_input(input, out, edition));
-    }
-    returned(Err(Unwritten::Refused(Refusal::Header)))
+    export(
+        input,
+        out,
+        edition,
+        |n, out: &mut [u8]| expand_cells(input, n, out, edition),
+    )
 }

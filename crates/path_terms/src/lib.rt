@@ -11,9 +11,7 @@ ghost use Rattle.trie.specs.Runs.{Ends, path_to};
 ghost use Rattle.path_terms.specs.AlongPaths.{form_worth, worth, LoadsOf, LoadsTo, InstancesTo};
 ghost use Rattle.path_terms.specs.Tasks.{BothBegun, Done, DoneTo};
 
-use convert::buffers::{
-    FEW_TOKENS, SOME_TOKENS, TERMS_OF_FEW, TERMS_OF_MOST, TERMS_OF_SOME, tokens_rung,
-};
+use convert::buffers::with_terms;
 use convert::{expand_terms, load_counted};
 use forms::{Unwritten, is_callable};
 use instances::instance_path;
@@ -70,17 +68,8 @@ fn form_worth_with(form: &[u32], m: usize, called: bool, cells: &mut [u32], edit
 fn form_worth(form: &[u32], m: usize, called: bool, edition: u32) -> usize
     ensures { result ≡ form_worth edition m called form.now }
 {
-    let rung = tokens_rung(form.len());
-    if rung <= FEW_TOKENS {
-        let mut cells = [0u32; TERMS_OF_FEW];
-        return form_worth_with(form, m, called, &mut cells, edition);
-    }
-    if rung <= SOME_TOKENS {
-        let mut cells = [0u32; TERMS_OF_SOME];
-        return form_worth_with(form, m, called, &mut cells, edition);
-    }
-    let mut cells = [0u32; TERMS_OF_MOST];
-    form_worth_with(form, m, called, &mut cells, edition)
+    let mut worth = |cells: &mut [u32]| form_worth_with(form, m, called, cells, edition);
+    with_terms(form.len(), &mut worth)
 }
 
 // Loads the form of m terms: one more than their cells, which are written where there is room for them; 0 for what is

@@ -3,12 +3,11 @@
 
 ghost use Rattle.std.specs.Prelude.{◌≡◌, [], ◌≤◌};
 ghost use Rattle.plain.specs.Requests.{next, load, instance, counts, lacks_next};
-ghost use Rattle.space.specs.Sound.{Bounds};
 ghost use Rattle.store.specs.Decisions.{says, state_of, starting, handed, onward};
 ghost use Rattle.store.specs.Calls.{Answers};
-ghost use Rattle.store.specs.Clauses.{view_in};
 ghost use Rattle.store.specs.Replies.{said_onward, said_next, said_cells, said_counts};
 ghost use Rattle.instances.specs.Leaving.{sized};
+ghost use Rattle.store.specs.Clauses.{view_at};
 ghost use Rattle.reads.specs.Reading.{decided, Fills};
 ghost use Rattle.reads.specs.Pairs.{PairRead};
 
@@ -17,8 +16,8 @@ use basis::wide;
 use forms::Unwritten;
 use path_terms::{instance_paths, load_path};
 use space::heading::read_header;
-use space::records::{answer_in, read_answer, read_subgoal};
-use space::{Answer, Head, Subgoal};
+use space::tables::Table;
+use space::{Answer, Subgoal};
 use store::{Counts, Next, State};
 use trie::ends::{answer_end, subgoal_end};
 
@@ -34,7 +33,8 @@ pub fn counts(space: &[u32]) -> Result<Counts, Refusal>
     })
 }
 
-// What next says of a subgoal of this state where no answer is left.
+// What next says of a subgoal of this state where no answer is left. (No TryFrom: the state of a judged record is 0 or
+// 1, and the definitions, `state_of`, read every other number as finished.)
 fn lacking(state: usize) -> Next
     ensures { said_onward result ≡ lacks_next (state_of state) }
 {
@@ -45,14 +45,14 @@ fn lacking(state: usize) -> Next
 }
 
 // Answer a, which a record names, is handed out: it is to be the subgoal's. Where there is none, its state is told.
-fn hand_out(space: &[u32], h: Head, s: usize, state: usize, a: usize) -> Result<Next, Refusal>
-    requires { Bounds space.now h × (a ≤ h.answers) × (state ≡ ((view_in space.now h).subgoal s).state) }
-    ensures { says (said_next result) ≡ handed (view_in space.now h) s a }
+fn hand_out(table: &Table, s: usize, state: usize, a: usize) -> Result<Next, Refusal>
+    requires { (a ≤ table.now.head.answers) × (state ≡ ((view_at table.now).subgoal s).state) }
+    ensures { says (said_next result) ≡ handed (view_at table.now) s a }
 {
     if a == 0 {
         return Ok(lacking(state));
     }
-    let y = read_answer(space, h, a).ok_or(Refusal::Records)?;
+    let y = table.read_answer(a).ok_or(Refusal::Records)?;
     if y.subgoal != s {
         return Err(Refusal::Records);
     }
@@ -60,55 +60,52 @@ fn hand_out(space: &[u32], h: Head, s: usize, state: usize, a: usize) -> Result<
 }
 
 // From answer a on, or from the subgoal's first answer.
-fn go_on(space: &[u32], h: Head, s: usize, a: usize) -> Result<Next, Refusal>
-    requires { Bounds space.now h × (1 ≤ s) × (s ≤ h.subgoals) × (a ≤ h.answers) }
-    ensures { says (said_next result) ≡ onward (view_in space.now h) s a }
+fn go_on(table: &Table, s: usize, a: usize) -> Result<Next, Refusal>
+    requires { (1 ≤ s) × (s ≤ table.now.head.subgoals) × (a ≤ table.now.head.answers) }
+    ensures { says (said_next result) ≡ onward (view_at table.now) s a }
 {
-    let g = read_subgoal(space, h, s).ok_or(Refusal::Records)?;
+    let g = table.read_subgoal(s).ok_or(Refusal::Records)?;
     if a == 0 {
-        return hand_out(space, h, s, g.state, g.first);
+        return hand_out(table, s, g.state, g.first);
     }
-    let y = read_answer(space, h, a).ok_or(Refusal::Records)?;
-    hand_out(space, h, s, g.state, y.next)
+    let y = table.read_answer(a).ok_or(Refusal::Records)?;
+    hand_out(table, s, g.state, y.next)
 }
 
 // May next start at a? The record of a is taken as it stands.
-fn starts(space: &[u32], h: Head, s: usize, a: usize) -> bool
-    requires { Bounds space.now h }
-    ensures { result ≡ starting (view_in space.now h) s a }
+fn starts(table: &Table, s: usize, a: usize) -> bool
+    ensures { result ≡ starting (view_at table.now) s a }
 {
-    a == 0 || a <= h.answers && answer_in(space, h, a).subgoal == s
+    a == 0 || a <= table.head.answers && table.answer(a).subgoal == s
 }
 
 // Next, under a sound header.
-fn next_in(space: &[u32], h: Head, s: usize, a: usize) -> Result<Next, Refusal>
-    requires { Bounds space.now h }
-    ensures { says (said_next result) ≡ decided (next s a) space.now h }
+fn next_in(table: &Table, s: usize, a: usize) -> Result<Next, Refusal>
+    ensures { says (said_next result) ≡ decided (next s a) table.now }
 {
-    if s == 0 || h.subgoals < s || !starts(space, h, s, a) {
+    if s == 0 || table.head.subgoals < s || !starts(table, s, a) {
         return Err(Refusal::Number);
     }
-    go_on(space, h, s, a)
+    go_on(table, s, a)
 }
 
 // The subgoal's first answer after a given one, or after none.
 pub fn next(space: &[u32], subgoal: u32, after: u32) -> Result<Next, Refusal>
     ensures { Answers space.now (next subgoal after) (said_next result) [] space.now }
 {
-    let h = read_header(space)?;
-    next_in(space, h, wide(subgoal), wide(after))
+    let table = Table::open(space)?;
+    next_in(&table, wide(subgoal), wide(after))
 }
 
 // Answer a and the subgoal that it names, or the refusal.
-fn read_pair(space: &[u32], h: Head, a: usize) -> Result<(Answer, Subgoal), Refusal>
-    requires { Bounds space.now h }
-    ensures { PairRead space.now h a result }
+fn read_pair(table: &Table, a: usize) -> Result<(Answer, Subgoal), Refusal>
+    ensures { PairRead table.now a result }
 {
-    if a == 0 || h.answers < a {
+    if a == 0 || table.head.answers < a {
         return Err(Refusal::Number);
     }
-    let y = read_answer(space, h, a).ok_or(Refusal::Records)?;
-    let g = read_subgoal(space, h, y.subgoal).ok_or(Refusal::Records)?;
+    let y = table.read_answer(a).ok_or(Refusal::Records)?;
+    let g = table.read_subgoal(y.subgoal).ok_or(Refusal::Records)?;
     Ok((y, g))
 }
 
@@ -128,14 +125,13 @@ fn cells_answer(room: usize, n: usize) -> Result<usize, Unwritten>
 }
 
 // Load, under a sound header.
-fn load_in(space: &[u32], h: Head, a: usize, out: &mut [u32]) -> Result<usize, Unwritten>
-    requires { Bounds space.now h }
-    ensures { Fills (decided (load a out.old)) space.now h out.old result out.new }
+fn load_in(table: &Table, a: usize, out: &mut [u32]) -> Result<usize, Unwritten>
+    ensures { Fills (decided (load a out.old)) table.now out.old result out.new }
 {
-    let (y, g) = read_pair(space, h, a)?;
-    let end = answer_end(h, g, y);
+    let (y, g) = read_pair(table, a)?;
+    let end = answer_end(table.head, g, y);
     let room = out.len();
-    let n = load_path(space, end, g.variables, out, h.edition);
+    let n = load_path(table.cells, end, g.variables, out, table.head.edition);
     cells_answer(room, n)
 }
 
@@ -143,19 +139,20 @@ fn load_in(space: &[u32], h: Head, a: usize, out: &mut [u32]) -> Result<usize, U
 pub fn load(space: &[u32], answer: u32, out: &mut [u32]) -> Result<usize, Unwritten>
     ensures { Answers space.now (load answer out.old) (said_cells result) out.new space.now }
 {
-    let h = read_header(space)?;
-    load_in(space, h, wide(answer), out)
+    let table = Table::open(space)?;
+    load_in(&table, wide(answer), out)
 }
 
 // Instance, under a sound header.
-fn instance_in(space: &[u32], h: Head, a: usize, out: &mut [u32]) -> Result<usize, Unwritten>
-    requires { Bounds space.now h }
-    ensures { Fills (decided (instance a out.old)) space.now h out.old result out.new }
+fn instance_in(table: &Table, a: usize, out: &mut [u32]) -> Result<usize, Unwritten>
+    ensures { Fills (decided (instance a out.old)) table.now out.old result out.new }
 {
-    let (y, g) = read_pair(space, h, a)?;
+    let (y, g) = read_pair(table, a)?;
+    let h = table.head;
     let end = answer_end(h, g, y);
+    let under = subgoal_end(h, g);
     let room = out.len();
-    let n = instance_paths(space, end, subgoal_end(h, g), g.variables, out, h.edition);
+    let n = instance_paths(table.cells, end, under, g.variables, out, h.edition);
     cells_answer(room, n)
 }
 
@@ -163,6 +160,6 @@ fn instance_in(space: &[u32], h: Head, a: usize, out: &mut [u32]) -> Result<usiz
 pub fn instance(space: &[u32], answer: u32, out: &mut [u32]) -> Result<usize, Unwritten>
     ensures { Answers space.now (instance answer out.old) (said_cells result) out.new space.now }
 {
-    let h = read_header(space)?;
-    instance_in(space, h, wide(answer), out)
+    let table = Table::open(space)?;
+    instance_in(&table, wide(answer), out)
 }

@@ -10,12 +10,15 @@ use mathlib.Core.List.{List, []}
 use native.Mathlib.Omega.{arith}
 use lib.ListN.{length, get_or, take, drop, length-take, length-drop}
 use lib.Dec.{eqb, ltb}
-use borrow.Author.Tests.{eq-eqb, ne_eqb}
+use borrow.Author.Tests.{eq-eqb, ne_eqb, ltb-false}
 use Rattle.basis.specs.Choice.{pick}
 use Rattle.forms.specs.Cells.{callable, arity_of}
 use Rattle.forms.specs.Converting.{reading, formed}
 use Rattle.forms.specs.Numbering.{met}
-use Rattle.forms.specs.Stored.{stored_of}
+use Rattle.forms.specs.Stored.{stored_of, stores_pairs, pair_stored, compact_stored}
+use Rattle.forms.specs.Terms.{are_terms}
+use Rattle.forms.proofs.NumberingLaws.{numbered-length}
+use Rattle.forms.proofs.RoundTrip.{form-size}
 use Rattle.plain.specs.Requests.{State, Reply, new, old_subgoal, old_as, new_past, because, refused, why, lent}
 use Rattle.space.specs.Layout.{sizes, node_in}
 use Rattle.space.specs.Judging.{read_node}
@@ -27,14 +30,13 @@ use Rattle.trie.specs.Walks.{Finding, Walk, whole, stopped, damaged, walk_by}
 use Rattle.trie.proofs.SearchLaws.{first-within}
 use Rattle.store.specs.Views.{View, subgoal_trie}
 use Rattle.store.specs.Decisions.{Decision, says, refuses, state_of, sound_subgoal, called_old, leads, astray, firsts_from, named_by, new_at, reasoned_at, reasoned_by, decide_by}
-use Rattle.store.specs.Calls.{AnswersBy}
 use Rattle.store.specs.Clauses.{view_in}
 use Rattle.store.specs.Replies.{said_reason, NamedIn}
 use Rattle.store.specs.declared.Reason.{Reason}
 use Rattle.store.specs.declared.Reason.TheVariants as reason
 use Rattle.store.proofs.CallsReading.{variables-are, variables-few, called-refused, called-other, called-form}
 use Rattle.store.proofs.CallsCases.{Comes, comes, decided-says}
-use Rattle.convert.proofs.AnswerLaws.{taken-room}
+use Rattle.convert.proofs.AnswerLaws.{taken-room, reading-length}
 use Rattle.reasons.specs.Clauses.{Judged, Descends, NamesLeaf, NamesFew, Reasons, old_at, new_below, reasoned_from}
 
 -- ---- first children
@@ -208,6 +210,31 @@ module _ (find : Finding) (v : View) (w : List ℕ) (m : ℕ) where
   unfolding reasoned_at
   reasons-damaged e = (λ vs. rw e, tt)
 
+-- terms that were read have few tokens, in either stored form
+legal-test : (n v k w : ℕ) (a b c : Bool) → Ok (formed n v) ≡ pick a (Err refusal.Length) (pick b (pick c (Err refusal.Variables) (Ok (formed k w))) (Err refusal.Term)) → (a ≡ false) × (b ≡ true)
+legal-test n v k w true b c e = let z : ◌≡◌ {A = ℕ} 0 1 = cc in absurd (omega arith)
+legal-test n v k w false true c e = (refl, refl)
+legal-test n v k w false false c e = let z : ◌≡◌ {A = ℕ} 0 1 = cc in absurd (omega arith)
+
+module _ (e m : ℕ) (cs : List ℕ) (n v : ℕ) (read : Ok (formed n v) ≡ reading (arity_of e) (stored_of e) m cs) where
+  legal-cells : (ltb 256 (length cs) ≡ false) × (are_terms (arity_of e) m cs ≡ true)
+  unfolding reading
+  legal-cells = legal-test n v (length ((stored_of e).form cs)) (length (met [] cs)) (ltb 256 (length cs)) (are_terms (arity_of e) m cs) (ltb 32 (length (met [] cs))) read
+
+  few-cells : length cs ≤ 256
+  few-cells = let l = ltb-false 256 (length cs) legal-cells.0 in omega arith
+
+  form-few : length ((stored_of e).form cs) ≤ 383
+  unfolding stored_of
+  form-few = go (stores_pairs e)
+    where
+      go : (b : Bool) → length ((pick b (pair_stored (arity_of e)) (compact_stored (arity_of e))).form cs) ≤ 383
+      go true = omega (arith, numbered-length cs, few-cells)
+      go false = (form-size (arity_of e) m cs legal-cells.1 few-cells).1
+
+  pub tokens-few : n ≤ 383
+  tokens-few = rw (reading-length (arity_of e) (stored_of e) m cs n v read) form-few
+
 -- a term that was read
 module _ (find : Finding) (cs : List ℕ) (h : Head) (term : List ℕ) where
   pub why-refused : (r : Refusal) → Err r ≡ reading (arity_of h.edition) (stored_of h.edition) 1 term → Comes find cs h (why term) (refused (number_of r)) cs
@@ -256,7 +283,3 @@ found-count w count l =
     let a = length-drop (length w - count) w in
     let b = length-take (length w - (length w - count)) (drop (length w - count) w) in
     omega arith
-
--- the same answer by another name
-pub said-as : (find : Finding) (cs term : List ℕ) (q r : Reply) → q ≡ r → AnswersBy find cs (why term) r [] cs → AnswersBy find cs (why term) q [] cs
-said-as find cs term q r e k = (e ∙ k.0, k.1, k.2)

@@ -12,10 +12,10 @@ ghost use Rattle.store.specs.Clauses.{view_in, AnswersUnder};
 ghost use Rattle.store.specs.Replies.{said_because, said_reason, said_why, NamesIn, NamedIn, NamesHeld};
 ghost use Rattle.reasons.specs.Clauses.{SoundNode, Descends, NamesLeaf, Reasons, old_at, new_below, reasoned_from};
 
-use basis::limits::{MOST_CELLS, MOST_VARIABLES};
+use basis::limits::MOST_VARIABLES;
 use basis::refusals::Refusal;
 use calling::call_old;
-use convert::buffers::{FEW_CELLS, FORM_OF_FEW, FORM_OF_MOST, cells_rung};
+use convert::buffers::with_form;
 use convert::{copy, read_terms};
 use forms::is_callable;
 use space::Head;
@@ -106,7 +106,7 @@ fn why_with(
     form: &mut [u32],
     index: &[u32],
 ) -> Result<Reason, Refusal>
-    requires bounds { Bounds space.now h × (length form.old < 2 ^ 32) }
+    requires bounds { Bounds space.now h }
     requires room_for_form { RoomForForm term.now vars.old form.old }
     ensures answers_under { AnswersUnder (search_indexed index.now h.nodes) space.now h (request.why term.now)
         (said_reason result vars.new) space.now }
@@ -137,16 +137,15 @@ pub fn why_indexed(space: &[u32], term: &[u32], index: &[u32]) -> Result<Why, Re
     ensures names_held { NamesHeld result }
 {
     let h = read_header(space)?;
-    if cells_rung(term.len()) <= FEW_CELLS {
-        let mut vars = [0u32; FEW_CELLS];
-        let mut form = [0u32; FORM_OF_FEW];
-        let reason = why_with(space, h, term, &mut vars, &mut form, index)?;
-        return Ok(with_variables(reason, &vars));
-    }
-    let mut vars = [0u32; MOST_CELLS];
-    let mut form = [0u32; FORM_OF_MOST];
-    let reason = why_with(space, h, term, &mut vars, &mut form, index)?;
-    Ok(with_variables(reason, &vars))
+    let mut why = |vars: &mut [u32], form: &mut [u32]|
+        requires { Bounds space.now h × RoomForForm term.now vars.now form.now }
+        ensures { AnswersUnder (search_indexed index.entry.now h.nodes) space.entry.now h (request.why term.entry.now)
+            (said_why result) space.exit.now × NamesHeld result }
+    {
+        let reason = why_with(space, h, term, vars, form, index)?;
+        Ok(with_variables(reason, vars))
+    };
+    with_form(term.len(), &mut why)
 }
 
 // The same without an index.

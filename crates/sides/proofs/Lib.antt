@@ -1,5 +1,5 @@
 pub mod CountLaws
 mod NameCases
-mod ChainCases
+pub mod ChainCases
 mod SearchCases
 pub mod SharedLaws

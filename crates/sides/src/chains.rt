@@ -1,21 +1,61 @@
 // The answers of a source, judged one after another: each record as next judges it, each path as load does, and whether
-// a form holds a variable.
+// all forms pass a test.
 ghost use Rattle.std.specs.Prelude.{◌≡◌, ◌≤◌};
+ghost use Rattle.space.specs.Sound.{subgoal_under};
 ghost use Rattle.trie.specs.Runs.{Ends, path_to};
 ghost use Rattle.store.specs.Clauses.{Held};
-ghost use Rattle.sides.specs.Chains.{PathJudged, AnswerJudged, ChainJudged};
+ghost use Rattle.sides.specs.Chains.{free, PathJudged, MemberRead, AllJudged, ChainJudged};
 
 use super::{Judged, Member};
 use path_terms::path_worth;
-use space::records::read_answer;
+use space::tables::Table;
 use space::{Head, Subgoal};
 use trie::End;
 use trie::ends::answer_end;
 
+// Answer a, which is to be the subgoal's; nothing where it is damaged.
+fn read_member(table: &Table, s: usize, g: Subgoal, a: usize) -> Option<Member>
+    requires { (g ≡ subgoal_under table.now.cells.now table.now.head s) × (1 ≤ a) × (a ≤ table.now.head.answers) }
+    ensures { MemberRead table.now s g a result }
+{
+    let y = table.read_answer(a)?;
+    if y.subgoal != s {
+        return None;
+    }
+    Some(Member {
+        next: y.next,
+        end: answer_end(table.head, g, y),
+    })
+}
+
+// Do the forms of all answers of subgoal s pass, whose record is g, as `judge` tells by their paths? Nothing where one
+// is damaged: those after one that does not pass are judged too.
+pub fn judge_all<F: Fn(End) -> Option<bool>>(
+    table: &Table,
+    s: usize,
+    g: Subgoal,
+    judge: F,
+) -> Option<bool>
+    requires is { g ≡ subgoal_under table.now.cells.now table.now.head s }
+    requires first_le_answers { g.first ≤ table.now.head.answers }
+    requires callable { (end : _) → Ends table.now.cells.now end → F.pre judge end }
+    ensures { AllJudged (F.post judge) table.now s g.variables result }
+{
+    let mut a = g.first;
+    let mut all = true;
+    while a != 0 {
+        let member = read_member(table, s, g, a)?;
+        let passes = judge(member.end)?;
+        all &= passes;
+        a = member.next;
+    }
+    Some(all)
+}
+
 // Does the path of an answer, from its leaf up, hold no variable? Nothing where it is damaged.
 fn judge_path(space: &[u32], end: End, m: usize, edition: u32) -> Option<bool>
     requires { Ends space.now end }
-    ensures { PathJudged edition (path_to space.now end) m result }
+    ensures { PathJudged free edition (path_to space.now end) m result }
 {
     match path_worth(space, end, m, false, edition) {
         0 => None,
@@ -24,41 +64,20 @@ fn judge_path(space: &[u32], end: End, m: usize, edition: u32) -> Option<bool>
     }
 }
 
-// Answer a, which is to be the subgoal's; nothing where it is damaged. What follows it is judged also where its form
-// holds a variable.
-fn judge_answer(space: &[u32], h: Head, s: usize, g: Subgoal, a: usize) -> Option<Member>
-    requires { Held space.now h s g × (1 ≤ a) × (a ≤ h.answers) }
-    ensures { AnswerJudged space.now h s a result }
-{
-    let y = read_answer(space, h, a)?;
-    if y.subgoal != s {
-        return None;
-    }
-    let end = answer_end(h, g, y);
-    let ground = judge_path(space, end, g.variables, h.edition)?;
-    Some(Member {
-        next: y.next,
-        ground,
-    })
-}
-
-// All answers of subgoal s, whose record is g.
+// All answers of subgoal s, whose record is g. Of cells and header and no Table: join goes on to write these cells.
 pub fn judge(space: &[u32], h: Head, s: usize, g: Subgoal) -> Judged
     requires held { Held space.now h s g }
     requires first_le_answers { g.first ≤ h.answers }
     ensures { ChainJudged space.now h s result }
 {
-    let mut a = g.first;
-    let mut ground = true;
-    while a != 0 {
-        let Some(member) = judge_answer(space, h, s, g, a) else {
-            return Judged::Damaged;
-        };
-        ground &= member.ground;
-        a = member.next;
+    let table = Table {
+        cells: space,
+        head: h,
+    };
+    let ground = |end| judge_path(space, end, g.variables, h.edition);
+    match judge_all(&table, s, g, ground) {
+        None => Judged::Damaged,
+        Some(true) => Judged::Ground,
+        Some(false) => Judged::Variable,
     }
-    if ground {
-        return Judged::Ground;
-    }
-    Judged::Variable
 }

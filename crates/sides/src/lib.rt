@@ -6,6 +6,8 @@ pub mod chains;
 pub mod names;
 pub mod searches;
 
+use trie::End;
+
 // The answers of a source: a damaged record was met, no form holds a variable, or some form does.
 // Three names and no Option of a bool: join's definitions (`whole_answers`, `ground_answers`) go by them.
 #[derive(Clone, Copy)]
@@ -15,11 +17,11 @@ pub enum Judged {
     Variable,
 }
 
-// One answer of a source, which was found sound: the number of the next one, and whether its form holds no variable.
+// One answer of a source, whose record was found sound: the number of the next one, and where its path ends.
 #[derive(Clone, Copy)]
 pub struct Member {
     pub next: usize,
-    pub ground: bool,
+    pub end: End,
 }
 
 // The search of a form among the answers to a subgoal: no damaged record was met, the form is not among them, and how

@@ -27,6 +27,7 @@ fn whole_sound(space: &[u32], h: Head, n: usize, leaf: usize, a: usize) -> bool
 }
 
 // The search from an answer root on, in a space as it was when the call began.
+// Of cells and header and no Table: pairing keeps the header with its sources, and would build one for each form.
 pub fn search(space: &[u32], h: Head, root: usize, tokens: &[u32], index: &[u32]) -> Met
     requires { RootIn space.now h root }
     ensures { Searched (search_indexed index.now h.nodes) space.now h root tokens.now result }

@@ -11,6 +11,7 @@ use Rattle.plain.specs.Requests.{Request, Reply}
 use Rattle.space.specs.Layout.{sizes_of}
 use Rattle.space.specs.Sound.{Bounds, subgoal_under}
 use Rattle.space.specs.declared.Head.{Head}
+use Rattle.space.specs.declared.tables.Table.{Table}
 use Rattle.space.specs.declared.Subgoal.{Subgoal}
 use Rattle.trie.specs.Walks.{Finding, walk_by}
 use Rattle.store.specs.Views.{View, view_of, subgoal_trie, answer_trie}
@@ -21,6 +22,10 @@ use Rattle.store.specs.Calls.{used_answers, reply, under_by}
 -- the cells of a space under its head, as the calls read them
 abbrev pub view_in : List ℕ → Head → View
 view_in cs h = view_of (sizes_of h.edition) cs h
+
+-- that of a table
+abbrev pub view_at : Table → View
+view_at t = view_in t.cells.now t.head
 
 -- on the cells `before` the decision d on a call or an answer answers r and leaves `after`; no out is lent. Nothing is
 -- searched any more, so the way of finding a child has no part in it.

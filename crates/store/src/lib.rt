@@ -45,7 +45,8 @@ pub enum Reason {
     New(u32, u32),
 }
 
-// What why answers: the reason, and the variables of an old term in order of rank.
+// What why answers: the reason, and the variables of an old term in order of rank; how many, the reason says. (An array
+// of the most there may be: there is no heap for a Vec.)
 #[derive(Clone, Copy)]
 pub struct Why {
     pub reason: Reason,
@@ -69,7 +70,7 @@ pub enum Outcome {
 }
 
 // What detours answers. Where a total was found the first `count` numbers are those of its answers, in the order of the
-// goals.
+// goals. (An array of the most there may be: there is no heap for a Vec.)
 #[derive(Clone, Copy)]
 pub struct Detour {
     pub outcome: Outcome,

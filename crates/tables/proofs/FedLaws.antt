@@ -12,7 +12,8 @@ use Rattle.text.specs.declared.Taking.TheVariants.{Line, More}
 use Rattle.session.specs.Program.{Holding, Turn, with_line, feed, goes_on}
 use Rattle.session.proofs.ProgramLaws.{feed-append, LineFed, line-ends, turn-by-turn}
 use Rattle.tables.specs.declared.Failed.{Failed}
-use Rattle.tables.specs.Progress.{Progress, Answered, program_holds, Fed, ends_with, TakesChunk, ReadsSome, ReadsOn}
+use Rattle.tables.specs.declared.Session.{Session}
+use Rattle.tables.specs.Progress.{Progress, Answered, held, Fed, ends_with, TakesChunk, ReadsSome, ReadsOn}
 
 pub feed-none : (p : Holding) → Fed [] p p
 unfolding feed
@@ -58,28 +59,27 @@ module _ {chunk : List ℕ} {at : ℕ} {p q : Holding} (k : Through chunk at p q
       ∙ sym (ap (λ (r : Took). (goes_on chunk q r.line r.answer).holds) e))
 
   -- a line ends and is answered
-  pub through-line : (line : List ℕ) (next n : ℕ) (text space out : List ℕ)
-      → took (Line next n) line ≡ taking (drop at chunk) at q.line q.kept
-      → Answered (take n line) q.text q.space q.out text space out
-      → Through chunk next p (program_holds line 0 text space out)
-  through-line line next n text space out e a =
-      let l : LineFed (drop at chunk) (drop next chunk) q line n = line-ends chunk at q (took (Line next n) line) e in
+  pub through-line : (next n : ℕ) (s s' : Session) → (s.text ≡ q.text) × (s.space ≡ q.space) × (s.out ≡ q.out)
+      → took (Line next n) s.line ≡ taking (drop at chunk) at q.line q.kept
+      → Answered n s s'
+      → Through chunk next p (held s' 0)
+  through-line next n s s' o e a =
+      let l : LineFed (drop at chunk) (drop next chunk) q s.line n = line-ends chunk at q (took (Line next n) s.line) e in
       record {
         bytes = k.bytes ++ l.front;
         splits =
             k.splits ∙ ap (λ (xs : List ℕ). k.bytes ++ xs) l.splits
             ∙ sym (append_assoc k.bytes l.front (drop next chunk));
-        feeds = feed-both k.bytes l.front p q (program_holds line 0 text space out) k.feeds (rw (a.0, a.1, a.2) l.feeds);
+        feeds = feed-both k.bytes l.front p q (held s' 0) k.feeds (rw (a.0, a.1, a.2, a.3, o.0, o.1, o.2) l.feeds);
       }
 
 -- ---- the input's end
 
-module _ (line : List ℕ) (kept : ℕ) (text space out : List ℕ) where
-  pub last-answered : (text' space' out' : List ℕ) → 0 < kept → Answered (take kept line) text space out text' space' out'
-      → program_holds line 0 text' space' out' ≡ ends_with (program_holds line kept text space out)
-  last-answered text' space' out' h a = rw (ne_eqb kept 0 (λ e. omega (arith, h, e)), a.0, a.1, a.2)
+module _ (s : Session) (kept : ℕ) where
+  pub last-answered : (s' : Session) → 0 < kept → Answered kept s s' → held s' 0 ≡ ends_with (held s kept)
+  last-answered s' h a = rw (ne_eqb kept 0 (λ e. omega (arith, h, e)), a.0, a.1, a.2, a.3)
 
-  pub last_none : kept ≤ 0 → program_holds line 0 text space out ≡ ends_with (program_holds line kept text space out)
+  pub last_none : kept ≤ 0 → held s 0 ≡ ends_with (held s kept)
   last_none h = let e : kept ≡ 0 = omega (arith, h) in rw (e)
 
 -- ---- one read after another
@@ -93,9 +93,9 @@ taken_twice (suc k) (suc n) (x ∷ xs) =
     let l = taken_twice k n xs in
     (suc l.0, ap (λ (ys : List ℕ). x ∷ ys) l.1)
 
-module _ (buffer : List ℕ) (n : ℕ) (p : Holding) (line text space out : List ℕ) where
-  pub chunk_failed : (e : Failed) → TakesChunk (take n buffer) p (Err e) line text space out
-      → ReadsSome buffer p (Err e) line text space out
+module _ (buffer : List ℕ) (n : ℕ) (p : Holding) (s : Session) where
+  pub chunk_failed : (e : Failed) → TakesChunk (take n buffer) p (Err e) s
+      → ReadsSome buffer p (Err e) s
   chunk_failed e h =
       let l = taken_twice h.0 n buffer in
       (l.0, 0, ap (λ (bs : List ℕ). (feed bs p).holds) (sym l.1) ∙ h.1)
@@ -109,13 +109,13 @@ pub read_none : (p : Holding) → HasRead p p
 read_none p = record { bytes = []; feeds = feed-none p }
 
 -- what was read before, and one read more
-pub reads_on : {p q : Holding} → HasRead p q → (buffer : List ℕ) (r : Progress) (line text space out : List ℕ)
-    → ReadsSome buffer q r line text space out → ReadsOn p r line text space out
-reads_on {p} {q} k buffer (Ok (Some n)) line text space out h =
-    (k.bytes ++ take h.0 buffer, feed-both k.bytes (take h.0 buffer) p q (program_holds line n text space out) k.feeds h.1)
-reads_on {p} {q} k buffer (Ok None) line text space out h = (k.bytes, h ∙ ap ends_with (sym k.feeds))
-reads_on {p} {q} k buffer (Err e) line text space out h =
-    (k.bytes ++ take h.0 buffer, h.1, feed-both k.bytes (take h.0 buffer) p q (program_holds line h.1 text space out) k.feeds h.2)
+pub reads_on : {p q : Holding} → HasRead p q → (buffer : List ℕ) (r : Progress) (s : Session)
+    → ReadsSome buffer q r s → ReadsOn p r s
+reads_on {p} {q} k buffer (Ok (Some n)) s h =
+    (k.bytes ++ take h.0 buffer, feed-both k.bytes (take h.0 buffer) p q (held s n) k.feeds h.1)
+reads_on {p} {q} k buffer (Ok None) s h = (k.bytes, h ∙ ap ends_with (sym k.feeds))
+reads_on {p} {q} k buffer (Err e) s h =
+    (k.bytes ++ take h.0 buffer, h.1, feed-both k.bytes (take h.0 buffer) p q (held s h.1) k.feeds h.2)
 
 pub read-so-far : (p q : Holding) → (bytes : List ℕ) × Fed bytes p q → HasRead p q
 read-so-far p q h = record { bytes = h.0; feeds = h.1 }

@@ -6,6 +6,7 @@ use Rattle.basis.specs.Choice.{pick}
 use Rattle.session.specs.Session.{responding}
 use Rattle.session.specs.Program.{Holding, answers_line, feed}
 use Rattle.tables.specs.declared.Failed.{Failed}
+use Rattle.tables.specs.declared.Session.{Session}
 
 -- how many bytes are kept of the line begun, after a chunk; and after a read, or that the input has ended; or that
 -- reading or printing failed
@@ -25,15 +26,19 @@ Within (Ok (Some n)) most = n ≤ most
 Within (Ok None) most = Unit {0}
 Within (Err e) most = Unit {0}
 
--- a line was answered
-abbrev pub Answered : (line text space out text' space' out' : List ℕ) → Type 0
-Answered line text space out text' space' out' =
-    (text' ≡ (responding line text space out).text) × (space' ≡ (responding line text space out).space)
-    × (out' ≡ (responding line text space out).out)
+-- the line kept was answered
+abbrev pub Answered : ℕ → Session → Session → Type 0
+Answered kept s s' =
+    let r = responding (take kept s.line) s.text s.space s.out in
+    (s'.text ≡ r.text) × (s'.space ≡ r.space) × (s'.out ≡ r.out) × (s'.line ≡ s.line)
 
 -- what the program holds, of its parts
 abbrev pub program_holds : List ℕ → ℕ → List ℕ → List ℕ → List ℕ → Holding
 program_holds line kept text space out = record { line = line; kept = kept; text = text; space = space; out = out }
+
+-- and of its arrays and how many bytes are kept
+abbrev pub held : Session → ℕ → Holding
+held s kept = program_holds s.line kept s.text s.space s.out
 
 -- these bytes lead from p to q
 abbrev pub Fed : List ℕ → Holding → Holding → Type 0
@@ -44,21 +49,18 @@ abbrev pub ends_with : Holding → Holding
 ends_with p = pick (eqb p.kept 0) p (answers_line p).holds
 
 -- all of a chunk is taken; or a reply could not be printed, and it is taken up to the end of the line replied to
-abbrev pub TakesChunk : List ℕ → Holding → Chunk → (line text space out : List ℕ) → Type 0
-TakesChunk chunk p (Ok n) line text space out = Fed chunk p (program_holds line n text space out)
-TakesChunk chunk p (Err e) line text space out = (k : ℕ) × Fed (take k chunk) p (program_holds line 0 text space out)
+abbrev pub TakesChunk : List ℕ → Holding → Chunk → Session → Type 0
+TakesChunk chunk p (Ok n) s = Fed chunk p (held s n)
+TakesChunk chunk p (Err e) s = (k : ℕ) × Fed (take k chunk) p (held s 0)
 
 -- the first bytes of the buffer were read and taken; or the input had ended
-abbrev pub ReadsSome : List ℕ → Holding → Progress → (line text space out : List ℕ) → Type 0
-ReadsSome buffer p (Ok (Some n)) line text space out =
-    (k : ℕ) × Fed (take k buffer) p (program_holds line n text space out)
-ReadsSome buffer p (Ok None) line text space out = program_holds line 0 text space out ≡ ends_with p
-ReadsSome buffer p (Err e) line text space out =
-    (k : ℕ) × (n : ℕ) × Fed (take k buffer) p (program_holds line n text space out)
+abbrev pub ReadsSome : List ℕ → Holding → Progress → Session → Type 0
+ReadsSome buffer p (Ok (Some n)) s = (k : ℕ) × Fed (take k buffer) p (held s n)
+ReadsSome buffer p (Ok None) s = held s 0 ≡ ends_with p
+ReadsSome buffer p (Err e) s = (k : ℕ) × (n : ℕ) × Fed (take k buffer) p (held s n)
 
 -- one read after another: some bytes were taken, and where the input has ended the last line was answered too
-abbrev pub ReadsOn : Holding → Progress → (line text space out : List ℕ) → Type 0
-ReadsOn p (Ok (Some n)) line text space out = (bytes : List ℕ) × Fed bytes p (program_holds line n text space out)
-ReadsOn p (Ok None) line text space out =
-    (bytes : List ℕ) × (program_holds line 0 text space out ≡ ends_with (feed bytes p).holds)
-ReadsOn p (Err e) line text space out = (bytes : List ℕ) × (n : ℕ) × Fed bytes p (program_holds line n text space out)
+abbrev pub ReadsOn : Holding → Progress → Session → Type 0
+ReadsOn p (Ok (Some n)) s = (bytes : List ℕ) × Fed bytes p (held s n)
+ReadsOn p (Ok None) s = (bytes : List ℕ) × (held s 0 ≡ ends_with (feed bytes p).holds)
+ReadsOn p (Err e) s = (bytes : List ℕ) × (n : ℕ) × Fed bytes p (held s n)

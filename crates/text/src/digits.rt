@@ -23,7 +23,7 @@ const LETTER: u32 = FROM_LETTER as u32;
 // The most digits of a cell, in any base from ten on: a 32-bit number is below 10^10.
 const MOST_DIGITS: usize = 10;
 
-// A digit's byte.
+// A digit's byte. (`char::from_digit` gives an Option of a char, to be opened and narrowed: no plainer.)
 fn digit_text(d: u32) -> u8
     requires { d < 16 }
     ensures { result ≡ digit_text d }

@@ -90,10 +90,10 @@ pub fn refusal_word(r: Refusal) -> u64
 pub fn done_word(answer: Result<(), Refusal>) -> u64
     ensures { result ≡ word (said_finish answer) }
 {
-    match answer {
-        Ok(()) => result_word(DONE, 0),
-        Err(r) => refusal_word(r),
+    if let Err(r) = answer {
+        return refusal_word(r);
     }
+    result_word(DONE, 0)
 }
 
 // A subgoal that was there before: its state is told by the upper half, so its number keeps the lower.

@@ -17,7 +17,7 @@ const WHY_NEW: u32 = 13;
 // So many cells of out always suffice: a count, and as many variables as a term may have.
 const WHY_CELLS: usize = 1 + MOST_VARIABLES;
 
-// So many variables, with their number before them.
+// So many variables, with their number before them. (The first m of a Why, whose array has one length: no heap.)
 fn give_variables(variables: &[u32], m: usize, out: &mut [u32])
     requires { (m ≤ length variables.now) × (m ≤ 32) × (why_room ≤ length out.old) }
     ensures { GivesVariables variables.now m out.old out.new }

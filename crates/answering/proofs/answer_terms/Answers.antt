@@ -1,16 +1,24 @@
--- `answering::answer_terms` meets its contract.
-use Rattle.store.proofs.CallsReading.{form-within}
+-- `answering::answer_terms` meets its contract, by the call with the buffers that it was lent.
+use Prim.Native.Nat.{ℕ}
+use mathlib.Core.Path.{◌≡◌}
+use mathlib.Core.List.{List}
+use Rattle.plain.specs.Requests.{Reply}
+use Rattle.space.specs.declared.Head.{Head}
+use Rattle.store.specs.Views.{View}
+use Rattle.store.specs.Decisions.{Decision}
+use Rattle.store.specs.Clauses.{Does, answered_terms}
+use Rattle.trie.specs.Index.{search_indexed}
 use borrow.Author.Rules.{rules}
 use Rattle.answering.proofs.answer_terms.Goals as goal
 
-pub answer_read-requires : goal.answer_read-requires
-answer_read-requires c = (search rules, form-within _ _ _ _ _ _ c.read_terms-read.ensures)
+pub with_form-requires : goal.with_form-requires
+with_form-requires c = λ vars form room. (c.requires, room)
 
-pub returns-then-cells_rung-le-FEW_CELLS : goal.returns-then-cells_rung-le-FEW_CELLS
-returns-then-cells_rung-le-FEW_CELLS c = c.answer_read.ensures _ _ c.read_terms-read.ensures
-
-pub answer_read-requires-2 : goal.answer_read-requires-2
-answer_read-requires-2 c = (search rules, form-within _ _ _ _ _ _ c.read_terms-read-2.ensures)
+-- the space after the closure is the space after the function
+does-after : (before : List ℕ) (h : Head) (d : View → Decision) (r : Reply) (left after : List ℕ) → Does before h d r left → after ≡ left → Does before h d r after
+does-after before h d r left after k e = rw e k
 
 pub returns : goal.returns
-returns c = c.answer_read-2.ensures _ _ c.read_terms-read-2.ensures
+returns c =
+    let d : View → Decision = answered_terms (search_indexed c.args.index.now c.args.h.nodes) c.args.h c.args.s c.args.g.variables c.args.terms.now in
+    does-after c.args.space.now c.args.h d _ _ _ c.with_form.ensures.5.met.1 (search rules)

@@ -9,14 +9,10 @@ use Rattle.calling.proofs.call_indexed.Goals as goal
 pub returns-in-Err : goal.returns-in-Err
 returns-in-Err c = call-answers _ _ _ _ _ (steps-refused _ _ _ _ (told c.in-Err.is c.read_header.ensures))
 
-pub call_with-requires : goal.call_with-requires
-call_with-requires c = record { bounds = header-bounds _ _ (told c.in-Ok.is c.read_header.ensures); room_for_form = search rules }
+pub with_form-requires : goal.with_form-requires
+with_form-requires c = λ vars form room. (header-bounds _ _ (told c.in-Ok.is c.read_header.ensures), room)
 
-pub returns-then-cells_rung-le-FEW_CELLS : goal.returns-then-cells_rung-le-FEW_CELLS
-returns-then-cells_rung-le-FEW_CELLS c = call-answers _ _ _ _ _ (steps-indexed _ _ _ (told c.in-Ok.is c.read_header.ensures) _ _ _ c.call_with.ensures)
-
-pub call_with-requires-in-Ok : goal.call_with-requires-in-Ok
-call_with-requires-in-Ok c = record { bounds = header-bounds _ _ (told c.in-Ok.is c.read_header.ensures); room_for_form = search rules }
-
-pub returns-else-cells_rung-le-FEW_CELLS : goal.returns-else-cells_rung-le-FEW_CELLS
-returns-else-cells_rung-le-FEW_CELLS c = call-answers _ _ _ _ _ (steps-indexed _ _ _ (told c.in-Ok.is c.read_header.ensures) _ _ _ c.call_with-in-Ok.ensures)
+pub returns-in-Ok : goal.returns-in-Ok
+returns-in-Ok c =
+    let h = c.with_form.ensures.5.met.1 in
+    call-answers _ _ _ _ _ (steps-indexed _ _ _ (told c.in-Ok.is c.read_header.ensures) _ _ _ (h.0, search rules))

@@ -8,23 +8,17 @@ use Rattle.detours.proofs.detours_in.Goals as goal
 
 pub returns-then-not-are_numbers : goal.returns-then-not-are_numbers
 returns-then-not-are_numbers c =
-    decides-number c.args.space.now c.args.h c.args.goals.now c.args.budget
+    decides-number c.args.table.now c.args.goals.now c.args.budget
     (told c.are_numbers.ensures c.if-not-are_numbers.true)
-
-pub judge_goals-requires : goal.judge_goals-requires
-judge_goals-requires c = (c.requires, told c.are_numbers.ensures c.if-not-are_numbers.false)
 
 pub returns-in_err-judge_goals : goal.returns-in_err-judge_goals
 returns-in_err-judge_goals c =
     let passed : c.from_residual.result ≡ Err c.in_err-judge_goals.field-0.0 = search rules in
-    rw passed (decides-refused c.args.space.now c.args.h c.args.goals.now c.args.budget
+    rw passed (decides-refused c.args.table.now c.args.goals.now c.args.budget
     (told c.are_numbers.ensures c.if-not-are_numbers.false) _ (rw c.in_err-judge_goals.was at c.judge_goals.ensures))
-
-pub search_goals-requires : goal.search_goals-requires
-search_goals-requires c = (c.requires, rw c.in_ok-judge_goals.was at c.judge_goals.ensures)
 
 pub returns : goal.returns
 returns c =
-    decides-found c.args.space.now c.args.h c.args.goals.now c.args.budget
+    decides-found c.args.table.now c.args.goals.now c.args.budget
     (told c.are_numbers.ensures c.if-not-are_numbers.false) _
     (rw c.in_ok-judge_goals.was at c.judge_goals.ensures) c.search_goals.ensures

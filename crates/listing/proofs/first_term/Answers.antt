@@ -17,7 +17,7 @@ fill-requires c =
     let h = confirmed c.is_listable.ensures c.if-not-is_listable.false in
     let g = given _ _ _ h in
     let z = start-at _ c.beginning.ensures in
-    (record { given = h; table = c.sums_of-sums.ensures; within = omega (arith, z.0); few = omega (arith, z.1) }, refl)
+    (record { within = omega (arith, z.0); few = omega (arith, z.1) }, refl)
 
 pub offer-requires : goal.offer-requires
 offer-requires c =

@@ -31,7 +31,7 @@ advance-requires c =
     let z = start-at _ c.beginning.ensures in
     let w = copied-goes c.args.edition c.args.s c.args.symbols.now c.args.given.now c.args.out.now h (confirmed c.is_listed.ensures c.if-not-is_listed.false) _ _ c.copy.ensures _ c.beginning.ensures in
     record {
-      room = record { given = h; table = c.sums_of-sums.ensures; within = omega (arith, z.0); few = omega (arith, z.1) };
+      room = record { within = omega (arith, z.0); few = omega (arith, z.1) };
       long = copied-long c.args.edition c.args.s c.args.symbols.now c.args.given.now c.args.out.now h (confirmed c.is_listed.ensures c.if-not-is_listed.false) (replicate 8 0) _ (omega arith) c.copy.ensures;
       letters = w.letters;
       ends = w.ends;

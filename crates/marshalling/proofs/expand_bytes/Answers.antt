@@ -1,10 +1,16 @@
 -- `expand_bytes` meets its contract: the edition is judged first.
-use mathlib.Core.Path.{◌∙◌, sym}
-use Rattle.marshalling.proofs.ExportLaws.{expanded-in, edition-refused}
+use borrow.Author.Rules.{rules}
+use native.Mathlib.Omega.{arith}
+use mathlib.Core.Path.{ap}
+use Rattle.forms.specs.Stored.{StoredForm, stored_of}
+use Rattle.forms.proofs.StoredLaws.{converter-stored}
+use Rattle.marshalling.specs.Export.{expand_bytes}
+use Rattle.marshalling.proofs.ExportLaws.{expand-odd, export-in}
 use Rattle.marshalling.proofs.expand_bytes.Goals as goal
 
-pub returns-then-is_converter_edition : goal.returns-then-is_converter_edition
-returns-then-is_converter_edition c = rw c.returned.ensures (expanded-in _ _ _ _ (sym c.is_converter_edition.ensures ∙ c.if-is_converter_edition.true) c.expand_input.ensures)
-
 pub returns : goal.returns
-returns c = rw c.returned-2.ensures (edition-refused _ _ _ (sym c.is_converter_edition.ensures ∙ c.if-is_converter_edition.false))
+returns c =
+    let e = c.args.edition in let b = c.args.input.now in let out = c.args.out.now in
+    export-in e b out _ _ (expand_bytes (stored_of e) b out) _ c.export.ensures.refused (λ h. expand-odd _ _ _ h)
+    (λ k z. let x = c.export.ensures.converted k (omega (arith, z)) in search rules)
+    (λ k. ap (λ (s : StoredForm). expand_bytes s b out) (converter-stored e k))

@@ -2,7 +2,7 @@
 use Rattle.std.specs.Prelude.{Err, None, Some}
 use Rattle.basis.specs.declared.refusals.Refusal.TheVariants as refusal
 use Rattle.reads.proofs.ReadsCases.{onward-damaged, first-within, state-read, onward-first, onward-lost, next-within, onward-next}
-use Rattle.store.specs.Clauses.{view_in}
+use Rattle.store.specs.Clauses.{view_at}
 use Rattle.store.proofs.CallsRecords.{reads-subgoal, reads-answer}
 use mathlib.Core.Path.{◌≡◌, sym, ◌∙◌}
 use native.Mathlib.Omega.{arith}
@@ -18,8 +18,8 @@ returns-in_err-g c =
 pub hand_out-requires : goal.hand_out-requires
 hand_out-requires c =
     let came : c.read_subgoal.result ≡ Some c.in_ok-g.g = grind arith in
-    let got : Some c.in_ok-g.g ≡ reads-subgoal (view_in c.args.space.now c.args.h) c.args.s = sym came ∙ c.read_subgoal.ensures in
-    (search rules, first-within (view_in c.args.space.now c.args.h) c.args.s c.args.a _ got, state-read (view_in c.args.space.now c.args.h) c.args.s c.args.a _ got)
+    let got : Some c.in_ok-g.g ≡ reads-subgoal (view_at c.args.table.now) c.args.s = sym came ∙ c.read_subgoal.ensures in
+    (first-within (view_at c.args.table.now) c.args.s c.args.a _ got, state-read (view_at c.args.table.now) c.args.s c.args.a _ got)
 
 pub returns-then-a-eq0 : goal.returns-then-a-eq0
 returns-then-a-eq0 c =
@@ -37,9 +37,9 @@ pub hand_out-requires-2 : goal.hand_out-requires-2
 hand_out-requires-2 c =
     let came : c.read_subgoal.result ≡ Some c.in_ok-g.g = grind arith in
     let also : c.read_answer.result ≡ Some c.in_ok-y.y = grind arith in
-    let got : Some c.in_ok-g.g ≡ reads-subgoal (view_in c.args.space.now c.args.h) c.args.s = sym came ∙ c.read_subgoal.ensures in
-    let next : Some c.in_ok-y.y ≡ reads-answer (view_in c.args.space.now c.args.h) c.args.a = sym also ∙ c.read_answer.ensures in
-    (search rules, next-within (view_in c.args.space.now c.args.h) c.args.s c.args.a _ got (search rules) _ next, state-read (view_in c.args.space.now c.args.h) c.args.s c.args.a _ got)
+    let got : Some c.in_ok-g.g ≡ reads-subgoal (view_at c.args.table.now) c.args.s = sym came ∙ c.read_subgoal.ensures in
+    let next : Some c.in_ok-y.y ≡ reads-answer (view_at c.args.table.now) c.args.a = sym also ∙ c.read_answer.ensures in
+    (next-within (view_at c.args.table.now) c.args.s c.args.a _ got (search rules) _ next, state-read (view_at c.args.table.now) c.args.s c.args.a _ got)
 
 pub returns : goal.returns
 returns c =

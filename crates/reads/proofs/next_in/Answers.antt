@@ -1,28 +1,26 @@
 -- `reads::next_in` meets its contract.
 use Rattle.reads.proofs.ReadsCases.{starting-within, next-zero, next-above, next-elsewhere, next-onward}
-use Rattle.store.specs.Views.{view_of}
-use Rattle.space.specs.Layout.{sizes_of}
+use Rattle.store.specs.Clauses.{view_at}
 use native.Mathlib.Omega.{arith}
 use mathlib.Core.Path.{◌∙◌}
 use Rattle.basis.proofs.Tests.{told}
 use borrow.Author.Rules.{rules}
-use Rattle.reads.proofs.next_in.Goals.{then-s-eq0-via-then-s-eq0, then-s-eq0-via-else-s-eq0+then-h-s, then-s-eq0-via-else-s-eq0+else-h-s+then-not-starts}
+use Rattle.reads.proofs.next_in.Goals.{then-s-eq0-via-then-s-eq0, then-s-eq0-via-else-s-eq0+then-table-s, then-s-eq0-via-else-s-eq0+else-table-s+then-not-starts}
 use Rattle.reads.proofs.next_in.Goals as goal
 
 pub returns-then-s-eq0 : goal.returns-then-s-eq0
 returns-then-s-eq0 c = elim c.then-s-eq0.branch [
   | then-s-eq0-via-then-s-eq0 w ↦ next-zero _ _ _ _ w.if-s-eq0.true
-  | then-s-eq0-via-else-s-eq0+then-h-s w ↦ next-above _ _ _ _ w.if-s-eq0.false w.if-h-s.true
-  | then-s-eq0-via-else-s-eq0+else-h-s+then-not-starts w ↦
-      next-elsewhere _ _ _ _ w.if-s-eq0.false w.if-h-s.false (told w.starts.ensures w.if-not-starts.true)
+  | then-s-eq0-via-else-s-eq0+then-table-s w ↦ next-above _ _ _ _ w.if-s-eq0.false w.if-table-s.true
+  | then-s-eq0-via-else-s-eq0+else-table-s+then-not-starts w ↦
+      next-elsewhere _ _ _ _ w.if-s-eq0.false w.if-table-s.false (told w.starts.ensures w.if-not-starts.true)
 ]
 
 pub go_on-requires : goal.go_on-requires
 go_on-requires c = (
-  search rules,
   omega arith,
   search rules,
-  starting-within (view_of (sizes_of c.args.h.edition) c.args.space.now c.args.h) c.args.s c.args.a
+  starting-within (view_at c.args.table.now) c.args.s c.args.a
       (told c.starts.ensures c.if-not-starts.false),
 )
 

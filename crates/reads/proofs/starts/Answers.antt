@@ -8,8 +8,8 @@ use Rattle.reads.proofs.starts.Goals as goal
 pub returns-then-a-eq0 : goal.returns-then-a-eq0
 returns-then-a-eq0 c = eq-eqb _ _ c.if-a-eq0.true ∙ starting-none _ _ _ (search rules)
 
-pub returns-then-a-h : goal.returns-then-a-h
-returns-then-a-h c = starting-named _ _ _ (search rules) (search rules) c.answer_in.result c.answer_in.ensures
+pub returns-then-a-table : goal.returns-then-a-table
+returns-then-a-table c = starting-named _ _ _ (search rules) (search rules) c.answer.result c.answer.ensures
 
-pub returns-else-a-h : goal.returns-else-a-h
-returns-else-a-h c = lt-leb _ _ c.if-a-h.false ∙ starting-above _ _ _ (search rules) (search rules)
+pub returns-else-a-table : goal.returns-else-a-table
+returns-else-a-table c = lt-leb _ _ c.if-a-table.false ∙ starting-above _ _ _ (search rules) (search rules)

@@ -12,7 +12,7 @@ use Rattle.basis.proofs.Tests.{told}
 use Rattle.trie.specs.Index.{search_indexed}
 use Rattle.store.proofs.CallsReading.{cells-enough, form-room, form-count}
 use borrow.Author.Rules.{rules}
-use Rattle.reasons.proofs.WhyCases.{why-refused, why-other, why-form, why-named}
+use Rattle.reasons.proofs.WhyCases.{tokens-few, why-refused, why-other, why-form, why-named}
 use Rattle.reasons.proofs.why_with.Goals as goal
 
 pub returns-in_err-size : goal.returns-in_err-size
@@ -42,7 +42,9 @@ slice_bounds-why_at-end-then-is_callable c =
 
 pub why_at-requires : goal.why_at-requires
 why_at-requires c =
-    (c.requires.bounds.0, omega (arith, length-take c.in_ok-size.size.tokens c.read_terms.new.form, c.requires.bounds.1))
+    let got_here : Ok (formed c.in_ok-size.size.tokens c.in_ok-size.size.variables) ≡ reading (arity_of c.args.h.edition) (stored_of c.args.h.edition) 1 c.args.term.now =
+    sym c.in_ok-size.was ∙ c.read_terms.ensures.0 in
+    (c.requires.bounds, omega (arith, length-take c.in_ok-size.size.tokens c.read_terms.new.form, tokens-few c.args.h.edition 1 c.args.term.now _ _ got_here))
 
 pub returns-then-is_callable : goal.returns-then-is_callable
 returns-then-is_callable c =

@@ -4,9 +4,9 @@ use Rattle.words.specs.Words.{word}
 use Rattle.words.proofs.WordLaws.{said-word}
 use Rattle.words.proofs.done_word.Goals as goal
 
-pub returns-in-Ok : goal.returns-in-Ok
+pub returns : goal.returns
 unfolding word
-returns-in-Ok c = said-word said_finish c.in-Ok.is _ c.result_word.ensures
+returns c = said-word said_finish c.in_default.is _ c.result_word.ensures
 
 pub returns-in-Err : goal.returns-in-Err
 unfolding word

@@ -1,39 +1,24 @@
 -- `detours::judging::judge_answers` meets its contract.
-use Rattle.store.proofs.ChainMeasure.{ahead-less}
-use Rattle.detours.proofs.JudgeCases.{passed-begin, passed-ended, passed-severed, passed_on}
-use Rattle.detours.specs.Judging.{AnswerJudged}
-use Rattle.std.specs.Prelude.{None, Some}
-use mathlib.Core.Path.{◌≡◌, refl}
-use native.Mathlib.Omega.{arith}
+use Rattle.detours.specs.Judging.{fits}
+use Rattle.detours.proofs.JudgeCases.{answers-held}
+use Rattle.std.specs.Prelude.{None, ◌≡◌, true, false, eqb}
+use borrow.Author.Tests.{eq-eqb, ne_eqb}
 use borrow.Author.Rules.{rules}
 use Rattle.detours.proofs.judging.judge_answers.Goals as goal
 
-pub loop-a-init : goal.loop-a-init
-loop-a-init c = passed-begin _ _ _ c.args.g _ c.requires.held.3 c.requires.first_le_answers refl
-
-pub judge_answer-requires : goal.judge_answer-requires
-judge_answer-requires c = (c.requires.held, omega arith, c.loop-a.invariant.within)
-
-pub loop-a-smaller : goal.loop-a-smaller
-loop-a-smaller c =
-    let sound_here : AnswerJudged c.args.space.now
-    c.args.h c.args.s
-    c.loop-a.a (Some c.in_ok-member.member) = rw c.in_ok-member.was at c.judge_answer.ensures in
-    ahead-less _ _ _ (search rules) c.loop-a.invariant.within (sound_here).0.0
-
-pub loop-a-preserved : goal.loop-a-preserved
-loop-a-preserved c =
-    let sound_here : AnswerJudged c.args.space.now
-    c.args.h c.args.s
-    c.loop-a.a (Some c.in_ok-member.member) = rw c.in_ok-member.was at c.judge_answer.ensures in
-    passed_on c.args.space.now c.args.h c.args.s c.loop-a.invariant (search rules)
-    _ _ (sound_here) refl
-
-pub returns-in_err-member : goal.returns-in_err-member
-returns-in_err-member c =
+pub returns-in_err-all : goal.returns-in_err-all
+returns-in_err-all c =
     let passed : c.from_residual.result ≡ None = search rules in
-    rw passed (passed-severed c.args.space.now c.args.h c.args.s c.loop-a.invariant (search rules)
-    (rw c.in_err-member.was at c.judge_answer.ensures))
+    rw passed (rw c.in_err-all.was at (c.judge_all.ensures (fits c.args.table.now.head.edition c.args.g.variables) (λ end r e p. search rules)))
 
-pub returns : goal.returns
-returns c = passed-ended c.args.space.now c.args.h c.args.s c.loop-a.invariant (search rules)
+pub returns-then-g-eq2 : goal.returns-then-g-eq2
+returns-then-g-eq2 c =
+    let two : eqb c.args.g.variables 2 ≡ true = eq-eqb _ _ (search rules) in
+    rw two at (answers-held c.args.table.now c.args.s c.args.g c.requires.is _
+    (rw c.in_ok-all.was at (c.judge_all.ensures (fits c.args.table.now.head.edition c.args.g.variables) (λ end r e p. search rules))))
+
+pub returns-else-g-eq2 : goal.returns-else-g-eq2
+returns-else-g-eq2 c =
+    let other : eqb c.args.g.variables 2 ≡ false = ne_eqb _ _ (search rules) in
+    rw other (rw other at (answers-held c.args.table.now c.args.s c.args.g c.requires.is _
+    (rw c.in_ok-all.was at (c.judge_all.ensures (fits c.args.table.now.head.edition c.args.g.variables) (λ end r e p. search rules)))))

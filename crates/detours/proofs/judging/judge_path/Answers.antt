@@ -1,7 +1,8 @@
 -- `detours::judging::judge_path` meets its contract.
 use Rattle.basis.proofs.Tests.{told}
 use Rattle.trie.specs.Runs.{path_to}
-use Rattle.detours.proofs.JudgeCases.{path-fit, path-severed, path-unfit}
+use Rattle.sides.proofs.ChainCases.{path-severed}
+use Rattle.detours.proofs.JudgeCases.{path-fit, path-unfit}
 use borrow.Author.Rules.{rules}
 use Rattle.detours.proofs.judging.judge_path.Goals as goal
 

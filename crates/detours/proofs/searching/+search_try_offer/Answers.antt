@@ -1,51 +1,28 @@
 -- The proof of the cycle of calls {search, try_offer}. The measure is twice the goals left, and one more for a choice.
-use Prim.Native.Nat.{◌-◌}
 use mathlib.Core.Path.{ap, ◌∙◌}
 use native.Mathlib.Omega.{arith}
 use borrow.Author.Rules.{rules}
-use lib.ListN.{get_or, length-set}
 use Rattle.basis.proofs.Tests.{told}
 use Rattle.space.specs.Sound.{subgoal_under}
 use Rattle.detours.specs.declared.Offer.{Offer}
-use Rattle.space.proofs.HeaderLaws.{bounds-nodes}
 use Rattle.store.proofs.ChainMeasure.{ahead-less}
 use Rattle.detours.proofs.SearchCases.{searchable-kept, searchable-next, look-stopped, look-taken, look-last, look-deeper, put-size}
 use Rattle.detours.proofs.GoalSteps.{trying-begun, trying-ended, trying-stopped, trying-on, stop}
 use Rattle.detours.proofs.searching.+search_try_offer.Goals as goal
 
-pub search-offset_bounds-goals-at : goal.search-offset_bounds-goals-at
-search-offset_bounds-goals-at t c = omega (arith, c.requires.here, c.requires.few)
-
-pub search-bounds-goals-at : goal.search-bounds-goals-at
-search-bounds-goals-at t c = c.requires.here
-
-pub search-wide-requires : goal.search-wide-requires
-search-wide-requires t c = tt
-
-pub search-subgoal_in-g-requires : goal.search-subgoal_in-g-requires
-search-subgoal_in-g-requires t c = (
-  c.requires.bounds,
-  omega (arith, c.wide.ensures.0, (c.requires.searched _ c.requires.here).low),
-  omega (arith, c.wide.ensures.0, (c.requires.searched _ c.requires.here).high),
-)
-
 pub search-loop-a-init : goal.search-loop-a-init
 search-loop-a-init t c =
-    trying-begun c.args.space.now c.args.h c.args.goals.now c.args.at c.args.sum c.args.work.now
-    c.requires c.subgoal_in-g.result
-    (c.subgoal_in-g.ensures ∙ ap (subgoal_under c.args.space.now c.args.h) c.wide.ensures.0)
-
-pub search-answer_in-y-requires : goal.search-answer_in-y-requires
-search-answer_in-y-requires t c = (c.requires.bounds, omega arith, c.loop-a.invariant.within)
+    trying-begun c.args.table.now c.args.goals.now c.args.at c.args.sum c.args.work.now
+    c.requires c.subgoal-g.result
+    (c.subgoal-g.ensures ∙ ap (subgoal_under c.args.table.now.cells.now c.args.table.now.head) c.wide.ensures.0)
 
 pub search-offer_in-offer-requires : goal.search-offer_in-offer-requires
 search-offer_in-offer-requires t c =
-    let x = stop c.args.space.now c.args.h c.args.goals.now c.args.at c.args.sum c.args.work.now
-    c.requires c.loop-a.work c.loop-a.a c.loop-a.invariant c.answer_in-y.result c.answer_in-y.ensures (search rules) in (
-      bounds-nodes _ _ c.requires.bounds,
+    let x = stop c.args.table.now c.args.goals.now c.args.at c.args.sum c.args.work.now
+    c.requires c.loop-a.work c.loop-a.a c.loop-a.invariant c.answer-y.result c.answer-y.ensures (search rules) in (
       x.leaf-in,
       x.parent_in,
-      omega (arith, c.loop-a.invariant.within, c.requires.bounds.answers-within, c.requires.bounds.answers-most),
+      c.loop-a.invariant.within,
     )
 
 pub search-try_offer-requires : goal.search-try_offer-requires
@@ -60,98 +37,44 @@ search-try_offer-requires t c = (
 
 pub search-returns-then-not-try_offer : goal.search-returns-then-not-try_offer
 search-returns-then-not-try_offer t c =
-    trying-stopped c.args.space.now c.args.h c.args.goals.now c.args.at c.args.sum c.args.work.now
-    c.requires c.loop-a.work c.loop-a.a c.loop-a.invariant c.answer_in-y.result
-    c.answer_in-y.ensures (search rules) c.offer_in-offer.result
+    trying-stopped c.args.table.now c.args.goals.now c.args.at c.args.sum c.args.work.now
+    c.requires c.loop-a.work c.loop-a.a c.loop-a.invariant c.answer-y.result
+    c.answer-y.ensures (search rules) c.offer_in-offer.result
     c.offer_in-offer.ensures _ (rw (c.if-not-try_offer.true) at c.try_offer.ensures)
 
 pub search-loop-a-smaller : goal.search-loop-a-smaller
 search-loop-a-smaller t c =
-    let x = stop c.args.space.now c.args.h c.args.goals.now c.args.at c.args.sum c.args.work.now
-    c.requires c.loop-a.work c.loop-a.a c.loop-a.invariant c.answer_in-y.result
-    c.answer_in-y.ensures (search rules) in
+    let x = stop c.args.table.now c.args.goals.now c.args.at c.args.sum c.args.work.now
+    c.requires c.loop-a.work c.loop-a.a c.loop-a.invariant c.answer-y.result
+    c.answer-y.ensures (search rules) in
     ahead-less _ _ _ (search rules) c.loop-a.invariant.within x.rises
 
 pub search-loop-a-preserved : goal.search-loop-a-preserved
 search-loop-a-preserved t c =
-    trying-on c.args.space.now c.args.h c.args.goals.now c.args.at c.args.sum c.args.work.now
-    c.requires c.loop-a.work c.loop-a.a c.loop-a.invariant c.answer_in-y.result
-    c.answer_in-y.ensures (search rules) c.offer_in-offer.result
+    trying-on c.args.table.now c.args.goals.now c.args.at c.args.sum c.args.work.now
+    c.requires c.loop-a.work c.loop-a.a c.loop-a.invariant c.answer-y.result
+    c.answer-y.ensures (search rules) c.offer_in-offer.result
     c.offer_in-offer.ensures _ (rw (c.if-not-try_offer.false) at c.try_offer.ensures)
 
 pub search-returns : goal.search-returns
 search-returns t c =
-    trying-ended c.args.space.now c.args.h c.args.goals.now c.args.at c.args.sum c.args.work.now
+    trying-ended c.args.table.now c.args.goals.now c.args.at c.args.sum c.args.work.now
     c.requires c.loop-a.work c.loop-a.a c.loop-a.invariant (search rules)
-
-pub try_offer-bounds-work-0 : goal.try_offer-bounds-work-0
-try_offer-bounds-work-0 t c = omega (arith, c.requires.0.size)
 
 pub try_offer-returns-then-work-eq0 : goal.try_offer-returns-then-work-eq0
 try_offer-returns-then-work-eq0 t c =
-    look-stopped c.args.space.now c.args.h c.args.goals.now c.args.at c.args.sum c.args.offer
+    look-stopped c.args.table.now c.args.goals.now c.args.at c.args.sum c.args.offer
     c.args.work.now (search rules)
-
-pub try_offer-bounds-work-0-2 : goal.try_offer-bounds-work-0-2
-try_offer-bounds-work-0-2 t c = omega (arith, c.requires.0.size)
-
-pub try_offer-overflow_sub-work : goal.try_offer-overflow_sub-work
-try_offer-overflow_sub-work t c = omega arith
-
-pub try_offer-bounds-work-0-3 : goal.try_offer-bounds-work-0-3
-try_offer-bounds-work-0-3 t c = omega (arith, c.requires.0.size)
-
-pub try_offer-is_taken-requires : goal.try_offer-is_taken-requires
-try_offer-is_taken-requires t c = (
-  omega (arith, c.requires.0.here, c.requires.0.few),
-  length-set c.args.work.now 0 (get_or c.args.work.now 0 0 - 1) ∙ c.requires.0.size,
-)
 
 pub try_offer-returns-then-is_taken : goal.try_offer-returns-then-is_taken
 try_offer-returns-then-is_taken t c =
-    look-taken c.args.space.now c.args.h c.args.goals.now c.args.at c.args.sum c.args.offer
+    look-taken c.args.table.now c.args.goals.now c.args.at c.args.sum c.args.offer
     c.args.work.now c.requires.0.few c.requires.0.size (search rules) (told c.if-is_taken.true c.is_taken.ensures)
-
-pub try_offer-overflow_add-work : goal.try_offer-overflow_add-work
-try_offer-overflow_add-work t c =
-    omega (arith, c.requires.0.here, c.requires.0.few)
-
-pub try_offer-offset_bounds-work-at : goal.try_offer-offset_bounds-work-at
-try_offer-offset_bounds-work-at t c =
-    omega (arith, c.requires.0.here, c.requires.0.few)
-
-pub try_offer-bounds-work-at : goal.try_offer-bounds-work-at
-try_offer-bounds-work-at t c =
-    omega (arith, c.requires.0.here, c.requires.0.few)
-
-pub try_offer-overflow_add-work-2 : goal.try_offer-overflow_add-work-2
-try_offer-overflow_add-work-2 t c =
-    omega (arith, c.requires.0.here, c.requires.0.few)
-
-pub try_offer-offset_bounds-work-at-2 : goal.try_offer-offset_bounds-work-at-2
-try_offer-offset_bounds-work-at-2 t c =
-    omega (arith, c.requires.0.here, c.requires.0.few)
-
-pub try_offer-bounds-work-at-2 : goal.try_offer-bounds-work-at-2
-try_offer-bounds-work-at-2 t c =
-    omega (arith, c.requires.0.here, c.requires.0.few)
-
-pub try_offer-overflow_add-total : goal.try_offer-overflow_add-total
-try_offer-overflow_add-total t c =
-    omega (arith, c.requires.0.here, c.requires.0.few, c.requires.0.small, c.requires.1)
-
-pub try_offer-overflow_add-at : goal.try_offer-overflow_add-at
-try_offer-overflow_add-at t c =
-    omega (arith, c.requires.0.here, c.requires.0.few)
-
-pub try_offer-overflow_add-at-then-at-goals : goal.try_offer-overflow_add-at-then-at-goals
-try_offer-overflow_add-at-then-at-goals t c =
-    omega (arith, c.requires.0.here, c.requires.0.few)
 
 pub try_offer-keep-requires : goal.try_offer-keep-requires
 try_offer-keep-requires t c = (
   omega (arith, c.requires.0.here, c.requires.0.few),
-  put-size c.args.space.now c.args.h c.args.goals.now c.args.at c.args.sum c.args.offer
+  put-size c.args.table.now c.args.goals.now c.args.at c.args.sum c.args.offer
       c.args.work.now c.requires.0.few c.requires.0.size (search rules)
       (told c.if-is_taken.false c.is_taken.ensures) c.requires.0.here,
   omega (arith, c.requires.0.here, c.requires.0.few, c.requires.0.small, c.requires.1),
@@ -159,27 +82,23 @@ try_offer-keep-requires t c = (
 
 pub try_offer-returns-then-at-goals : goal.try_offer-returns-then-at-goals
 try_offer-returns-then-at-goals t c =
-    look-last c.args.space.now c.args.h c.args.goals.now c.args.at c.args.sum c.args.offer
+    look-last c.args.table.now c.args.goals.now c.args.at c.args.sum c.args.offer
     c.args.work.now c.requires.0.few c.requires.0.size (search rules)
     (told c.if-is_taken.false c.is_taken.ensures) c.requires.0.here _
     (omega arith) _ (search rules) c.keep.ensures
-
-pub try_offer-overflow_add-at-2 : goal.try_offer-overflow_add-at-2
-try_offer-overflow_add-at-2 t c =
-    omega (arith, c.requires.0.here, c.requires.0.few)
 
 pub try_offer-search-requires : goal.try_offer-search-requires
 try_offer-search-requires t c = (
   omega (arith, c.decreases),
   searchable-next c.requires.0 _ _ (omega arith) (omega (arith, c.requires.0.here)) c.requires.1
-      (put-size c.args.space.now c.args.h c.args.goals.now c.args.at c.args.sum c.args.offer
+      (put-size c.args.table.now c.args.goals.now c.args.at c.args.sum c.args.offer
       c.args.work.now c.requires.0.few c.requires.0.size (search rules)
       (told c.if-is_taken.false c.is_taken.ensures) c.requires.0.here),
 )
 
 pub try_offer-returns : goal.try_offer-returns
 try_offer-returns t c =
-    look-deeper c.args.space.now c.args.h c.args.goals.now c.args.at c.args.sum c.args.offer
+    look-deeper c.args.table.now c.args.goals.now c.args.at c.args.sum c.args.offer
     c.args.work.now c.requires.0.few c.requires.0.size (search rules)
     (told c.if-is_taken.false c.is_taken.ensures) c.requires.0.here _
     (omega arith) _ _ c.search.ensures

@@ -11,7 +11,7 @@ abbrev pub decreases-try_offer : goal.decreases-try_offer
 decreases-try_offer l = 2 * (length l.goals.now - suc l.at) + 1
 
 abbrev pub invariant-search-loop-a : goal.invariant-search-loop-a
-invariant-search-loop-a l = Trying l.space l.h l.goals l.at l.sum l.initial.work l.work l.a
+invariant-search-loop-a l = Trying l.table l.goals l.at l.sum l.initial.work l.work l.a
 
 abbrev pub decreases-search-loop-a : goal.decreases-search-loop-a
-decreases-search-loop-a l = ahead l.h.answers l.a
+decreases-search-loop-a l = ahead l.table.head.answers l.a

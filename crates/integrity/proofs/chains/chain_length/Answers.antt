@@ -6,19 +6,16 @@ use borrow.Author.Rules.{rules}
 use Rattle.integrity.proofs.chains.chain_length.Goals as goal
 
 pub loop-a-init : goal.loop-a-init
-loop-a-init c = counting-begin (c.args.space.now) (c.args.h) (c.args.first) (c.requires.1)
-
-pub answer_in-a-requires : goal.answer_in-a-requires
-answer_in-a-requires c = (c.requires.0.0, omega arith, c.loop-a.invariant.along.within)
+loop-a-init c = counting-begin c.args.table.now (c.args.first) (c.requires.1)
 
 pub overflow_add-count : goal.overflow_add-count
-overflow_add-count c = let b = c.requires.0.0 in let k = counting-less (c.args.space.now) (c.args.h) (c.args.first) (c.loop-a.invariant) (search rules) in omega arith
+overflow_add-count c = let b = c.args.table.now.within in let k = counting-less c.args.table.now (c.args.first) (c.loop-a.invariant) (search rules) in omega arith
 
 pub loop-a-smaller : goal.loop-a-smaller
-loop-a-smaller c = ahead-less _ _ _ (search rules) (c.loop-a.invariant.along.within) (next-rises (c.args.space.now) (c.args.h) (c.args.first) (c.loop-a.invariant.along) (search rules) (c.requires.0) (c.answer_in-a.result) (c.answer_in-a.ensures))
+loop-a-smaller c = ahead-less _ _ _ (search rules) (c.loop-a.invariant.along.within) (next-rises c.args.table.now (c.args.first) (c.loop-a.invariant.along) (search rules) (c.requires.0) (c.answer-a.result) (c.answer-a.ensures))
 
 pub loop-a-preserved : goal.loop-a-preserved
-loop-a-preserved c = counting-on (c.args.space.now) (c.args.h) (c.args.first) (c.loop-a.invariant) (search rules) (c.requires.0) (c.answer_in-a.result) (c.answer_in-a.ensures)
+loop-a-preserved c = counting-on c.args.table.now (c.args.first) (c.loop-a.invariant) (search rules) (c.requires.0) (c.answer-a.result) (c.answer-a.ensures)
 
 pub returns : goal.returns
-returns c = counting-ended (c.args.space.now) (c.args.h) (c.args.first) (c.loop-a.invariant) (search rules)
+returns c = counting-ended c.args.table.now (c.args.first) (c.loop-a.invariant) (search rules)

@@ -5,4 +5,4 @@ use mathlib.Core.Path.{◌≡◌}
 use Rattle.integrity.proofs.chains.chains_length.Given as goal
 
 abbrev pub invariant-loop-i : goal.invariant-loop-i
-invariant-loop-i l = (l.count ≡ lengths_to l.space l.h l.i) × (l.count ≤ most * l.i)
+invariant-loop-i l = (l.count ≡ lengths_to l.table l.i) × (l.count ≤ most * l.i)

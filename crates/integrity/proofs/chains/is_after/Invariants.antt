@@ -3,7 +3,7 @@ use Rattle.integrity.proofs.ChainCases.{Searching}
 use Rattle.integrity.proofs.chains.is_after.Given as goal
 
 abbrev pub invariant-loop-b : goal.invariant-loop-b
-invariant-loop-b l = Searching l.space l.h l.first l.a l.b
+invariant-loop-b l = Searching l.table l.first l.a l.b
 
 abbrev pub decreases-loop-b : goal.decreases-loop-b
-decreases-loop-b l = ahead l.h.answers l.b
+decreases-loop-b l = ahead l.table.head.answers l.b

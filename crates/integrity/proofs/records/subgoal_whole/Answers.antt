@@ -11,8 +11,8 @@ returns-else-ends_whole c = c.if-ends_whole.false ∙ elim c.if-subgoal_stands.b
       let stands = told c.subgoal_stands.ensures v.if-subgoal_stands.true in
       let formed = rw v.subgoal_end.ensures at v.path_whole.ensures in
       elim c.if-path_whole.branch [
-        | then-path_whole w ↦ subgoal-unended (c.args.space.now) (c.args.h) (c.args.s) (c.subgoal_in-g.result) (c.subgoal_in-g.ensures) stands (told formed (sym v.value-is ∙ w.if-path_whole.true)) (told w.ends_whole.ensures (sym w.value-is ∙ c.if-ends_whole.false))
-        | else-path_whole w ↦ subgoal-unformed (c.args.space.now) (c.args.h) (c.args.s) (c.subgoal_in-g.result) (c.subgoal_in-g.ensures) stands (told formed (sym v.value-is ∙ w.if-path_whole.false))
+        | then-path_whole w ↦ subgoal-unended c.args.table.now (c.args.s) (c.subgoal-g.result) (c.subgoal-g.ensures) stands (told formed (sym v.value-is ∙ w.if-path_whole.true)) (told w.ends_whole.ensures (sym w.value-is ∙ c.if-ends_whole.false))
+        | else-path_whole w ↦ subgoal-unformed c.args.table.now (c.args.s) (c.subgoal-g.result) (c.subgoal-g.ensures) stands (told formed (sym v.value-is ∙ w.if-path_whole.false))
       ]
-  | else-subgoal_stands v ↦ subgoal-unstood (c.args.space.now) (c.args.h) (c.args.s) (c.subgoal_in-g.result) (c.subgoal_in-g.ensures) (told c.subgoal_stands.ensures v.if-subgoal_stands.false)
+  | else-subgoal_stands v ↦ subgoal-unstood c.args.table.now (c.args.s) (c.subgoal-g.result) (c.subgoal-g.ensures) (told c.subgoal_stands.ensures v.if-subgoal_stands.false)
 ]

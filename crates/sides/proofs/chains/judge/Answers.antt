@@ -1,34 +1,20 @@
 -- `sides::chains::judge` meets its contract.
-use Rattle.store.proofs.ChainMeasure.{ahead-less}
-use Rattle.sides.proofs.ChainCases.{passed-begin, passed-ended, passed-broken, passed_on}
-use Rattle.sides.specs.Chains.{AnswerJudged}
-use mathlib.Core.Path.{refl}
-use Rattle.std.specs.Prelude.{Some}
-use native.Mathlib.Omega.{arith}
+use Rattle.std.specs.Prelude.{true, false, ◌≡◌}
+use Rattle.sides.specs.Chains.{free}
+use Rattle.sides.proofs.ChainCases.{chain-broken, chain-held}
 use borrow.Author.Rules.{rules}
 use Rattle.sides.proofs.chains.judge.Goals as goal
 
-pub loop-a-init : goal.loop-a-init
-loop-a-init c = passed-begin _ _ _ c.args.g c.requires.held.3 c.requires.first_le_answers
+pub returns-in-None : goal.returns-in-None
+returns-in-None c =
+    chain-broken (record { cells = c.args.space; head = c.args.h; within = c.requires.held.0 }) c.args.s (rw c.in-None.is at (c.judge_all.ensures free (λ end r e p. search rules)))
 
-pub judge_answer-requires : goal.judge_answer-requires
-judge_answer-requires c = (c.requires.held, omega arith, c.loop-a.invariant.within)
+pub returns-in-Some-true : goal.returns-in-Some-true
+returns-in-Some-true c =
+    let told : c.in-Some-true.field-0 ≡ true = search rules in
+    chain-held (record { cells = c.args.space; head = c.args.h; within = c.requires.held.0 }) c.args.s true (rw (c.in-Some-true.is, told) at (c.judge_all.ensures free (λ end r e p. search rules)))
 
-pub loop-a-smaller : goal.loop-a-smaller
-loop-a-smaller c =
-    let sound_here : AnswerJudged c.args.space.now c.args.h c.args.s c.loop-a.a (Some c.in-Some.member) = rw c.in-Some.is at c.judge_answer.ensures in
-    ahead-less _ _ _ (search rules) c.loop-a.invariant.within (sound_here).0.0
-
-pub loop-a-preserved : goal.loop-a-preserved
-loop-a-preserved c =
-    let sound_here : AnswerJudged c.args.space.now c.args.h c.args.s c.loop-a.a (Some c.in-Some.member) = rw c.in-Some.is at c.judge_answer.ensures in
-    passed_on c.args.space.now c.args.h c.args.s c.loop-a.invariant (search rules) _ _ (sound_here) refl
-
-pub returns-in_default : goal.returns-in_default
-returns-in_default c = passed-broken c.args.space.now c.args.h c.args.s c.loop-a.invariant (search rules) (rw c.in_default.is at c.judge_answer.ensures)
-
-pub returns-then-ground : goal.returns-then-ground
-returns-then-ground c = passed-ended c.args.space.now c.args.h c.args.s (rw c.if-ground.true at c.loop-a.invariant) (search rules)
-
-pub returns : goal.returns
-returns c = passed-ended c.args.space.now c.args.h c.args.s (rw c.if-ground.false at c.loop-a.invariant) (search rules)
+pub returns-in-Some-false : goal.returns-in-Some-false
+returns-in-Some-false c =
+    let told : c.in-Some-false.field-0 ≡ false = search rules in
+    chain-held (record { cells = c.args.space; head = c.args.h; within = c.requires.held.0 }) c.args.s false (rw (c.in-Some-false.is, told) at (c.judge_all.ensures free (λ end r e p. search rules)))

@@ -1,9 +1,0 @@
-use Prim.Native.Nat.{◌<◌}
-use mathlib.Core.Path.{◌≡◌}
-use lib.ListN.{drop}
-use Rattle.listing.specs.Listing.{alphabet}
-use Rattle.listing.specs.Steps.{can_go_on, first_of}
-use Rattle.listing.proofs.choose.Given as goal
-
-abbrev pub invariant-loop-j : goal.invariant-loop-j
-invariant-loop-j l = (first_of (can_go_on l.edition l.symbols l.place l.left) (drop l.from (alphabet l.s l.symbols)) ≡ first_of (can_go_on l.edition l.symbols l.place l.left) (drop l.j (alphabet l.s l.symbols))) × (l.left < 8)
