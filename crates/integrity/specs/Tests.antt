@@ -147,7 +147,8 @@ module _ (t : Table) where
   -- what is broken where each record by itself is whole
   unfoldable pub chains_fault : Fault
   chains_fault =
-      pick (eqb chained_count t.head.answers) nothing (answer (suc (answer_lost (coding_of t.head.edition) (view_at t))))
+      pick (eqb chained_count t.head.answers) nothing
+      (answer (suc (answer_lost (coding_of t.head.edition) (view_at t))))
 
   -- the nodes of all tries
   abbrev pub tries_in : Trie
