@@ -1,7 +1,7 @@
 -- The cells that a search works in: what is chosen, and what stands for the least total.
 use Prim.Native.Nat.{ℕ, zero, suc, ◌+◌, ◌≤◌, ◌<◌}
 use mathlib.Core.Path.{◌≡◌, refl, sym, ap, ◌∙◌, subst}
-use mathlib.Core.Bool.{Bool, ◌||◌}
+use mathlib.Core.Bool.{Bool, true, false, ◌||◌}
 use mathlib.Core.List.{List, [], ◌∷◌, ◌++◌, map}
 use native.Mathlib.Omega.{arith}
 use lib.Dec.{eqb}
@@ -29,6 +29,34 @@ unfolding cells_at
 cells-more work from n = refl
 
 -- ---- among
+
+pub among-more : (d : ℕ) (xs : List ℕ) (x : ℕ) → among d (xs ++ (x ∷ [])) ≡ (among d xs || eqb x d)
+unfolding among
+among-more d [] x = by_cases (eqb x d) (λ e. rw e refl) (λ e. rw e refl)
+among-more d (y ∷ ys) x = by_cases (eqb y d) (λ e. rw e refl) (λ e. rw e (among-more d ys x))
+
+pub among_none : (d : ℕ) (work : List ℕ) (from : ℕ) → among d (cells_at work from 0) ≡ false
+unfolding among cells_at
+among_none d work from = refl
+
+or-true : (a : Bool) → (a || true) ≡ true
+or-true true = refl
+or-true false = refl
+
+or-false : (a : Bool) → (a || false) ≡ a
+or-false true = refl
+or-false false = refl
+
+-- the last cell is the one looked for, or is not
+pub among-here : (d : ℕ) (work : List ℕ) (from n : ℕ) → get_or work (from + n) 0 ≡ d → among d (cells_at work from (suc n)) ≡ true
+among-here d work from n e =
+    ap (among d) (cells-more work from n) ∙ among-more d (cells_at work from n) (get_or work (from + n) 0)
+    ∙ ap (λ (b : Bool). among d (cells_at work from n) || b) (eq-eqb (get_or work (from + n) 0) d e) ∙ or-true (among d (cells_at work from n))
+
+pub among-before : (d : ℕ) (work : List ℕ) (from n : ℕ) → (get_or work (from + n) 0 ≡ d → ⊥) → among d (cells_at work from (suc n)) ≡ among d (cells_at work from n)
+among-before d work from n e =
+    ap (among d) (cells-more work from n) ∙ among-more d (cells_at work from n) (get_or work (from + n) 0)
+    ∙ ap (λ (b : Bool). among d (cells_at work from n) || b) (ne_eqb (get_or work (from + n) 0) d e) ∙ or-false (among d (cells_at work from n))
 
 -- the first n cells from a place on, as a part
 cells-part : (work : List ℕ) (from n : ℕ) → from + n ≤ length work → cells_at work from n ≡ take n (drop from work)

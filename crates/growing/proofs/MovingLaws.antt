@@ -1,12 +1,12 @@
--- What stands where after cells were moved or cleared, and two blocks moved one after the other.
+-- What stands where after cells were moved or cleared, and moves one after another.
 use Prim.Native.Nat.{ℕ, ◌+◌, ◌-◌, ◌≤◌, ◌<◌}
-use mathlib.Core.Path.{◌≡◌, refl, ap, ◌∙◌}
+use mathlib.Core.Path.{◌≡◌, refl, sym, ap, ◌∙◌}
 use mathlib.Core.List.{List, ◌++◌}
 use native.Mathlib.Omega.{arith}
-use lib.Dec.{ltb}
-use lib.ListN.{length, get_or, take, drop, replicate, length-append, length-drop, length-replicate, get_or-replicate, get_or-append}
-use lib.Seq.{length-take-le, get_or-append-add, get_or-take, get_or-drop}
-use borrow.Author.Tests.{ltb-true, ltb-false, lt-ltb, le-ltb}
+use lib.Dec.{eqb, ltb}
+use lib.ListN.{length, get_or, take, drop, set, replicate, length-append, length-drop, length-replicate, length-set, get_or-replicate, get_or-append}
+use lib.Seq.{length-take-le, get_or-append-add, get_or-take, get_or-drop, get_or-set_same, get_or-set_other, ext_get_or}
+use borrow.Author.Tests.{ltb-true, ltb-false, lt-ltb, le-ltb, eqb-true, eqb-false}
 use Rattle.basis.proofs.Cases.{by_cases}
 use Rattle.space.specs.Fresh.{cleared}
 use Rattle.growing.specs.declared.Block.{Block}
@@ -65,7 +65,118 @@ module _ (from to count : ℕ) (s : List ℕ) (low : from + count ≤ length s) 
       ∙ get_or-drop (to + count) s (j - length (take to s ++ take count (drop from s))) 0
       ∙ at_place s (let e : to + count + (j - length (take to s ++ take count (drop from s))) ≡ j = omega (arith, head-size) in e)
 
+-- ---- moves that change nothing
+
+pub moved_none : (from to : ℕ) (s : List ℕ) → from ≤ length s → to ≤ length s → s ≡ moved from to 0 s
+moved_none from to s l h =
+    let low : from + 0 ≤ length s = omega arith in
+    let high : to + 0 ≤ length s = omega arith in
+    ext_get_or 0 s (moved from to 0 s) (sym (moved_length from to 0 s low high)) (λ j b. by_cases (ltb j to)
+    (λ t. sym (moved-below from to 0 s low high j (ltb-true _ _ t)))
+    (λ t. let u : to ≤ j = ltb-false _ _ t in sym (moved-above from to 0 s low high j (omega arith))))
+
+pub moved-still : (from count : ℕ) (s : List ℕ) → from + count ≤ length s → s ≡ moved from from count s
+moved-still from count s h =
+    ext_get_or 0 s (moved from from count s) (sym (moved_length from from count s h h)) (λ j b. by_cases (ltb j from)
+    (λ t. sym (moved-below from from count s h h j (ltb-true _ _ t)))
+    (λ t. let u : from ≤ j = ltb-false _ _ t in by_cases (ltb j (from + count))
+    (λ x. at_place s (let e : j ≡ from + (j - from) = omega arith in e) ∙ sym (moved_in from from count s h h j u (ltb-true _ _ x)))
+    (λ x. sym (moved-above from from count s h h j (ltb-false _ _ x)))))
+
+-- ---- moves one after another
+
+-- a store of the next cell as it was before the first
+pub store-more : (from to i : ℕ) (s : List ℕ) → from + i < length s → to + i < length s
+    → set (moved from to i s) (to + i) (get_or s (from + i) 0) ≡ moved from to (i + 1) s
+store-more from to i s f t =
+    let m : List ℕ = moved from to i s in
+    let l : length m ≡ length s = moved_length from to i s (omega arith) (omega arith) in
+    let low : from + (i + 1) ≤ length s = omega arith in
+    let high : to + (i + 1) ≤ length s = omega arith in
+    ext_get_or 0 (set m (to + i) (get_or s (from + i) 0)) (moved from to (i + 1) s)
+    (length-set m (to + i) (get_or s (from + i) 0) ∙ l ∙ sym (moved_length from to (i + 1) s low high))
+    (λ j b. by_cases (eqb j (to + i))
+    (λ e. let is : j ≡ to + i = eqb-true _ _ e in
+    at_place (set m (to + i) (get_or s (from + i) 0)) is ∙ get_or-set_same m (to + i) (get_or s (from + i) 0) 0 (omega (arith, l))
+    ∙ at_place s (let p : from + i ≡ from + (j - to) = omega arith in p) ∙ sym (moved_in from to (i + 1) s low high j (omega arith) (omega arith)))
+    (λ e. let ne : j ≡ to + i → ⊥ = eqb-false _ _ e in
+    get_or-set_other m (to + i) j (get_or s (from + i) 0) 0 ne
+    ∙ by_cases (ltb j to)
+    (λ x. moved-below from to i s (omega arith) (omega arith) j (ltb-true _ _ x) ∙ sym (moved-below from to (i + 1) s low high j (ltb-true _ _ x)))
+    (λ x. let u : to ≤ j = ltb-false _ _ x in by_cases (ltb j (to + i))
+    (λ y. let v : j < to + i = ltb-true _ _ y in moved_in from to i s (omega arith) (omega arith) j u v ∙ sym (moved_in from to (i + 1) s low high j u (omega arith)))
+    (λ y. let v : to + i ≤ j = ltb-false _ _ y in
+    moved-above from to i s (omega arith) (omega arith) j v ∙ sym (moved-above from to (i + 1) s low high j (strictly-above j ne v))))))
+  where
+    strictly-above : (j : ℕ) → (j ≡ to + i → ⊥) → to + i ≤ j → to + (i + 1) ≤ j
+    strictly-above j n h = omega arith
+
+pub moved-one : (from to : ℕ) (s : List ℕ) → from < length s → to < length s → set s to (get_or s from 0) ≡ moved from to 1 s
+moved-one from to s f t =
+    let none : s ≡ moved from to 0 s = moved_none from to s (omega arith) (omega arith) in
+    let i : to ≡ to + 0 = omega arith in
+    let p : from ≡ from + 0 = omega arith in
+    ap (λ (k : ℕ). set s k (get_or s from 0)) i ∙ ap (λ (k : ℕ). set s (to + 0) (get_or s k 0)) p
+    ∙ ap (λ (x : List ℕ). set x (to + 0) (get_or s (from + 0) 0)) none ∙ store-more from to 0 s (omega arith) (omega arith)
+
+-- cells that move down, i of them and then k more
+pub moved_on : (from to i k : ℕ) (s : List ℕ) → to ≤ from → from + i + k ≤ length s → moved (from + i) (to + i) k (moved from to i s) ≡ moved from to (i + k) s
+moved_on from to i k s d h =
+    let m : List ℕ = moved from to i s in
+    let a : from + i ≤ length s = omega arith in
+    let b : to + i ≤ length s = omega arith in
+    let l : length m ≡ length s = moved_length from to i s a b in
+    let a2 : from + i + k ≤ length m = omega arith in
+    let b2 : to + i + k ≤ length m = omega arith in
+    let a3 : from + (i + k) ≤ length s = omega arith in
+    let b3 : to + (i + k) ≤ length s = omega arith in
+    ext_get_or 0 (moved (from + i) (to + i) k m) (moved from to (i + k) s)
+    (moved_length (from + i) (to + i) k m a2 b2 ∙ l ∙ sym (moved_length from to (i + k) s a3 b3))
+    (λ j z. by_cases (ltb j to)
+    (λ x. let u : j < to = ltb-true _ _ x in
+    moved-below (from + i) (to + i) k m a2 b2 j (omega arith) ∙ moved-below from to i s a b j u ∙ sym (moved-below from to (i + k) s a3 b3 j u))
+    (λ x. let u : to ≤ j = ltb-false _ _ x in by_cases (ltb j (to + i))
+    (λ y. let v : j < to + i = ltb-true _ _ y in
+    moved-below (from + i) (to + i) k m a2 b2 j v ∙ moved_in from to i s a b j u v ∙ sym (moved_in from to (i + k) s a3 b3 j u (omega arith)))
+    (λ y. let v : to + i ≤ j = ltb-false _ _ y in by_cases (ltb j (to + i + k))
+    (λ w. let o : j < to + i + k = ltb-true _ _ w in
+    moved_in (from + i) (to + i) k m a2 b2 j v o ∙ moved-above from to i s a b (from + i + (j - (to + i))) (omega arith)
+    ∙ at_place s (let e : from + i + (j - (to + i)) ≡ from + (j - to) = omega arith in e) ∙ sym (moved_in from to (i + k) s a3 b3 j u (omega arith)))
+    (λ w. let o : to + i + k ≤ j = ltb-false _ _ w in
+    moved-above (from + i) (to + i) k m a2 b2 j o ∙ moved-above from to i s a b j v ∙ sym (moved-above from to (i + k) s a3 b3 j (omega arith))))))
+
+-- cells that move up, all but the first k and then these
+pub moved_back : (from to k m : ℕ) (s : List ℕ) → from ≤ to → to + k + m ≤ length s → moved from to k (moved (from + k) (to + k) m s) ≡ moved from to (k + m) s
+moved_back from to k m s d h =
+    let x : List ℕ = moved (from + k) (to + k) m s in
+    let a : from + k + m ≤ length s = omega arith in
+    let l : length x ≡ length s = moved_length (from + k) (to + k) m s a h in
+    let a2 : from + k ≤ length x = omega arith in
+    let b2 : to + k ≤ length x = omega arith in
+    let a3 : from + (k + m) ≤ length s = omega arith in
+    let b3 : to + (k + m) ≤ length s = omega arith in
+    ext_get_or 0 (moved from to k x) (moved from to (k + m) s)
+    (moved_length from to k x a2 b2 ∙ l ∙ sym (moved_length from to (k + m) s a3 b3))
+    (λ j z. by_cases (ltb j to)
+    (λ p. let u : j < to = ltb-true _ _ p in
+    moved-below from to k x a2 b2 j u ∙ moved-below (from + k) (to + k) m s a h j (omega arith) ∙ sym (moved-below from to (k + m) s a3 b3 j u))
+    (λ p. let u : to ≤ j = ltb-false _ _ p in by_cases (ltb j (to + k))
+    (λ q. let v : j < to + k = ltb-true _ _ q in
+    moved_in from to k x a2 b2 j u v ∙ moved-below (from + k) (to + k) m s a h (from + (j - to)) (omega arith)
+    ∙ sym (moved_in from to (k + m) s a3 b3 j u (omega arith)))
+    (λ q. let v : to + k ≤ j = ltb-false _ _ q in by_cases (ltb j (to + k + m))
+    (λ w. let o : j < to + k + m = ltb-true _ _ w in
+    moved-above from to k x a2 b2 j v ∙ moved_in (from + k) (to + k) m s a h j v o
+    ∙ at_place s (let e : from + k + (j - (to + k)) ≡ from + (j - to) = omega arith in e) ∙ sym (moved_in from to (k + m) s a3 b3 j u (omega arith)))
+    (λ w. let o : to + k + m ≤ j = ltb-false _ _ w in
+    moved-above from to k x a2 b2 j v ∙ moved-above (from + k) (to + k) m s a h j o ∙ sym (moved-above from to (k + m) s a3 b3 j (omega arith))))))
+
 -- ---- blocks
+
+pub block-still : (b : Block) (s : List ℕ) → b.from + b.count ≤ length s → b.from ≤ b.to → b.to ≤ b.from → s ≡ moved_block b s
+block-still b s h l m =
+    let z : b.from ≡ b.to = omega arith in
+    moved-still b.from b.count s h ∙ ap (λ (k : ℕ). moved b.from k b.count s) z
 
 module _ (b d : Block) (s : List ℕ) where
   pub both-up : (x y : List ℕ) → b.from < b.to → x ≡ moved_block d s → y ≡ moved_block b x → y ≡ both_moved b d s

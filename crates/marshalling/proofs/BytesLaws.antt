@@ -54,6 +54,12 @@ bytes-at [] i h = absurd (omega arith)
 bytes-at (x ∷ c) zero h = (refl, refl, refl, refl)
 bytes-at (x ∷ c) (suc i) h = rw (four-suc-add i 1, four-suc-add i 2, four-suc-add i 3, four-suc i) (bytes-at c i (omega arith))
 
+pub bytes_take : (n : ℕ) (c : List ℕ) → take (4 * n) (bytes_of c) ≡ bytes_of (take n c)
+unfolding bytes_of
+bytes_take zero c = refl
+bytes_take (suc n) [] = rw (four-suc n)
+bytes_take (suc n) (x ∷ c) = rw (four-suc n, bytes_take n c)
+
 -- ---- one after another
 
 -- what stands in s before place i was put into a, and now what stands at i is

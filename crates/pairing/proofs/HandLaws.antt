@@ -1,10 +1,10 @@
--- Answers in hand: the form that is in one, and a path taken in it.
+-- Answers in hand: the form that is in one, that it depends on its own cells alone, and a path taken in it.
 use mathlib.Core.Path.{◌≡◌, sym, ap, ◌∙◌, subst}
-use mathlib.Core.List.{List}
-use Prim.Native.Nat.{ℕ, ◌+◌, ◌-◌, ◌≤◌}
+use mathlib.Core.List.{List, [], ◌∷◌}
+use Prim.Native.Nat.{ℕ, zero, suc, ◌+◌, ◌-◌, ◌≤◌}
 use native.Mathlib.Omega.{arith}
 use lib.ListN.{length, take, drop, get_or, length-drop}
-use lib.Seq.{take_all}
+use lib.Seq.{take_all, take-take, get_or-take}
 use Rattle.forms.specs.Terms.{Term, every}
 use Rattle.plain.specs.Words.{Word}
 use Rattle.plain.proofs.StoredCoding.{coding-laws}
@@ -16,7 +16,7 @@ use Rattle.parts.specs.Parts.{start_of, GroundForm, tokens_start, InHand}
 use Rattle.parts.specs.Hands as hands
 use Rattle.forms.specs.Stored.{StoredForm, stored_of}
 use Rattle.pairing.specs.declared.Source.{Source}
-use Rattle.pairing.specs.Pairing.{Gatherable, form_in, end_of, AnswerTakeable, TakesAnswer}
+use Rattle.pairing.specs.Pairing.{Gatherable, hand, form_in, end_of, AnswerTakeable, TakesAnswer}
 
 pub ground-short : (e m : ℕ) (w : Word) → GroundForm (stored_of e) m w → length w ≤ 383
 ground-short e m w g = (coding-laws e).legal-short m w g.legal
@@ -32,9 +32,37 @@ form_in_lem stored m w held i =
     let e : get_or held m 0 - tokens_start ≡ length w = omega (arith, i.starts m (omega arith), start-end stored m w i.form) in
     ap (λ (n : ℕ). take n (drop tokens_start held)) e ∙ i.tokens
 
+-- ---- only the cells of the hand matter
+
+pub take_within : (k n h : ℕ) (l : List ℕ) → k + n ≤ h → take n (drop k l) ≡ take n (drop k (take h l))
+take_within zero n h l e = sym (take-take n h l (omega arith))
+take_within (suc k) n h [] e = ap (λ (x : List ℕ). take n (drop (suc k) x)) (sym (lib.Seq.take-nil h))
+take_within (suc k) n zero (x ∷ l) e = absurd (omega arith)
+take_within (suc k) n (suc h) (x ∷ l) e = take_within k n h l (omega arith)
+
+pub hand-kept : (edition m : ℕ) (w held held' : List ℕ) → InHand (stored_of edition) m w held → take hand held' ≡ take hand held → hand ≤ length held' → InHand (stored_of edition) m w held'
+hand-kept edition m w held held' i e l =
+    let s = ground-short edition m w i.form in
+    record {
+      form = i.form;
+      few = i.few;
+      room = omega arith;
+      tokens = take_within tokens_start (length w) hand held' (omega arith)
+          ∙ ap (λ (x : List ℕ). take (length w) (drop tokens_start x)) e
+          ∙ sym (take_within tokens_start (length w) hand held (omega arith))
+          ∙ i.tokens;
+      starts = λ k b. sym (get_or-take hand held' k 0 (omega (arith, i.few))) ∙ ap (λ (x : List ℕ). get_or x k 0) e ∙ get_or-take hand held k 0 (omega (arith, i.few)) ∙ i.starts k b;
+    }
+
 -- the form in hand as the cells say it
 pub hand-said : (stored : StoredForm) (m : ℕ) (w held : List ℕ) → InHand stored m w held → InHand stored m (form_in m held) held
 hand-said stored m w held i = subst (λ (u : Word). InHand stored m u held) (sym (form_in_lem stored m w held i)) i
+
+pub hand-stays : (edition m : ℕ) (held held' : List ℕ) → InHand (stored_of edition) m (form_in m held) held → take hand held' ≡ take hand held → hand ≤ length held'
+    → (form_in m held' ≡ form_in m held) × InHand (stored_of edition) m (form_in m held') held'
+hand-stays edition m held held' i e l =
+    let j = hand-kept edition m (form_in m held) held held' i e l in
+    (form_in_lem (stored_of edition) m (form_in m held) held' j, hand-said (stored_of edition) m (form_in m held) held' j)
 
 -- ---- a path taken in hand
 

@@ -1,5 +1,6 @@
 -- A power of two has one binary digit that is set, and its remainder is a mask; how a number comes into a slot.
-use Rattle.std.proofs.Common.{◌≡◌, ℕ, zero, suc, ◌+◌, ◌-◌, ◌*◌, ◌/◌, ◌%◌, ◌^◌, ◌<◌, ◌≤◌, Bool, true, false, eqb, List, length, get_or, set, sym, refl, ap, ◌∙◌, mod-lt, pow-suc, div-add-mod', arith, eqb-true, eq-eqb, ne_eqb}
+use Rattle.std.proofs.Common.{◌≡◌, ℕ, zero, suc, ◌+◌, ◌-◌, ◌*◌, ◌/◌, ◌%◌, ◌^◌, ◌<◌, ◌≤◌, Bool, true, false, eqb, List, length, get_or, set, sym, refl, ap, ◌∙◌, mod-lt, mod-eq_of_lt, pow-suc, div-add-mod', arith, eqb-true, eq-eqb, ne_eqb}
+use native.Mathlib.Nat.{mod_self}
 use lib.Bits.{bit_and, and_mask}
 use lib.Count.{ones, ones_step, ones_cat}
 use borrow.Author.Tests.{eqb-false}
@@ -113,6 +114,21 @@ module _ (size parent token : ℕ) (p : power_of_two size ≡ true) where
 
   pub slot-masked : (x : ℕ) → x ≡ (parent + token) % 2 ^ 32 → (bit_and x (size - 1) ≡ slot_of size parent token) × (bit_and x (size - 1) < size)
   slot-masked x e = let m = ap (λ (y : ℕ). bit_and y (size - 1)) e ∙ masked in (m, rw m slot-within)
+
+-- the next slot is a remainder too
+pub after-masked : (size slot : ℕ) → power_of_two size ≡ true → slot < size → (bit_and (slot + 1) (size - 1) ≡ slot_after size slot) × (bit_and (slot + 1) (size - 1) < size)
+unfolding slot_after
+after-masked size slot p h =
+    let k = power-is size p in
+    let m : bit_and (slot + 1) (size - 1) ≡ (slot + 1) % size = rw k.1 (and_mask (slot + 1) k.0) in
+    by_cases (eqb (suc slot) size)
+    (λ e. let z : slot + 1 ≡ size = let y : suc slot ≡ size = eqb-true _ _ e in omega arith in
+    let r : (slot + 1) % size ≡ 0 = ap (λ (x : ℕ). x % size) z ∙ mod_self size in
+    rw e (m ∙ r, rw (m ∙ r) (omega arith)))
+    (λ e. let y : suc slot ≡ size → ⊥ = eqb-false _ _ e in
+    let l : slot + 1 < size = omega arith in
+    let r : (slot + 1) % size ≡ suc slot = mod-eq_of_lt l ∙ omega arith in
+    rw e (m ∙ r, rw (m ∙ r) (omega arith)))
 
 -- ---- a number put in the first free slot
 
