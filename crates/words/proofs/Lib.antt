@@ -1,7 +1,9 @@
-pub mod CellBounds
+pub mod ReplyBounds
 pub mod WordLaws
 pub mod WhyLaws
 pub mod FaultBounds
+pub mod BuildBounds
+pub mod CarryBounds
 pub mod DetourWords
 pub mod Exports
 pub mod ListingBounds

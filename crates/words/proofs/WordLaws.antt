@@ -8,9 +8,13 @@ use native.Mathlib.Omega.{arith}
 use Rattle.basis.specs.Refusals.{number_of}
 use Rattle.basis.specs.declared.refusals.Refusal.{Refusal}
 use Rattle.basis.specs.declared.refusals.Refusal.TheVariants as refusal
+use Rattle.std.specs.Prelude.{Ok, Err}
+use Rattle.forms.specs.Converting.{Answer}
+use Rattle.forms.specs.declared.Unwritten.TheVariants as unwritten
 use Rattle.plain.specs.Requests.{Counts, Reply, used, refused, short}
+use Rattle.store.specs.Replies.{said_cells}
 use Rattle.words.specs.Words.{word, counting, counts_reply, counts_out}
-use Rattle.words.specs.Bounded.{Bounded}
+use Rattle.words.specs.Bounded.{Bounded, CellsBounded}
 
 -- ---- a refusal's number
 
@@ -55,6 +59,13 @@ module _ {x y : Reply} (same : x ≡ y) where
 
   pub given-bounded : Bounded y → Bounded x
   given-bounded f = rw same f
+
+-- ---- what load and instance answer
+
+pub cells-bounded : (x : Answer) → Bounded (said_cells x) → CellsBounded x
+cells-bounded (Ok n) f = f
+cells-bounded (Err (unwritten.Short n)) f = f
+cells-bounded (Err (unwritten.Refused r)) f = tt
 
 -- ---- counts
 

@@ -13,7 +13,7 @@ ghost use Rattle.store.specs.Replies.{said_join, said_cells};
 ghost use Rattle.integrity.specs.Tests.{said_check};
 ghost use Rattle.indexing.specs.Parts.{said_build};
 ghost use Rattle.words.specs.Words.{worded, word, broken_record, word_check, word_build};
-ghost use Rattle.words.specs.Bounded.{Bounded, FaultBounded};
+ghost use Rattle.words.specs.Bounded.{CellsBounded, FaultBounded};
 
 use basis::refusals::Refusal;
 use forms::Unwritten;
@@ -47,7 +47,7 @@ const JOINED: u32 = 10;
 
 const BUILT: u32 = 11;
 
-const REFUSED: u32 = 256;
+pub const REFUSED: u32 = 256;
 
 // ---- a broken record in the lower half: its kind, above the numbers that a record may have
 // Of the C interface too (the definition `word_check`).
@@ -161,7 +161,7 @@ pub fn join_word(answer: Result<u32, Refusal>) -> u64
 
 // For load and instance: the cells written, or with 12 the cells needed. Neither count passes 256 * 257.
 pub fn cells_word(answer: Result<usize, Unwritten>) -> u64
-    requires { Bounded (said_cells answer) }
+    requires { CellsBounded answer }
     ensures { result ≡ word (said_cells answer) }
 {
     match answer {

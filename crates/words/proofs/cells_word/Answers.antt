@@ -5,11 +5,11 @@ use Rattle.forms.specs.declared.Unwritten.{Unwritten}
 use Rattle.forms.specs.declared.Unwritten.TheVariants.{Refused, Short}
 use Rattle.store.specs.Replies.{said_cells}
 use Rattle.words.specs.Words.{word}
-use Rattle.words.proofs.WordLaws.{said-word, said-bounded}
+use Rattle.words.proofs.WordLaws.{said-word}
 use Rattle.words.proofs.cells_word.Goals as goal
 
 pub overflow_cast-n : goal.overflow_cast-n
-overflow_cast-n c = let h = said-bounded said_cells c.in-Ok.is c.requires in omega arith
+overflow_cast-n c = let h = rw c.in-Ok.is at c.requires in omega arith
 
 pub returns-in-Ok : goal.returns-in-Ok
 unfolding word
