@@ -84,8 +84,11 @@ fn compact_with(
     ensures { CompactsBytes edition input.now out.old (returned result) out.new }
 {
     decode(input, n, cells);
-    let read = convert::read_terms(&cells[..n], 1, vars, form, edition)?;
-    deliver(form, read.tokens, out)
+    let read = convert::read_terms(&cells[..n], 1, vars, form, edition);
+    let Ok(size) = read else {
+        return Err(Unwritten::Refused(read.unwrap_err()));
+    };
+    deliver(form, size.tokens, out)
 }
 
 // Compacts one term. Short terms get short buffers, since making a buffer clears it; over 256 cells nothing is read.

@@ -25,6 +25,9 @@ fields: each after one space
   a cell: 8 lower-case hexadecimal digits
 ";
 
+// A line at a time, so that one that cannot be said takes no other with it.
 pub fn say_usage(rt: &HostRuntime) {
-    say(rt, USAGE);
+    for line in USAGE.split_inclusive(|b| *b == b'\n') {
+        say(rt, line);
+    }
 }

@@ -9,9 +9,10 @@ use lib.Pow.{pow-add}
 use lib.Dec.{eqb, leb, ltb}
 use lib.ListN.{length, take, drop, get_or, set, length-drop}
 use lib.Pointwise.{pointwise}
-use lib.Seq.{drop-drop, drop-cons, drop-length, append_snoc, take-suc-set}
-use borrow.Author.Tests.{ltb-false, lt-ltb, le-ltb, le-leb, lt-leb, ne_eqb}
-use Rattle.std.specs.Prelude.{Option, Some, None, ◌==◌, nat_lt}
+use lib.Seq.{drop-drop, drop-cons, drop-length, append_snoc, take-suc-set, length-take-le}
+use Rattle.std.proofs.lemmas.List.{take_all}
+use borrow.Author.Tests.{ltb-false, leb-true, leb-false, lt-ltb, le-ltb, le-leb, lt-leb, ne_eqb}
+use Rattle.std.specs.Prelude.{Option, Some, None, ◌==◌, nat_lt, min}
 use Rattle.std.specs.List.{position, position_or_len}
 use Rattle.std.specs.Option.{unwrap_or}
 use Rattle.basis.specs.Choice.{pick}
@@ -157,6 +158,12 @@ module _ (line : List ℕ) (i : ℕ) (e : FieldEnds line i) where
       pub first-numeral : {m : Number} → numeral base least most (take n rest) ≡ m → numeral_first base least most (rest_at line i) ≡ m
       first-numeral t = ap (numeral_first base least most) next-field ∙ t
 
+  -- a field of more bytes than a numeral has
+  pub first-longer : (base least most : ℕ) (rest : List ℕ) → i < length line → rest ≡ drop (i + 1) line → most < length (fields rest).first → numeral_first base least most (rest_at line i) ≡ no_number
+  first-longer base least most rest h r l =
+      ap (numeral_first base least most) (rest-next line i e.1 h)
+      ∙ numeral-long base least most (field_at line (i + 1)) (subst (λ (w : List ℕ). most < length (fields w).first) r l)
+
   pub first-none : (base least most : ℕ) → length line ≤ i → numeral_first base least most (rest_at line i) ≡ no_number
   first-none base least most h = ap (numeral_first base least most) (place_end line i (omega (arith, e.0))).1
 
@@ -195,6 +202,41 @@ space-first line =
 
 pub first_end : (line : List ℕ) (r : Option ℕ) (n : ℕ) → r ≡ position (λ b. b == 32) line → n ≡ unwrap_or r (length line) → EndsFirst line n
 first_end line r n p q = subst (EndsFirst line) (sym (q ∙ ap (λ (x : Option ℕ). unwrap_or x (length line)) p ∙ space-first line)) (ends-first line)
+
+-- ---- the first field within so many bytes
+
+first-length : (line : List ℕ) → length (fields line).first ≡ first_space line
+first-length line = let f = ends-first line in ap length f.1 ∙ length-take-le (first_space line) line f.0.0
+
+ends-unique : (line : List ℕ) (n : ℕ) → EndsFirst line n → n ≡ first_space line
+ends-unique line n d = sym (length-take-le n line d.0.0) ∙ sym (ap length d.1) ∙ first-length line
+
+space-within : (k : ℕ) (line : List ℕ) → first_space (take k line) < k → first_space line ≡ first_space (take k line)
+space-within zero line h = absurd (let z : ⊥ = omega arith in z)
+space-within (suc k) [] h = refl
+space-within (suc k) (b ∷ bs) h =
+    by_cases (eqb b space)
+    (λ t. space-here b bs t ∙ sym (space-here b (take k bs) t))
+    (λ t. let e = space-later b (take k bs) t in space-later b bs t ∙ ap suc (space-within k bs (omega (arith, e))) ∙ sym e)
+
+space-most : (k : ℕ) (line : List ℕ) → first_space (take k line) ≤ first_space line
+space-most zero line = omega arith
+space-most (suc k) [] = omega arith
+space-most (suc k) (b ∷ bs) =
+    by_cases (eqb b space)
+    (λ t. omega (arith, space-here b bs t, space-here b (take k bs) t))
+    (λ t. omega (arith, space-later b bs t, space-later b (take k bs) t, space-most k bs))
+
+module _ (line : List ℕ) (most k n : ℕ) (q : k ≡ min (length line) (most + 1)) (d : EndsFirst (take k line) n) where
+  pub first-within : n ≤ most → EndsFirst line n
+  first-within h =
+      by_cases (leb (length line) k)
+      (λ t. subst (λ (w : List ℕ). EndsFirst w n) (take_all k line (leb-true _ _ t)) d)
+      (λ t. let u = ends-unique (take k line) n d in
+      subst (EndsFirst line) (space-within k line (omega (arith, u, q, leb-false _ _ t)) ∙ sym u) (ends-first line))
+
+  pub first-beyond : most < n → most < length (fields line).first
+  first-beyond h = omega (arith, first-length line, ends-unique (take k line) n d, space-most k line)
 
 -- ---- exactly one number
 

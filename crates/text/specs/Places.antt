@@ -18,6 +18,11 @@ FieldEnds line i = (i ≤ length line) × (field_at line i ≡ [])
 abbrev pub EndsFirst : List ℕ → ℕ → Type 0
 EndsFirst line i = FieldEnds line i × ((fields line).first ≡ take i line) × (rest_at line i ≡ (fields line).others)
 
+-- the same within so many bytes; or the first field has more
+abbrev pub EndsWithin : List ℕ → ℕ → Option ℕ → Type 0
+EndsWithin line most (Some n) = EndsFirst line n × (n ≤ most)
+EndsWithin line most None = most < length (fields line).first
+
 -- the numeral in the field behind a place, of at least so many digits
 abbrev pub ReadsNumeral : List ℕ → ℕ → ℕ → Number → Option Numeral → Type 0
 ReadsNumeral line i least said (Some y) =

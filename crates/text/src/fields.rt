@@ -2,7 +2,8 @@
 ghost use Rattle.std.specs.Prelude.{◌≡◌, ◌*◌, ◌≤◌, ◌==◌, length, position};
 ghost use Rattle.text.specs.Fields.{digit_of, numeral_first, first_number, only_number, hex_cells};
 ghost use Rattle.forms.specs.Compact.{same};
-ghost use Rattle.text.specs.Places.{rest_at, FieldEnds, EndsFirst, ReadsNumeral, ReadsCells};
+ghost use Rattle.text.specs.Places.{rest_at, FieldEnds, EndsFirst, EndsWithin, ReadsNumeral};
+ghost use Rattle.text.specs.Places.{ReadsCells};
 
 use super::{CELL_DIGITS, DECIMAL, FROM_LETTER, FROM_ZERO, HEXADECIMAL, NUMBER_DIGITS, Numeral};
 
@@ -32,6 +33,19 @@ pub fn first_end(line: &[u8]) -> usize
     first_space(line).unwrap_or(line.len())
 }
 
+// The same, if that is within so many bytes: a longer field is not gone through.
+fn end_within(line: &[u8], most: usize) -> Option<usize>
+    requires { most ≤ 8 }
+    ensures { EndsWithin line.now most result }
+{
+    let seen = &line[..line.len().min(most + 1)];
+    let n = first_end(seen);
+    if most < n {
+        return None;
+    }
+    Some(n)
+}
+
 // The numeral in the field behind a place that ends one. A value of at most 8 digits fits a cell.
 fn read_numeral(line: &[u8], at: usize, base: u32, least: usize, most: usize) -> Option<Numeral>
     requires { FieldEnds line.now at × (base ≤ 16) × (most ≤ 8) }
@@ -41,9 +55,9 @@ fn read_numeral(line: &[u8], at: usize, base: u32, least: usize, most: usize) ->
         return None;
     }
     let rest = &line[at + 1..];
-    let n = first_end(rest);
+    let n = end_within(rest, most)?;
     let digits = &rest[..n];
-    if n < least || most < n {
+    if n < least {
         return None;
     }
     let mut value = 0;
