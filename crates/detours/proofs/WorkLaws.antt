@@ -1,5 +1,5 @@
 -- The cells that a search works in: what is chosen, and what stands for the least total.
-use Prim.Native.Nat.{ℕ, zero, suc, ◌+◌, ◌≤◌, ◌<◌}
+use Prim.Native.Nat.{ℕ, zero, suc, ◌+◌, ◌-◌, ◌≤◌, ◌<◌}
 use mathlib.Core.Path.{◌≡◌, refl, sym, ap, ◌∙◌, subst}
 use mathlib.Core.Bool.{Bool, true, false, ◌||◌}
 use mathlib.Core.List.{List, [], ◌∷◌, ◌++◌, map}
@@ -13,7 +13,7 @@ use borrow.Author.Tests.{eq-eqb, ne_eqb, eqb-true, eqb-false, lt-ltb, le-ltb}
 use Rattle.basis.proofs.Cases.{by_cases}
 use Rattle.plain.specs.Requests.{none_found, found}
 use Rattle.plain.specs.Detours.{Option, diverts, total_of, numbers_in, better}
-use Rattle.detours.specs.Searching.{work_cells, best_from, numbers_from, diverters_from, no_total, cells_at, numbers_chosen, best_in, Chosen, Stays, among, Copied, Keeps}
+use Rattle.detours.specs.Searching.{work_cells, best_from, numbers_from, diverters_from, diverters_in, no_total, cells_at, numbers_chosen, best_in, Chosen, Stays, among, Copied, Keeps}
 
 -- ---- cells in a row
 
@@ -57,6 +57,20 @@ pub among-before : (d : ℕ) (work : List ℕ) (from n : ℕ) → (get_or work (
 among-before d work from n e =
     ap (among d) (cells-more work from n) ∙ among-more d (cells_at work from n) (get_or work (from + n) 0)
     ∙ ap (λ (b : Bool). among d (cells_at work from n) || b) (ne_eqb (get_or work (from + n) 0) d e) ∙ or-false (among d (cells_at work from n))
+
+-- looked for from the last cell down
+module _ (d : ℕ) (work : List ℕ) (n i : ℕ) (some : 0 < i) (e : among d (diverters_in work n) ≡ among d (diverters_in work i)) where
+  lower : suc (i - 1) ≡ i
+  lower = omega arith
+
+  pub among-found : get_or work (diverters_from + (i - 1)) 0 ≡ d → true ≡ among d (diverters_in work n)
+  among-found f = sym (e ∙ ap (λ (k : ℕ). among d (diverters_in work k)) (sym lower) ∙ among-here d work diverters_from (i - 1) f)
+
+  pub among-lower : (get_or work (diverters_from + (i - 1)) 0 ≡ d → ⊥) → among d (diverters_in work n) ≡ among d (diverters_in work (i - 1))
+  among-lower f = e ∙ ap (λ (k : ℕ). among d (diverters_in work k)) (sym lower) ∙ among-before d work diverters_from (i - 1) f
+
+pub among-ended : (d : ℕ) (work : List ℕ) (n i : ℕ) → i ≡ 0 → among d (diverters_in work n) ≡ among d (diverters_in work i) → false ≡ among d (diverters_in work n)
+among-ended d work n i z e = sym (e ∙ ap (λ (k : ℕ). among d (diverters_in work k)) z ∙ among_none d work diverters_from)
 
 -- the first n cells from a place on, as a part
 cells-part : (work : List ℕ) (from n : ℕ) → from + n ≤ length work → cells_at work from n ≡ take n (drop from work)

@@ -36,7 +36,13 @@ fn is_taken(work: &[u32; WORK_CELLS], goals: usize, diverter: u32) -> bool
     requires { (goals ≤ 6) × (length work.now ≡ work_cells) }
     ensures { result ≡ among diverter (diverters_in work.now goals) }
 {
-    work[DIVERTERS..DIVERTERS + goals].contains(&diverter)
+    // By hand: `contains` is a call for each choice tried, by which a search took 1.35 of the time.
+    for i in (0..goals).rev() {
+        if work[DIVERTERS + i] == diverter {
+            return true;
+        }
+    }
+    false
 }
 
 // The answers chosen for n goals become those of the least total.
