@@ -1,7 +1,7 @@
 // Why a call is refused, with the number that it is told by. The numbers stand here and in specs/Refusals.antt, and
 // nowhere else: crates name a refusal, and its number is asked for where an answer leaves the engine or is printed.
-ghost use Rattle.std.specs.Prelude.{◌≡◌};
-ghost use Rattle.basis.specs.Refusals.{number_of};
+ghost use Rattle.std.specs.Prelude.{◌≡◌, ◌≤◌, ℕ, ⊤};
+ghost use Rattle.basis.specs.Refusals.{number_of, number-small};
 
 #[derive(Clone, Copy, Debug, PartialEq, Eq)]
 pub enum Refusal {
@@ -58,5 +58,44 @@ impl From<Refusal> for u32 {
 
     fn from(refusal: Refusal) -> u32 {
         refusal as u32
+    }
+}
+
+// What a refusal is told by: a `Refusal`, or a number alone, such as 20 and 21, which no `Refusal` has.
+pub trait Numbered: Copy {
+    // The number.
+    ghost number: { Self → ℕ };
+
+    // Whether an answer may give it as a refusal.
+    ghost told: { Self → Type 0 };
+
+    fn number(self) -> u32
+        ensures { result ≡ number self };
+
+    // So it is small beside the cell that holds it.
+    ghost small: { (r : Self) → told r → number r ≤ 24 };
+}
+
+impl Numbered for Refusal {
+    ghost number = { number_of };
+
+    ghost told = { λ _. ⊤ };
+
+    ghost small = { λ r _. number-small r };
+
+    fn number(self) -> u32 {
+        u32::from(self)
+    }
+}
+
+impl Numbered for u32 {
+    ghost number = { λ r. r };
+
+    ghost told = { λ r. r ≤ 24 };
+
+    ghost small = { λ _ t. t };
+
+    fn number(self) -> u32 {
+        self
     }
 }

@@ -19,10 +19,10 @@ abbrev pub Loading : Type 0
 Loading = Option ℕ
 
 abbrev pub Answer : Type 0
-Answer = Result ℕ Unwritten
+Answer = Result ℕ (Unwritten Refusal)
 
 -- a refusal that is handed on
-abbrev pub Refuses : Refusal → Unwritten → Type 0
+abbrev pub Refuses : Refusal → Unwritten Refusal → Type 0
 Refuses refusal unwritten = unwritten ≡ Refused refusal
 
 -- so many tokens and variables

@@ -45,9 +45,10 @@ pub struct Form {
 }
 
 // Why a converter, load or an instance wrote no cells: a refusal; or, for refusal 12, the cells that out would need.
+// (Whoever puts answers into words may have a refusal by its number alone.)
 #[derive(Clone, Copy)]
-pub enum Unwritten {
-    Refused(Refusal),
+pub enum Unwritten<R = Refusal> {
+    Refused(R),
     Short(usize),
 }
 

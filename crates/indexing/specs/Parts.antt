@@ -20,9 +20,12 @@ use Rattle.store.specs.Building.{links_of, nodes_fit, BuildReply, built, refused
 abbrev pub BuildAnswer : Type 0
 BuildAnswer = Result ℕ Refusal
 
+abbrev pub said_build_by : {R : Type 0} → (R → ℕ) → Result ℕ R → BuildReply
+said_build_by number (Ok n) = built n
+said_build_by number (Err r) = refused (number r)
+
 abbrev pub said_build : BuildAnswer → BuildReply
-said_build (Ok n) = built n
-said_build (Err r) = refused (number_of r)
+said_build = said_build_by number_of
 
 -- the build b is answered by r, and leaves the index `after`
 abbrev pub BuildLeaves : Build → BuildAnswer → List ℕ → Type 0

@@ -3,6 +3,7 @@
 use Rattle.std.specs.Prelude.{ℕ, zero, suc, Bool, true, false, List, [], ◌∷◌, ◌++◌, map, ◌≡◌, length, drop, leb, ltb}
 use Rattle.std.specs.Prelude.{Option, Some, None, Result, Ok, Err}
 use Rattle.basis.specs.Choice.{pick}
+use Rattle.basis.specs.declared.refusals.Refusal.{Refusal}
 use Rattle.basis.specs.declared.refusals.Refusal.TheVariants as refusal
 use Rattle.forms.specs.declared.Unwritten.{Unwritten}
 use Rattle.forms.specs.declared.Unwritten.TheVariants.{Refused, Short}
@@ -108,7 +109,7 @@ listable e s symbols =
 
 -- what they answer: the cells written, or the end of the list; or why neither
 abbrev pub Listing : Type 0
-Listing = Result (Option ℕ) Unwritten
+Listing = Result (Option ℕ) (Unwritten Refusal)
 
 -- a term of s cells goes into an out of `room` cells, or is refused (12) with the need; the end needs no room
 unfoldable pub offered : Listed → ℕ → ℕ → Listing

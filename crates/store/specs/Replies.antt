@@ -29,35 +29,53 @@ abbrev pub said_state : declared-state.State → State
 said_state state.Open = Open
 said_state state.Finished = Finished
 
-abbrev pub said_call : CallAnswer → Reply
-said_call (call.New n) = new n
-said_call (call.Old n s) = old_subgoal n (said_state s)
-said_call (call.Refused r) = refused (number_of r)
+-- The refusal is of any type, each told by a number (`said_call_by` and the like); the calls give a `Refusal`
+-- (`said_call` and the like).
+
+abbrev pub said_call_by : {R : Type 0} → (R → ℕ) → CallAnswer R → Reply
+said_call_by number (call.New n) = new n
+said_call_by number (call.Old n s) = old_subgoal n (said_state s)
+said_call_by number (call.Refused r) = refused (number r)
+
+abbrev pub said_call : CallAnswer Refusal → Reply
+said_call = said_call_by number_of
 
 abbrev pub said_entry : Entry → Reply
 said_entry (entry.New n) = new n
 said_entry (entry.Old n) = old_answer n
 
+abbrev pub said_answer_by : {R : Type 0} → (R → ℕ) → Result Entry R → Reply
+said_answer_by number (Ok y) = said_entry y
+said_answer_by number (Err r) = refused (number r)
+
 abbrev pub said_answer : Result Entry Refusal → Reply
-said_answer (Ok y) = said_entry y
-said_answer (Err r) = refused (number_of r)
+said_answer = said_answer_by number_of
+
+abbrev pub said_finish_by : {R : Type 0} → (R → ℕ) → Result Unit R → Reply
+said_finish_by number (Ok y) = done
+said_finish_by number (Err r) = refused (number r)
 
 abbrev pub said_finish : Result Unit Refusal → Reply
-said_finish (Ok y) = done
-said_finish (Err r) = refused (number_of r)
+said_finish = said_finish_by number_of
 
 abbrev pub said_onward : Next → Reply
 said_onward (next.At n) = at n
 said_onward (next.Lacking s) = lacks_next (said_state s)
 
+abbrev pub said_next_by : {R : Type 0} → (R → ℕ) → Result Next R → Reply
+said_next_by number (Ok y) = said_onward y
+said_next_by number (Err r) = refused (number r)
+
 abbrev pub said_next : Result Next Refusal → Reply
-said_next (Ok y) = said_onward y
-said_next (Err r) = refused (number_of r)
+said_next = said_next_by number_of
 
 -- so many answers are new
+abbrev pub said_join_by : {R : Type 0} → (R → ℕ) → Result ℕ R → Reply
+said_join_by number (Ok n) = joined n
+said_join_by number (Err r) = refused (number r)
+
 abbrev pub said_join : Result ℕ Refusal → Reply
-said_join (Ok n) = joined n
-said_join (Err r) = refused (number_of r)
+said_join = said_join_by number_of
 
 -- why a term is old or new; the variables are the first of some cells
 abbrev pub said_because : declared-reason.Reason → List ℕ → Reply
@@ -68,9 +86,12 @@ abbrev pub said_reason : Result declared-reason.Reason Refusal → List ℕ → 
 said_reason (Ok y) vs = said_because y vs
 said_reason (Err r) vs = refused (number_of r)
 
+abbrev pub said_why_by : {R : Type 0} → (R → ℕ) → Result Why R → Reply
+said_why_by number (Ok y) = said_because y.reason y.variables
+said_why_by number (Err r) = refused (number r)
+
 abbrev pub said_why : Result Why Refusal → Reply
-said_why (Ok y) = said_because y.reason y.variables
-said_why (Err r) = refused (number_of r)
+said_why = said_why_by number_of
 
 -- these cells have as many variables as the reason says, and no more than a term may have
 abbrev pub NamesIn : List ℕ → declared-reason.Reason → Type 0
@@ -82,18 +103,27 @@ NamedIn vs (Ok y) = NamesIn vs y
 NamedIn vs (Err r) = Unit {0}
 
 -- the variables that why answers with are in cells for as many as a term may have
+abbrev pub WhyNamesHeld : {R : Type 0} → Result Why R → Type 0
+WhyNamesHeld (Ok y) = (length y.variables ≡ 32) × NamesIn y.variables y.reason
+WhyNamesHeld (Err r) = Unit {0}
+
 abbrev pub NamesHeld : Result Why Refusal → Type 0
-NamesHeld (Ok y) = (length y.variables ≡ 32) × NamesIn y.variables y.reason
-NamesHeld (Err r) = Unit {0}
+NamesHeld = WhyNamesHeld
 
 -- load and instance answer as the converters do
-abbrev pub said_unwritten : Unwritten → Reply
-said_unwritten (unwritten.Refused r) = refused (number_of r)
-said_unwritten (unwritten.Short n) = short n
+abbrev pub said_unwritten_by : {R : Type 0} → (R → ℕ) → Unwritten R → Reply
+said_unwritten_by number (unwritten.Refused r) = refused (number r)
+said_unwritten_by number (unwritten.Short n) = short n
+
+abbrev pub said_unwritten : Unwritten Refusal → Reply
+said_unwritten = said_unwritten_by number_of
+
+abbrev pub said_cells_by : {R : Type 0} → (R → ℕ) → Result ℕ (Unwritten R) → Reply
+said_cells_by number (Ok n) = cells n
+said_cells_by number (Err e) = said_unwritten_by number e
 
 abbrev pub said_cells : Answer → Reply
-said_cells (Ok n) = cells n
-said_cells (Err e) = said_unwritten e
+said_cells = said_cells_by number_of
 
 abbrev pub said_counts : Result Counts Refusal → Reply
 said_counts (Ok y) = used (record { nodes = y.nodes; subgoals = y.subgoals; answers = y.answers })
@@ -105,6 +135,9 @@ said_outcome (outcome.Found total tried ended) ns =
     detoured (record { best = found total ns; tried = tried; ended = ended })
 said_outcome (outcome.Nothing tried ended) ns = detoured (record { best = none_found; tried = tried; ended = ended })
 
+abbrev pub said_detours_by : {R : Type 0} → (R → ℕ) → Result Detour R → Reply
+said_detours_by number (Ok y) = said_outcome y.outcome (take y.count y.numbers)
+said_detours_by number (Err r) = refused (number r)
+
 abbrev pub said_detours : Result Detour Refusal → Reply
-said_detours (Ok y) = said_outcome y.outcome (take y.count y.numbers)
-said_detours (Err r) = refused (number_of r)
+said_detours = said_detours_by number_of

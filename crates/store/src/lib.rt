@@ -14,12 +14,12 @@ pub enum State {
 }
 
 // What call answers: a new subgoal's number, or an old one's with its state. The refusal is a case beside these, as the
-// paper's list of forms asks for (document 01).
+// paper's list of forms asks for (document 01). (Whoever puts answers into words may have it by its number alone.)
 #[derive(Clone, Copy)]
-pub enum CallAnswer {
+pub enum CallAnswer<R = Refusal> {
     New(u32),
     Old(u32, State),
-    Refused(Refusal),
+    Refused(R),
 }
 
 // What answer finds or makes: a new answer, or an old one, by number.

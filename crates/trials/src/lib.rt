@@ -1,22 +1,27 @@
 // The converters tried on given cells, and what they answer printed on standard output.
 #![tactic(auto)]
 
+use basis::refusals::Numbered;
 use forms::Unwritten;
+use std::convert::AsSlice;
 use std::io;
 
 // Prints an answer by its count alone.
-fn print_count(rt: &impl Print, answer: Result<usize, Unwritten>) -> io::Result<()> {
+fn print_count<R: Numbered>(
+    rt: &impl Print,
+    answer: Result<usize, Unwritten<R>>,
+) -> io::Result<()> {
     match answer {
         Ok(n) => println!(rt; "cells {n}"),
-        Err(Unwritten::Refused(refusal)) => println!(rt; "refused {}", u32::from(refusal)),
+        Err(Unwritten::Refused(refusal)) => println!(rt; "refused {}", refusal.number()),
         Err(Unwritten::Short(n)) => println!(rt; "refused 12, needs {n}"),
     }
 }
 
-// Prints an answer, with the cells that were written, in hexadecimal.
-pub fn print_answer(
+// Prints an answer, with the cells that were written, in hexadecimal. Its refusal may be a number alone.
+pub fn print_answer<R: Numbered>(
     rt: &impl Print,
-    answer: Result<usize, Unwritten>,
+    answer: Result<usize, Unwritten<R>>,
     out: &[u32],
 ) -> io::Result<()> {
     let Ok(n) = answer else {
@@ -29,11 +34,19 @@ pub fn print_answer(
     println!(rt; "")
 }
 
-// Compacts the m terms in s, and expands the form that was written.
-pub fn both(rt: &impl Print, name: &str, s: &[u32], m: usize, edition: u32) -> io::Result<()> {
+// Compacts the m terms in s, and expands the form that was written. Here and below the name is text or bytes, which are
+// printed as they are.
+pub fn both(
+    rt: &impl Print,
+    name: impl AsSlice<u8> + Drop,
+    s: &[u32],
+    m: usize,
+    edition: u32,
+) -> io::Result<()> {
     let mut form = [0u32; 383];
     let compacted = convert::compact(s, m, &mut form, edition);
-    print!(rt; "{name}\n  compact ")?;
+    rt.write_all(name.as_slice())?;
+    print!(rt; "\n  compact ")?;
     print_answer(rt, compacted, &form)?;
     let Ok(n) = compacted else {
         return Ok(());
@@ -48,29 +61,43 @@ pub fn both(rt: &impl Print, name: &str, s: &[u32], m: usize, edition: u32) -> i
 }
 
 // Expands s.
-pub fn back(rt: &impl Print, name: &str, s: &[u32], m: usize, edition: u32) -> io::Result<()> {
+pub fn back(
+    rt: &impl Print,
+    name: impl AsSlice<u8> + Drop,
+    s: &[u32],
+    m: usize,
+    edition: u32,
+) -> io::Result<()> {
     let mut cells = [0u32; 256];
     let expanded = convert::expand(s, m, &mut cells, edition);
-    print!(rt; "{name}\n  expand  ")?;
+    rt.write_all(name.as_slice())?;
+    print!(rt; "\n  expand  ")?;
     print_answer(rt, expanded, &cells)
 }
 
 // Compacts s as one term into an out of 383 cells, and prints the count.
-pub fn count_compact(rt: &impl Print, name: &str, s: &[u32], edition: u32) -> io::Result<()> {
+pub fn count_compact(
+    rt: &impl Print,
+    name: impl AsSlice<u8> + Drop,
+    s: &[u32],
+    edition: u32,
+) -> io::Result<()> {
     let mut form = [0u32; 383];
-    print!(rt; "{name}\n  compact ")?;
+    rt.write_all(name.as_slice())?;
+    print!(rt; "\n  compact ")?;
     print_count(rt, convert::compact(s, 1, &mut form, edition))
 }
 
 // Expands s as the form of m terms into an out of 256 cells, and prints the count.
 pub fn count_expand(
     rt: &impl Print,
-    name: &str,
+    name: impl AsSlice<u8> + Drop,
     s: &[u32],
     m: usize,
     edition: u32,
 ) -> io::Result<()> {
     let mut cells = [0u32; 256];
-    print!(rt; "{name}\n  expand  ")?;
+    rt.write_all(name.as_slice())?;
+    print!(rt; "\n  expand  ")?;
     print_count(rt, convert::expand(s, m, &mut cells, edition))
 }

@@ -20,7 +20,7 @@ tested-bounded : (b : Bool) (x : Listing) (r : Refusal) → (b ≡ true → List
 tested-bounded true x r f = f refl
 tested-bounded false x r f = tt
 
-fitted-bounded : (b : Bool) (s : ℕ) → s ≤ 8 → ListingBounded (pick b (Ok (Some s)) (Err (Short s)))
+fitted-bounded : (b : Bool) (s : ℕ) → s ≤ 8 → ListingBounded {R = Refusal} (pick b (Ok (Some s)) (Err (Short s)))
 fitted-bounded true s h = omega arith
 fitted-bounded false s h = omega arith
 

@@ -4,43 +4,14 @@ use mathlib.Core.List.{List, ◌∷◌}
 use mathlib.Core.Path.{◌≡◌, refl, sym, ap, ◌∙◌}
 use lib.ListN.{length, drop}
 use borrow.Author.Tests.{le-leb, lt-leb}
-use native.Mathlib.Omega.{arith}
-use Rattle.basis.specs.Refusals.{number_of}
-use Rattle.basis.specs.declared.refusals.Refusal.{Refusal}
-use Rattle.basis.specs.declared.refusals.Refusal.TheVariants as refusal
 use Rattle.std.specs.Prelude.{Ok, Err}
 use Rattle.forms.specs.Converting.{Answer}
 use Rattle.forms.specs.declared.Unwritten.TheVariants as unwritten
 use Rattle.plain.specs.Requests.{Counts, Reply, used, refused, short}
 use Rattle.store.specs.Replies.{said_cells}
 use Rattle.words.specs.Words.{word, counting, counts_reply, counts_out}
-use Rattle.words.specs.Bounded.{Bounded, CellsBounded}
-
--- ---- a refusal's number
-
-pub number-small : (r : Refusal) → number_of r ≤ 24
-number-small refusal.Header = omega arith
-number-small refusal.Fresh = omega arith
-number-small refusal.Term = omega arith
-number-small refusal.Length = omega arith
-number-small refusal.Variables = omega arith
-number-small refusal.Predicate = omega arith
-number-small refusal.Number = omega arith
-number-small refusal.State = omega arith
-number-small refusal.Records = omega arith
-number-small refusal.Nodes = omega arith
-number-small refusal.RecordsLeft = omega arith
-number-small refusal.Out = omega arith
-number-small refusal.Form = omega arith
-number-small refusal.SourceOpen = omega arith
-number-small refusal.SourceVariable = omega arith
-number-small refusal.Names = omega arith
-number-small refusal.Slots = omega arith
-number-small refusal.Functor = omega arith
-number-small refusal.Capacity = omega arith
-number-small refusal.Goals = omega arith
-number-small refusal.Listing = omega arith
-number-small refusal.Listed = omega arith
+use Rattle.words.specs.Bounded.{Bounded}
+use Rattle.words.specs.Told.{CellsBounded}
 
 -- ---- an answer and the variant that it is
 

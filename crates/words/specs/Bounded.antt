@@ -1,7 +1,5 @@
 -- Answers that a result word holds: their refusal's number and their count of cells are small. Every call gives such.
-use Rattle.std.specs.Prelude.{◌^◌, ◌≤◌, ◌<◌, Ok, Err}
-use Rattle.forms.specs.Converting.{Answer}
-use Rattle.forms.specs.declared.Unwritten.TheVariants as unwritten
+use Rattle.std.specs.Prelude.{◌^◌, ◌≤◌, ◌<◌}
 use Rattle.plain.specs.Requests.{Reply, new, old_subgoal, old_answer, done, at, none_yet, no_more, cells, used, joined}
 use Rattle.plain.specs.Requests.{because, detoured, refused, short}
 use Rattle.store.specs.Building.{BuildReply}
@@ -23,12 +21,6 @@ Bounded (used c) = Unit {0}
 Bounded (joined n) = Unit {0}
 Bounded (because y) = Unit {0}
 Bounded (detoured y) = Unit {0}
-
--- Answers of load and instance that it holds: their count of cells is small. A `Refusal` is small by its type.
-abbrev pub CellsBounded : Answer → Type 0
-CellsBounded (Ok n) = n < 2 ^ 32
-CellsBounded (Err (unwritten.Short n)) = n < 2 ^ 32
-CellsBounded (Err (unwritten.Refused r)) = Unit {0}
 
 -- Faults that it holds: every record's number is small.
 abbrev pub FaultBounded : Fault → Type 0

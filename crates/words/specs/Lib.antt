@@ -2,6 +2,7 @@ pub mod Words
 pub mod Why
 pub mod Detours
 pub mod Bounded
+pub mod Told
 pub mod Exports
 pub mod Listings
 pub mod ListingExamples

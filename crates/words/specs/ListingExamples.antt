@@ -9,7 +9,7 @@ use Rattle.listing.specs.Listing.{variable_cells, alphabet, cells_before, string
 use Rattle.listing.specs.Listing.{listing, first_in, next_in, holds, first_term, term_after, legal_shape, is_symbol}
 use Rattle.listing.specs.Listing.{contains, are_symbols, listable, offered, first_answer, after_answer, listed_cells}
 use Rattle.listing.specs.Listing.{listing_out}
-use Rattle.words.specs.Listings.{word_listing, ReturnsFirstTerm, ReturnsTermAfter}
+use Rattle.words.specs.Listings.{word_listing_by, ReturnsFirstTerm, ReturnsTermAfter}
 
 -- f/2 of edition 1, and a
 abbrev f : ℕ
@@ -38,10 +38,10 @@ pub first-terms :
     × ReturnsFirstTerm symbols 9 [] 1 (279 * 2 ^ 32) []
     × ReturnsFirstTerm symbols 3 [] 3 (279 * 2 ^ 32) []
     × ReturnsFirstTerm (a ∷ a ∷ []) 1 (9 ∷ []) 1 (279 * 2 ^ 32) (9 ∷ [])
-unfolding word_listing listing alphabet variable_cells strings cells_before filtered call_term begins callable first_in
-    next_in holds first_term term_after legal_shape is_symbol contains are_symbols listable offered first_answer
-    after_answer listed_cells listing_out converter_edition are_terms reads begun applied paired every pairs shape_of
-    arity_of numbered renamed met seen rank same
+unfolding word_listing_by listing alphabet variable_cells strings cells_before filtered call_term begins callable
+    first_in next_in holds first_term term_after legal_shape is_symbol contains are_symbols listable offered
+    first_answer after_answer listed_cells listing_out converter_edition are_terms reads begun applied paired every
+    pairs shape_of arity_of numbered renamed met seen rank same
 first-terms =
     ((refl, refl), (refl, refl), (refl, refl), (refl, refl), (refl, refl), (refl, refl), (refl, refl))
 
@@ -54,8 +54,8 @@ pub terms-after :
     × ReturnsTermAfter symbols 3 (f ∷ Y ∷ X ∷ []) (9 ∷ []) 1 (280 * 2 ^ 32) (9 ∷ [])
     × ReturnsTermAfter symbols 3 (a ∷ []) [] 1 (280 * 2 ^ 32) []
     × ReturnsTermAfter (X ∷ []) 3 (a ∷ []) [] 1 (279 * 2 ^ 32) []
-unfolding word_listing listing alphabet variable_cells strings cells_before filtered call_term begins callable first_in
-    next_in holds first_term term_after legal_shape is_symbol contains are_symbols listable offered first_answer
-    after_answer listed_cells listing_out converter_edition are_terms reads begun applied paired every pairs shape_of
-    arity_of numbered renamed met seen rank same
+unfolding word_listing_by listing alphabet variable_cells strings cells_before filtered call_term begins callable
+    first_in next_in holds first_term term_after legal_shape is_symbol contains are_symbols listable offered
+    first_answer after_answer listed_cells listing_out converter_edition are_terms reads begun applied paired every
+    pairs shape_of arity_of numbered renamed met seen rank same
 terms-after = ((refl, refl), (refl, refl), (refl, refl), (refl, refl), (refl, refl), (refl, refl))

@@ -1,12 +1,13 @@
 // The result word of a search for detours, and what it leaves in out.
 ghost use Rattle.std.specs.Prelude.{◌∷◌, ◌≡◌, ◌≤◌, min, length, take, drop};
 ghost use Rattle.basis.specs.Choice.{pick};
-ghost use Rattle.store.specs.Replies.{said_outcome, said_detours};
+ghost use Rattle.store.specs.Replies.{said_outcome, said_detours_by};
 ghost use Rattle.words.specs.Detours.{NumbersStand, SaysDetours};
+ghost use Rattle.words.specs.Told.{ErrTold};
 
 use super::{refusal_with, refusal_word, result_word};
 use basis::limits::MOST_GOALS;
-use basis::refusals::Refusal;
+use basis::refusals::{Numbered, Refusal};
 use convert::copy;
 use store::{Detour, Outcome};
 
@@ -57,8 +58,9 @@ fn give_detour(detour: &Detour, out: &mut [u32]) -> u64
 }
 
 // The word of what detours answers; out is judged after all else.
-pub fn detours_result(answer: Result<Detour, Refusal>, out: &mut [u32]) -> u64
-    ensures { SaysDetours (said_detours answer) result out.old out.new }
+pub fn detours_result<R: Numbered>(answer: Result<Detour, R>, out: &mut [u32]) -> u64
+    requires { ErrTold R.told answer }
+    ensures { SaysDetours (said_detours_by R.number answer) result out.old out.new }
 {
     match answer {
         Ok(detour) => give_detour(&detour, out),

@@ -8,14 +8,15 @@ pub mod reasons;
 ghost use Rattle.std.specs.Prelude.{◌≡◌, ◌+◌, ◌^◌, ◌<◌, ◌≤◌};
 ghost use Rattle.basis.specs.Refusals.{number_of};
 ghost use Rattle.plain.specs.Requests as request;
-ghost use Rattle.store.specs.Replies.{said_state, said_call, said_answer, said_finish, said_next};
-ghost use Rattle.store.specs.Replies.{said_join, said_cells};
+ghost use Rattle.store.specs.Replies.{said_state, said_call_by, said_answer_by, said_finish_by, said_next_by};
+ghost use Rattle.store.specs.Replies.{said_join_by, said_cells_by};
 ghost use Rattle.integrity.specs.Tests.{said_check};
-ghost use Rattle.indexing.specs.Parts.{said_build};
+ghost use Rattle.indexing.specs.Parts.{said_build_by};
 ghost use Rattle.words.specs.Words.{worded, word, broken_record, word_check, word_build};
-ghost use Rattle.words.specs.Bounded.{CellsBounded, FaultBounded};
+ghost use Rattle.words.specs.Bounded.{FaultBounded};
+ghost use Rattle.words.specs.Told.{ErrTold, CallTold, UnwrittenTold, CellsBounded};
 
-use basis::refusals::Refusal;
+use basis::refusals::{Numbered, Refusal};
 use forms::Unwritten;
 use integrity::Broken;
 use store::{CallAnswer, Entry, Next, State};
@@ -79,16 +80,18 @@ pub fn refusal_with(r: Refusal, value: u32) -> u64
     result_word(REFUSED + u32::from(r), value)
 }
 
-// The word of a refusal without one.
-pub fn refusal_word(r: Refusal) -> u64
-    ensures { result ≡ word (request.refused (number_of r)) }
+// The word of a refusal without one. Here and below a refusal may also be given by its number alone.
+pub fn refusal_word<R: Numbered>(r: R) -> u64
+    requires { R.told r }
+    ensures { result ≡ word (request.refused (R.number r)) }
 {
-    refusal_with(r, 0)
+    result_word(REFUSED + r.number(), 0)
 }
 
 // For fresh, a copy, a growth and finish: done, whether or not a subgoal was finished before; or refused.
-pub fn done_word(answer: Result<(), Refusal>) -> u64
-    ensures { result ≡ word (said_finish answer) }
+pub fn done_word<R: Numbered>(answer: Result<(), R>) -> u64
+    requires { ErrTold R.told answer }
+    ensures { result ≡ word (said_finish_by R.number answer) }
 {
     if let Err(r) = answer {
         return refusal_word(r);
@@ -107,8 +110,9 @@ fn old_word(n: u32, state: State) -> u64
 }
 
 // The number is that of a subgoal.
-pub fn call_word(answer: CallAnswer) -> u64
-    ensures { result ≡ word (said_call answer) }
+pub fn call_word<R: Numbered>(answer: CallAnswer<R>) -> u64
+    requires { CallTold R.told answer }
+    ensures { result ≡ word (said_call_by R.number answer) }
 {
     match answer {
         CallAnswer::New(n) => result_word(NEW, n),
@@ -118,8 +122,9 @@ pub fn call_word(answer: CallAnswer) -> u64
 }
 
 // The number is that of an answer; an old one has no state.
-pub fn answer_word(answer: Result<Entry, Refusal>) -> u64
-    ensures { result ≡ word (said_answer answer) }
+pub fn answer_word<R: Numbered>(answer: Result<Entry, R>) -> u64
+    requires { ErrTold R.told answer }
+    ensures { result ≡ word (said_answer_by R.number answer) }
 {
     match answer {
         Ok(Entry::New(n)) => result_word(NEW, n),
@@ -139,8 +144,9 @@ fn lacking_word(state: State) -> u64
 }
 
 // The number is that of an answer, and never 0.
-pub fn next_word(answer: Result<Next, Refusal>) -> u64
-    ensures { result ≡ word (said_next answer) }
+pub fn next_word<R: Numbered>(answer: Result<Next, R>) -> u64
+    requires { ErrTold R.told answer }
+    ensures { result ≡ word (said_next_by R.number answer) }
 {
     match answer {
         Ok(Next::At(n)) => result_word(AT, n),
@@ -150,8 +156,9 @@ pub fn next_word(answer: Result<Next, Refusal>) -> u64
 }
 
 // The value is a count, and 0 where nothing is new.
-pub fn join_word(answer: Result<u32, Refusal>) -> u64
-    ensures { result ≡ word (said_join answer) }
+pub fn join_word<R: Numbered>(answer: Result<u32, R>) -> u64
+    requires { ErrTold R.told answer }
+    ensures { result ≡ word (said_join_by R.number answer) }
 {
     match answer {
         Ok(n) => result_word(JOINED, n),
@@ -160,9 +167,10 @@ pub fn join_word(answer: Result<u32, Refusal>) -> u64
 }
 
 // For load and instance: the cells written, or with 12 the cells needed. Neither count passes 256 * 257.
-pub fn cells_word(answer: Result<usize, Unwritten>) -> u64
-    requires { CellsBounded answer }
-    ensures { result ≡ word (said_cells answer) }
+pub fn cells_word<R: Numbered>(answer: Result<usize, Unwritten<R>>) -> u64
+    requires told { UnwrittenTold R.told answer }
+    requires few { CellsBounded answer }
+    ensures { result ≡ word (said_cells_by R.number answer) }
 {
     match answer {
         Ok(n) => result_word(CELLS, n as u32),
@@ -194,8 +202,9 @@ pub fn check_word(answer: Result<(), Broken>) -> u64
 }
 
 // The value is the number of children entered.
-pub fn build_word(answer: Result<u32, Refusal>) -> u64
-    ensures { result ≡ word_build (said_build answer) }
+pub fn build_word<R: Numbered>(answer: Result<u32, R>) -> u64
+    requires { ErrTold R.told answer }
+    ensures { result ≡ word_build (said_build_by R.number answer) }
 {
     match answer {
         Ok(n) => result_word(BUILT, n),

@@ -1,11 +1,12 @@
 // The result word of what why answers, and its cells in out.
 ghost use Rattle.std.specs.Prelude.{◌≤◌, length};
-ghost use Rattle.store.specs.Replies.{said_because, said_why, NamesIn, NamesHeld};
+ghost use Rattle.store.specs.Replies.{said_because, said_why_by, NamesIn, WhyNamesHeld};
+ghost use Rattle.words.specs.Told.{ErrTold};
 ghost use Rattle.words.specs.Why.{why_room, GivesVariables, GivesReason};
 
 use super::{refusal_with, refusal_word, result_word};
 use basis::limits::MOST_VARIABLES;
-use basis::refusals::Refusal;
+use basis::refusals::{Numbered, Refusal};
 use convert::copy;
 use store::{Reason, Why};
 
@@ -48,9 +49,10 @@ fn give_because(why: &Why, out: &mut [u32]) -> u64
 }
 
 // The word of what why answers; out is judged after all else.
-pub fn give_reason(answer: Result<Why, Refusal>, out: &mut [u32]) -> u64
-    requires { NamesHeld answer }
-    ensures { GivesReason (said_why answer) out.old result out.new }
+pub fn give_reason<R: Numbered>(answer: Result<Why, R>, out: &mut [u32]) -> u64
+    requires told { ErrTold R.told answer }
+    requires held { WhyNamesHeld answer }
+    ensures { GivesReason (said_why_by R.number answer) out.old result out.new }
 {
     match answer {
         Ok(why) => give_because(&why, out),

@@ -3,6 +3,7 @@ use mathlib.Core.Path.{◌≡◌, sym, ap}
 use native.Mathlib.Omega.{arith}
 use lib.ListN.{take}
 use lib.Seq.{length-take-le}
+use Rattle.basis.specs.declared.refusals.Refusal.{Refusal}
 use Rattle.forms.specs.declared.Unwritten.{Unwritten}
 use Rattle.forms.specs.declared.Unwritten.TheVariants.{Refused, Short}
 use Rattle.store.specs.Replies.{said_cells}
@@ -29,12 +30,12 @@ pub returns-in-Err-Refused : goal.returns-in-Err-Refused
 unfolding reply_text
 returns-in-Err-Refused c =
     let g = c.in-Err-Refused in
-    let why : ◌≡◌ {A = Unwritten} g.field-0 (Refused g.r) = rw g.is at g.field-0-is in
+    let why : ◌≡◌ {A = Unwritten Refusal} g.field-0 (Refused g.r) = rw g.is at g.field-0-is in
     rw (g.is, why) c.print_refused.ensures
 
 pub returns-in-Err-Short : goal.returns-in-Err-Short
 unfolding reply_text
 returns-in-Err-Short c =
     let g = c.in-Err-Short in
-    let why : ◌≡◌ {A = Unwritten} g.field-0 (Short g.field-0-0) = rw g.is at g.field-0-is in
+    let why : ◌≡◌ {A = Unwritten Refusal} g.field-0 (Short g.field-0-0) = rw g.is at g.field-0-is in
     rw (g.is, why) c.print_refused-in-Err-Short.ensures

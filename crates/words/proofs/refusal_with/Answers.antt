@@ -1,6 +1,6 @@
 -- `refusal_with` meets its contract.
 use native.Mathlib.Omega.{arith}
-use Rattle.words.proofs.WordLaws.{number-small}
+use Rattle.basis.specs.Refusals.{number-small}
 use Rattle.words.proofs.refusal_with.Goals as goal
 
 pub overflow_add-from : goal.overflow_add-from

@@ -4,8 +4,8 @@ use Rattle.words.specs.Listings.{word_listing}
 use Rattle.words.proofs.ListingBounds.{first-bounded, listing-bounded, listing-left}
 use Rattle.engine.proofs.listings.tables_first_term.Goals as goal
 
-pub listing_word-requires : goal.listing_word-requires
-listing_word-requires c = listing-bounded (sym c.first_term.ensures.0) (first-bounded _ _ _ _)
+pub listing_word-requires-clause-few : goal.listing_word-requires-clause-few
+listing_word-requires-clause-few c = listing-bounded (sym c.first_term.ensures.0) (first-bounded _ _ _ _)
 
 pub returns : goal.returns
 returns c = (
