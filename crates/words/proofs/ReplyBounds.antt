@@ -42,7 +42,7 @@ use Rattle.store.specs.Decisions.{sound_answer_of, sound, known, state_of, sound
 use Rattle.store.specs.Decisions.{answered_at, answered_by, starting, handed, onward, on_path, loaded, instanced, sound_pair, Chain, broken, unbroken, chain_of, on_chains, side_in}
 use Rattle.store.specs.Decisions.{all_sound_by, nodes_needed_by, answers_needed_by, joining_by, Way, astray, leads, firsts_from, named_by, new_at, reasoned_at, reasoned_by, Goals}
 use Rattle.store.specs.Decisions.{unsound, goals, goals_in, detours_in, sound_target, decide_by}
-use Rattle.store.specs.Calls.{reply, under_by, under_any_by, space_step_by}
+use Rattle.store.specs.Calls.{reply, under_by, under_any_by, space_step_by, space_step}
 use Rattle.growing.specs.Growing.{enough, grow_under, grow_reply}
 use Rattle.words.specs.Words.{said_fresh}
 use Rattle.words.specs.Bounded.{Bounded}
@@ -372,6 +372,13 @@ any-bounded find s q (Err r) f = f
 pub step-bounded : (find : Finding) (s : List ℕ) (q : Request) → Bounded (space_step_by find s q).reply
 unfolding space_step_by
 step-bounded find s q = any-bounded find s q (space_header s) (any_small s)
+
+-- of the two calls whose words hold a count of cells, by the search among siblings
+pub load-bounded : (s : List ℕ) (a : ℕ) (out : List ℕ) → Bounded (space_step s (load a out)).reply
+load-bounded s a out = step-bounded search_children s (load a out)
+
+pub instance-bounded : (s : List ℕ) (a : ℕ) (out : List ℕ) → Bounded (space_step s (instance a out)).reply
+instance-bounded s a out = step-bounded search_children s (instance a out)
 
 pub fresh-bounded : (e n f a : ℕ) (s : List ℕ) → Bounded (said_fresh (fresh_answer_in e n f a s))
 unfolding fresh_answer_in fresh_answer
