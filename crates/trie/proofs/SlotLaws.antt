@@ -1,5 +1,6 @@
 -- A power of two has one binary digit that is set, and its remainder is a mask; how a number comes into a slot.
-use Rattle.std.proofs.Common.{◌≡◌, ℕ, zero, suc, ◌+◌, ◌-◌, ◌*◌, ◌/◌, ◌%◌, ◌^◌, ◌<◌, ◌≤◌, Bool, true, false, eqb, List, length, get_or, set, sym, refl, ap, ◌∙◌, mod-lt, mod-eq_of_lt, pow-suc, div-add-mod', arith, eqb-true, eq-eqb, ne_eqb}
+use Rattle.std.proofs.Common.{◌≡◌, ℕ, zero, suc, ◌+◌, ◌-◌, ◌*◌, ◌/◌, ◌%◌, ◌^◌, ◌<◌, ◌≤◌, Bool, true, false, eqb}
+use Rattle.std.proofs.Common.{List, length, get_or, set, sym, refl, ap, ◌∙◌, mod-lt, mod-eq_of_lt, pow-suc, div-add-mod', arith, eqb-true, eq-eqb, ne_eqb}
 use native.Mathlib.Nat.{mod_self}
 use lib.Bits.{bit_and, and_mask}
 use lib.Count.{ones, ones_step, ones_cat}

@@ -9,7 +9,8 @@ use lib.Seq.{length-take-le}
 use lib.ListN.{length, take}
 use Rattle.std.proofs.lemmas.List.{take_rest}
 use Rattle.text.specs.Places.{EndsFirst}
-use Rattle.text.proofs.FieldsLaws.{hex-room-seven, product-most, first-none, first-numeral, first-behind, first-longer, next-ends, numeral-bad, numeral-short, numeral-right, digit-next, digit-bad, digits_over, digit-small}
+use Rattle.text.proofs.FieldsLaws.{hex-room-seven, product-most, first-none, first-numeral, first-behind, first-longer, next-ends}
+use Rattle.text.proofs.FieldsLaws.{numeral-bad, numeral-short, numeral-right, digit-next, digit-bad, digits_over, digit-small}
 use Rattle.text.proofs.fields.read_numeral.Goals as goal
 
 digits-length : (rest : List ℕ) (n : ℕ) → EndsFirst rest n → length (take n rest) ≡ n
