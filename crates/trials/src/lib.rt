@@ -6,16 +6,25 @@ use forms::Unwritten;
 use std::convert::AsSlice;
 use std::io;
 
+// A word, then a number, each written by itself: a stream that takes only a part takes the word.
+fn print_number(rt: &impl Print, word: &str, n: usize) -> io::Result<()> {
+    print!(rt; "{word}")?;
+    print!(rt; "{n}")
+}
+
 // Prints an answer by its count alone.
 fn print_count<R: Numbered>(
     rt: &impl Print,
     answer: Result<usize, Unwritten<R>>,
 ) -> io::Result<()> {
     match answer {
-        Ok(n) => println!(rt; "cells {n}"),
-        Err(Unwritten::Refused(refusal)) => println!(rt; "refused {}", refusal.number()),
-        Err(Unwritten::Short(n)) => println!(rt; "refused 12, needs {n}"),
+        Ok(n) => print_number(rt, "cells ", n)?,
+        Err(Unwritten::Refused(refusal)) => {
+            print_number(rt, "refused ", refusal.number() as usize)?
+        }
+        Err(Unwritten::Short(n)) => print_number(rt, "refused 12, needs ", n)?,
     }
+    println!(rt; "")
 }
 
 // Prints an answer, with the cells that were written, in hexadecimal. Its refusal may be a number alone.
